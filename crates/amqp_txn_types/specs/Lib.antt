@@ -1,0 +1,4 @@
+pub mod Padded
+pub mod Frames
+pub mod Works
+pub mod Symbols

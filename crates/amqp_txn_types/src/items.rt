@@ -1,0 +1,173 @@
+//! Lists that a contract sees as lists, copies that may want memory, and want of memory itself.
+
+ghost use Rattle.std.specs.Prelude.{◌≡◌, ◌↔◌, List, [], ◌∷◌, ◌++◌, length, slice_get, option_copied, IsTrue, OnOk, IfOk, IfErr};
+ghost use Rattle.std.specs.Cmp.Lexicographic.{pointwise, lists_per};
+
+use std::alloc::{AllocError, Global};
+use std::marker::Model;
+use thiserror::Error as ThisError;
+
+/// Want of memory: an allocation failed. What was to grow is as it was before.
+#[derive(Clone, Copy, Debug, PartialEq, Eq, ThisError)]
+#[error("out of memory")]
+pub struct NoMemory;
+
+impl From<AllocError> for NoMemory {
+    fn from(_error: AllocError) -> Self {
+        NoMemory
+    }
+}
+
+/// A copy that may fail for want of memory alone, and that equals its original.
+///
+/// It stands in place of `Clone` on every type that holds a list. A copy grows on the allocator
+/// of its original.
+pub trait TryClone {
+    /// A copy, equal to the original. The only error is want of memory.
+    fn try_clone(&self) -> Result<Self, NoMemory>
+        ensures copy { IfOk result (λ copy. copy ≡ self.now) };
+}
+
+/// A list that grows at its end, and that a contract sees as the list of its items.
+///
+/// The lists of this crate and of those above it are this one at a type of items: [`Binary`],
+/// `Symbols`, `Frames`, `LinkFlows`. It keeps the allocator that it was made with.
+#[derive(Debug, Drop)]
+pub struct Items<T> {
+    /// The items as a vector: open to callers that make room first and push later.
+    pub items: Vec<T>,
+}
+
+impl<T> Model for Items<T> {
+    ghost Value = { List T };
+
+    ghost view = { λ s. s.items.items };
+}
+
+impl<T> Items<T> {
+    /// The empty list. It takes no memory; later growth takes it from `alloc`.
+    pub fn new(alloc: Global) -> Self
+        ensures { result ≡ [] }
+    {
+        Items {
+            items: Vec::new(alloc),
+        }
+    }
+
+    /// The list of a vector's items, on the vector's allocator. It takes no memory.
+    pub fn from_vec(items: Vec<T>) -> Self
+        ensures { result ≡ items.items }
+    {
+        Items { items }
+    }
+
+    /// How many items the list has.
+    pub fn len(&self) -> usize
+        ensures { result ≡ length self.now }
+    {
+        self.items.len()
+    }
+
+    /// Whether the list has no items.
+    pub fn is_empty(&self) -> bool
+        ensures { IsTrue result ↔ (self.now ≡ []) }
+    {
+        self.items.is_empty()
+    }
+
+    /// The item at `index`, counted from 0; `None` from the length on.
+    pub fn get(&self, index: usize) -> Option<&T>
+        ensures { option_copied result ≡ slice_get self.now index }
+    {
+        self.items.get(index)
+    }
+
+    /// The items, in order.
+    pub fn as_slice(&self) -> &[T]
+        ensures { result.now ≡ self.now }
+    {
+        self.items.as_slice()
+    }
+
+    /// The items, to be moved out one by one.
+    pub fn into_vec(self) -> Vec<T>
+        ensures { result.items ≡ self }
+    {
+        self.items
+    }
+
+    /// Appends the item. For want of memory the item comes back, and the list is as it was.
+    pub fn push(&mut self, item: T) -> Result<(), (T, NoMemory)>
+        ensures ok { OnOk result (self.new ≡ self.old ++ item ∷ []) }
+        ensures err { IfErr result (λ refused. (refused.0 ≡ item) × (self.new ≡ self.old)) }
+    {
+        match self.items.push(item) {
+            Ok(()) => Ok(()),
+            Err(failed) => Err((failed.value, NoMemory)),
+        }
+    }
+}
+
+impl<T: TryClone + Drop> TryClone for Items<T> {
+    fn try_clone(&self) -> Result<Self, NoMemory> {
+        let mut copy = Items::new(*self.items.allocator());
+        for item in self.as_slice() {
+            match copy.push(item.try_clone()?) {
+                Ok(()) => {}
+                Err((_, error)) => return Err(error),
+            }
+        }
+        Ok(copy)
+    }
+}
+
+impl<T: PartialEq> PartialEq for Items<T> {
+    ghost eq = { pointwise T.eq };
+
+    ghost laws = { lists_per T.laws };
+
+    fn eq(&self, other: &Self) -> bool {
+        self.as_slice() == other.as_slice()
+    }
+}
+
+/// A string of octets. Part 1 of the standard, section 1.6.19 (binary).
+pub type Binary = Items<u8>;
+
+impl Items<u8> {
+    /// A copy of the octets. The only error is want of memory.
+    pub fn from_slice(alloc: Global, octets: &[u8]) -> Result<Self, NoMemory>
+        ensures { IfOk result (λ list. list ≡ octets.now) }
+    {
+        Ok(Items {
+            items: Vec::from_slice(alloc, octets)?,
+        })
+    }
+}
+
+impl<T: TryClone> TryClone for Option<T> {
+    fn try_clone(&self) -> Result<Self, NoMemory> {
+        match self {
+            None => Ok(None),
+            Some(item) => Ok(Some(item.try_clone()?)),
+        }
+    }
+}
+
+impl<A: TryClone + Drop, B: TryClone> TryClone for (A, B) {
+    fn try_clone(&self) -> Result<Self, NoMemory> {
+        Ok((self.0.try_clone()?, self.1.try_clone()?))
+    }
+}
+
+impl TryClone for u8 {
+    fn try_clone(&self) -> Result<Self, NoMemory> {
+        Ok(*self)
+    }
+}
+
+impl TryClone for u64 {
+    fn try_clone(&self) -> Result<Self, NoMemory> {
+        Ok(*self)
+    }
+}

@@ -1,0 +1,64 @@
+//! The types of AMQP 1.0 that transactions need, and what a transaction does to its frames.
+//!
+//! Names and meanings are those of the standard, OASIS AMQP 1.0: primitive types (part 1),
+//! performatives (part 2, section 2.7), delivery states (part 3, section 3.4), coordination (part
+//! 4). Octets and text stand in list types that a contract sees as lists; whatever may want memory
+//! says so by [`NoMemory`], and copies are made by [`TryClone`].
+//!
+//! A resource keeps the frames of a transaction, and hands each on stripped of its transaction:
+//!
+//! ```
+//! let txn_id = TransactionId::new(b"\x01")?;
+//! let accepted = TransactionalState { txn_id, outcome: Some(Outcome::Accepted) };
+//! let retirement = Disposition {
+//!     role: Role::Receiver,
+//!     first: 7,
+//!     last: None,
+//!     settled: false,
+//!     state: Some(DeliveryState::TransactionalState(accepted)),
+//!     batchable: false,
+//! };
+//! let work = TxnWorkFrame::Retire(retirement);
+//! assert_eq!(rt; txn_of(&frame_of(work.try_clone()?)), Some(txn_id));
+//! let handed = strip(work); // a disposition that is settled and Accepted
+//! ```
+//!
+//! It stands on no other crate of this repository; payloads are over `bytes`, and fields over
+//! `indexmap`. It carries the promise on small types: strip, the frame of a work, the transaction
+//! of a frame and the coordinator attach are exactly their definitions in `specs/`, an id has at
+//! most 32 octets, and a copy equals its original.
+#![tactic(auto)]
+
+mod capability;
+mod delivery;
+mod fields;
+mod frames;
+mod id;
+mod items;
+mod payload;
+mod performatives;
+mod small;
+#[cfg(test)]
+mod tests;
+mod text;
+
+pub use capability::TxnCapability;
+pub use delivery::{
+    ConnectionStopReason, Declared, DeliveryState, Error, ErrorCondition, Modified, Outcome,
+    Rejected, SessionStopReason, TransactionalState,
+};
+pub use fields::{Fields, Value};
+pub use frames::{TxnWorkFrame, frame_of, is_coordinator, strip, txn_of};
+pub use id::{IdTooLong, TransactionId};
+pub use items::{Binary, Items, NoMemory, TryClone};
+pub use payload::Payload;
+pub use performatives::{
+    Attach, Begin, Coordinator, Detach, Disposition, End, Flow, Frame, Frames, LinkEnd, LinkFlow,
+    LinkFlows, LinkFrame, Source, Symbols, Target, TargetArchetype, Transfer,
+};
+pub use small::{
+    Accepted, AmqpError, ConnectionError, Handle, IncomingChannel, InputHandle, LinkError,
+    OutgoingChannel, OutputHandle, ReceiverSettleMode, Role, SenderSettleMode, SessionError,
+    SessionState, Token, TransactionError,
+};
+pub use text::{Symbol, Text};

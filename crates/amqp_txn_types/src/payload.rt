@@ -1,0 +1,91 @@
+//! The octets of a message.
+
+ghost use Rattle.std.specs.Prelude.{◌≡◌, ◌↔◌, List, ℕ, [], length, slice_get, IsTrue, IfOk, nat_eq};
+ghost use Rattle.std.specs.Cmp.Lexicographic.{pointwise, nat_list_eq_equiv};
+ghost use Rattle.std.specs.Cmp.{partial_equiv_from_equiv};
+
+use crate::items::{NoMemory, TryClone};
+use bytes::Bytes;
+use std::alloc::Global;
+use std::marker::Model;
+
+/// The octets of a message, or of a part of one, as a transfer brings them.
+///
+/// Part 2 of the standard, section 2.7.5 (transfer). What is in them is the sender's: sections,
+/// by part 3, section 3.2 (message format). A payload never grows, and a copy shares its octets.
+#[derive(Debug, Drop)]
+pub struct Payload {
+    octets: Bytes,
+}
+
+impl Model for Payload {
+    ghost Value = { List ℕ };
+
+    ghost view = { λ p. p.octets };
+}
+
+impl Payload {
+    /// The payload without octets. It takes no memory.
+    pub fn new() -> Self
+        ensures { result ≡ [] }
+    {
+        Payload {
+            octets: Bytes::new(),
+        }
+    }
+
+    /// A copy of the octets. The only error is want of memory.
+    pub fn from_slice(alloc: Global, octets: &[u8]) -> Result<Self, NoMemory>
+        ensures { IfOk result (λ p. p ≡ octets.now) }
+    {
+        Ok(Payload {
+            octets: Bytes::copy_from_slice(alloc, octets)?,
+        })
+    }
+
+    /// How many octets there are.
+    pub fn len(&self) -> usize
+        ensures { result ≡ length self.now }
+    {
+        self.octets.len()
+    }
+
+    /// Whether there are none.
+    pub fn is_empty(&self) -> bool
+        ensures { IsTrue result ↔ (self.now ≡ []) }
+    {
+        self.octets.is_empty()
+    }
+
+    /// The octet at `index`, counted from 0; `None` from the length on.
+    pub fn get(&self, index: usize) -> Option<u8>
+        ensures { result ≡ slice_get self.now index }
+    {
+        self.as_slice().get(index).copied()
+    }
+
+    /// The octets, in order.
+    pub fn as_slice(&self) -> &[u8]
+        ensures { result.now ≡ self.now }
+    {
+        self.octets.as_slice()
+    }
+}
+
+impl TryClone for Payload {
+    fn try_clone(&self) -> Result<Self, NoMemory> {
+        Ok(Payload {
+            octets: self.octets.clone()?,
+        })
+    }
+}
+
+impl PartialEq for Payload {
+    ghost eq = { pointwise nat_eq };
+
+    ghost laws = { partial_equiv_from_equiv nat_list_eq_equiv };
+
+    fn eq(&self, other: &Self) -> bool {
+        self.as_slice() == other.as_slice()
+    }
+}

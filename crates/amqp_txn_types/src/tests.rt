@@ -1,0 +1,366 @@
+//! What no clause says: that each call succeeds where there is memory, and printed texts.
+
+use crate::*;
+use std::alloc::Global;
+use std::process::Abort;
+use std::test::Fail;
+
+fn symbols(alloc: Global) -> Result<Symbols, Fail> {
+    let mut symbols = Symbols::new(alloc);
+    symbols.push(TxnCapability::LocalTransactions.to_symbol(alloc)?)?;
+    symbols.push(TxnCapability::MultiTxnsPerSsn.to_symbol(alloc)?)?;
+    Ok(symbols)
+}
+
+fn fields(alloc: Global) -> Result<Fields, Fail> {
+    let mut fields = Fields::new(alloc);
+    fields.insert(Symbol::from_str(alloc, "b")?, Value::Uint(1))?;
+    fields.insert(Symbol::from_str(alloc, "a")?, Value::Ulong(2))?;
+    fields.insert(Symbol::from_str(alloc, "b")?, Value::Bool(true))?;
+    Ok(fields)
+}
+
+fn error(alloc: Global, condition: ErrorCondition) -> Result<Error, Fail> {
+    Ok(Error {
+        condition,
+        description: Some(Text::from_str(alloc, "why")?),
+        info: Some(fields(alloc)?),
+    })
+}
+
+fn rejected(alloc: Global) -> Result<Rejected, Fail> {
+    let condition = ErrorCondition::TransactionError(TransactionError::UnknownId);
+    Ok(Rejected {
+        error: Some(error(alloc, condition)?),
+    })
+}
+
+fn under_txn(outcome: Option<Outcome>) -> Result<Option<DeliveryState>, Fail> {
+    let txn_id = TransactionId::new(b"\x07")?;
+    Ok(Some(DeliveryState::TransactionalState(TransactionalState { txn_id, outcome })))
+}
+
+fn transfer(alloc: Global, state: Option<DeliveryState>) -> Result<Transfer, Fail> {
+    Ok(Transfer {
+        handle: Handle(1),
+        delivery_id: Some(7),
+        delivery_tag: Some(Binary::from_slice(alloc, b"\x01\x02")?),
+        message_format: Some(0),
+        settled: Some(true),
+        more: true,
+        rcv_settle_mode: Some(ReceiverSettleMode::Second),
+        state,
+        resume: true,
+        aborted: true,
+        batchable: true,
+    })
+}
+
+fn disposition(settled: bool, state: Option<DeliveryState>) -> Disposition {
+    Disposition {
+        role: Role::Receiver,
+        first: 7,
+        last: Some(9),
+        settled,
+        state,
+        batchable: true,
+    }
+}
+
+fn attach(alloc: Global) -> Result<Attach, Fail> {
+    let coordinator = Coordinator {
+        capabilities: Some(symbols(alloc)?),
+    };
+    let source = Source {
+        address: Some(Text::from_str(alloc, "queue")?),
+        dynamic: true,
+        dynamic_node_properties: Some(fields(alloc)?),
+        outcomes: Some(symbols(alloc)?),
+        capabilities: Some(symbols(alloc)?),
+    };
+    Ok(Attach {
+        name: Text::from_str(alloc, "control")?,
+        handle: Handle(3),
+        role: Role::Sender,
+        snd_settle_mode: SenderSettleMode::Settled,
+        rcv_settle_mode: ReceiverSettleMode::Second,
+        source: Some(source),
+        target: Some(TargetArchetype::Coordinator(coordinator)),
+        initial_delivery_count: Some(7),
+        max_message_size: Some(1_048_576),
+        offered_capabilities: Some(symbols(alloc)?),
+        desired_capabilities: Some(symbols(alloc)?),
+        properties: Some(fields(alloc)?),
+    })
+}
+
+fn link_flow(alloc: Global) -> Result<LinkFlow, Fail> {
+    Ok(LinkFlow {
+        handle: Handle(5),
+        delivery_count: Some(6),
+        link_credit: Some(7),
+        available: Some(8),
+        drain: true,
+        echo: true,
+        properties: Some(fields(alloc)?),
+    })
+}
+
+fn detach(alloc: Global) -> Result<Detach, Fail> {
+    Ok(Detach {
+        handle: Handle(5),
+        closed: true,
+        error: Some(error(alloc, ErrorCondition::AmqpError(AmqpError::IllegalState))?),
+    })
+}
+
+fn assert_copied<T: TryClone + PartialEq + Drop>(rt: &impl Abort, original: T) -> Result<(), Fail> {
+    let copy = original.try_clone()?;
+    assert!(rt; copy == original);
+    Ok(())
+}
+
+#[test]
+fn an_id_has_at_most_32_octets(rt: HostRuntime) -> Result<(), Fail> {
+    let longest = TransactionId::new(&[9; 32])?;
+    assert_eq!(rt; longest.as_ref(), [9; 32].as_slice());
+    assert_eq!(rt; TransactionId::new(&[9; 33]), Err(IdTooLong));
+    assert_eq!(rt; TransactionId::from([5; 16]).as_ref(), [5; 16].as_slice());
+    assert!(rt; TransactionId::new(b"\x01\x02")? < TransactionId::new(b"\x02")?);
+    assert_copied(&rt, longest)
+}
+
+#[test]
+fn lists_grow_at_their_end(rt: HostRuntime) -> Result<(), Fail> {
+    let mut text = Text::new(rt.alloc());
+    assert!(rt; text.is_empty());
+    text.push('é')?;
+    assert_eq!(rt;
+        (text.len(), text.get(0), text.as_str()),
+        (2, Some(0xc3), "é")
+    );
+    let mut symbol = Symbol::new(rt.alloc());
+    assert!(rt; symbol.is_empty());
+    symbol.push('a')?;
+    assert_eq!(rt;
+        (symbol.len(), symbol.get(0), symbol.as_str()),
+        (1, Some(b'a'), "a")
+    );
+    let payload = Payload::from_slice(rt.alloc(), b"hi")?;
+    assert_eq!(rt;
+        (payload.len(), payload.get(1), payload.as_slice()),
+        (2, Some(b'i'), b"hi".as_slice())
+    );
+    assert!(rt; Payload::new().is_empty());
+    let mut numbers = Items::<u64>::new(rt.alloc());
+    assert!(rt; numbers.is_empty());
+    numbers.push(3)?;
+    assert_eq!(rt;
+        (numbers.len(), numbers.get(0), numbers.as_slice()),
+        (1, Some(&3), [3].as_slice())
+    );
+    assert_copied(&rt, numbers)
+}
+
+#[test]
+fn fields_keep_the_order_of_insertion(rt: HostRuntime) -> Result<(), Fail> {
+    let b = Symbol::from_str(rt.alloc(), "b")?;
+    let a = Symbol::from_str(rt.alloc(), "a")?;
+    let mut fields = fields(rt.alloc())?;
+    assert_eq!(rt; fields.len(), 2);
+    assert_eq!(rt; fields.get(0), Some((&b, &Value::Bool(true))));
+    assert_eq!(rt; fields.get(1), Some((&a, &Value::Ulong(2))));
+    fields.remove(&b);
+    assert_eq!(rt; fields.get(0), Some((&a, &Value::Ulong(2))));
+    fields.remove(&a);
+    assert!(rt; fields.is_empty());
+    Ok(())
+}
+
+fn assert_post_stripped(
+    rt: &impl Abort,
+    alloc: Global,
+    came: Option<DeliveryState>,
+    goes: Option<DeliveryState>,
+) -> Result<(), Fail> {
+    let work = TxnWorkFrame::Post {
+        transfer: transfer(alloc, came)?,
+        payload: Payload::from_slice(alloc, b"hi")?,
+    };
+    let want = Frame::Transfer {
+        transfer: transfer(alloc, goes)?,
+        payload: Payload::from_slice(alloc, b"hi")?,
+    };
+    assert!(rt; strip(work) == want);
+    Ok(())
+}
+
+#[test]
+fn strip_leaves_a_post_its_outcome(rt: HostRuntime) -> Result<(), Fail> {
+    let accepted = under_txn(Some(Outcome::Accepted))?;
+    assert_post_stripped(&rt, rt.alloc(), accepted, Some(DeliveryState::Accepted))?;
+    assert_post_stripped(&rt, rt.alloc(), under_txn(None)?, None)
+}
+
+#[test]
+fn strip_settles_a_retirement_under_a_transaction(rt: HostRuntime) -> Result<(), Fail> {
+    let came = disposition(false, under_txn(Some(Outcome::Released))?);
+    let goes = Frame::Disposition(disposition(true, Some(DeliveryState::Released)));
+    let work = TxnWorkFrame::Retire(came);
+    let txn_id = TransactionId::new(b"\x07")?;
+    assert_eq!(rt; txn_of(&frame_of(work.try_clone()?)), Some(txn_id));
+    assert!(rt; strip(work) == goes);
+    let plain = disposition(false, Some(DeliveryState::Released));
+    let stays = Frame::Disposition(plain.try_clone()?);
+    assert!(rt; strip(TxnWorkFrame::Retire(plain)) == stays);
+    Ok(())
+}
+
+#[test]
+fn a_copied_attach_has_every_field(rt: HostRuntime) -> Result<(), Fail> {
+    let attach = attach(rt.alloc())?;
+    assert!(rt; is_coordinator(&attach));
+    assert_copied(&rt, LinkFrame::Attach(attach.try_clone()?))?;
+    assert_copied(&rt, Frame::Attach(attach))
+}
+
+#[test]
+fn every_performative_is_copied(rt: HostRuntime) -> Result<(), Fail> {
+    let alloc = rt.alloc();
+    let begin = Begin {
+        remote_channel: Some(1),
+        next_outgoing_id: 2,
+        incoming_window: 3,
+        outgoing_window: 4,
+        handle_max: Handle::default(),
+        offered_capabilities: Some(symbols(alloc)?),
+        desired_capabilities: Some(symbols(alloc)?),
+        properties: Some(fields(alloc)?),
+    };
+    assert_copied(&rt, begin)?;
+    let flow = Flow {
+        next_incoming_id: Some(1),
+        incoming_window: 2,
+        next_outgoing_id: 3,
+        outgoing_window: 4,
+        handle: Some(Handle(5)),
+        delivery_count: Some(6),
+        link_credit: Some(7),
+        available: Some(8),
+        drain: true,
+        echo: true,
+        properties: Some(fields(alloc)?),
+    };
+    let mut frames = Frames::new(alloc);
+    frames.push(Frame::Flow(flow))?;
+    frames.push(Frame::Detach(detach(alloc)?))?;
+    assert_copied(&rt, frames)?;
+    assert_copied(&rt, LinkFrame::Flow(link_flow(alloc)?))?;
+    assert_copied(&rt, LinkFrame::Detach(detach(alloc)?))?;
+    assert_copied(&rt, LinkFrame::Disposition(disposition(true, None)))?;
+    let posted = LinkFrame::Transfer {
+        input: InputHandle::from(Handle::from(5)),
+        transfer: transfer(alloc, None)?,
+        payload: Payload::from_slice(alloc, b"hi")?,
+        is_first: true,
+    };
+    assert_copied(&rt, posted)?;
+    let target = Target {
+        address: Some(Text::from_str(alloc, "queue")?),
+        dynamic: true,
+        dynamic_node_properties: Some(fields(alloc)?),
+        capabilities: Some(symbols(alloc)?),
+    };
+    assert_copied(&rt, TargetArchetype::Target(target))?;
+    let link_end = LinkEnd {
+        name: Text::from_str(alloc, "control")?,
+        role: Role::Receiver,
+        output: OutputHandle(5),
+        snd_settle_mode: SenderSettleMode::default(),
+        rcv_settle_mode: ReceiverSettleMode::default(),
+    };
+    assert_copied(&rt, link_end)?;
+    assert_copied(&rt, End { error: None })
+}
+
+#[test]
+fn every_state_is_copied(rt: HostRuntime) -> Result<(), Fail> {
+    let alloc = rt.alloc();
+    let txn_id = TransactionId::new(b"\x07")?;
+    let modified = Modified {
+        delivery_failed: Some(true),
+        undeliverable_here: Some(true),
+        message_annotations: Some(fields(alloc)?),
+    };
+    for outcome in [
+        Outcome::Accepted,
+        Outcome::Rejected(rejected(alloc)?),
+        Outcome::Released,
+        Outcome::Modified(modified),
+        Outcome::Declared(Declared { txn_id }),
+    ] {
+        assert_copied(&rt, DeliveryState::from(outcome.try_clone()?))?;
+        assert_copied(&rt, under_txn(Some(outcome))?)?;
+    }
+    let received = DeliveryState::Received {
+        section_number: 1,
+        section_offset: 2,
+    };
+    assert_copied(&rt, received)
+}
+
+#[test]
+fn every_reason_is_copied(rt: HostRuntime) -> Result<(), Fail> {
+    let alloc = rt.alloc();
+    let custom = ErrorCondition::Custom(Symbol::from_str(alloc, "own")?);
+    let mut conditions = Items::<ErrorCondition>::new(alloc);
+    conditions.push(ErrorCondition::AmqpError(AmqpError::NotAllowed))?;
+    conditions.push(ErrorCondition::ConnectionError(ConnectionError::FramingError))?;
+    conditions.push(ErrorCondition::SessionError(SessionError::HandleInUse))?;
+    conditions.push(ErrorCondition::LinkError(LinkError::TransferLimitExceeded))?;
+    conditions.push(ErrorCondition::TransactionError(TransactionError::Timeout))?;
+    conditions.push(custom)?;
+    assert_copied(&rt, conditions.try_clone()?)?;
+    for condition in conditions.into_vec() {
+        let closed = ConnectionStopReason::ClosedWithError(error(alloc, condition)?);
+        let stopped = SessionStopReason::from(closed);
+        assert_copied(&rt, stopped)?;
+    }
+    assert_copied(&rt, ConnectionStopReason::Closed)?;
+    assert_copied(&rt, ConnectionStopReason::RemoteClosed)?;
+    assert_copied(&rt, SessionStopReason::Ended)?;
+    assert_copied(&rt, SessionStopReason::RemoteEnded)
+}
+
+#[test]
+fn texts_are_those_of_the_standard(rt: HostRuntime) -> Result<(), Fail> {
+    for (capability, want) in [
+        (TxnCapability::LocalTransactions, "amqp:local-transactions"),
+        (
+            TxnCapability::DistributedTransactions,
+            "amqp:distributed-transactions",
+        ),
+        (
+            TxnCapability::PromotableTransactions,
+            "amqp:promotable-transactions",
+        ),
+        (TxnCapability::MultiTxnsPerSsn, "amqp:multi-txns-per-ssn"),
+        (TxnCapability::MultiSsnsPerTxn, "amqp:multi-ssns-per-txn"),
+    ] {
+        assert_eq!(rt; capability.to_symbol(rt.alloc())?.as_str(), want);
+    }
+    for (error, want) in [
+        (TransactionError::UnknownId, "amqp:transaction:unknown-id"),
+        (TransactionError::Rollback, "amqp:transaction:rollback"),
+        (TransactionError::Timeout, "amqp:transaction:timeout"),
+    ] {
+        assert_eq!(rt; format!(in rt.alloc(); "{error}")?.as_str(), want);
+    }
+    assert_eq!(rt;
+        format!(in rt.alloc(); "{NoMemory}")?.as_str(),
+        "out of memory"
+    );
+    let text = format!(in rt.alloc(); "{IdTooLong}")?;
+    assert_eq!(rt; text.as_str(), "a transaction id has at most 32 octets");
+    Ok(())
+}

@@ -1,0 +1,226 @@
+//! Text and symbols, which a contract sees as their octets in UTF-8.
+
+ghost use Rattle.std.specs.Prelude.{◌≡◌, ◌↔◌, List, [], ◌++◌, ℕ, length, slice_get, IsTrue, OnOk, IfOk, IfErr, nat_eq, string_bytes};
+ghost use Rattle.std.specs.Char.{encode_utf8};
+ghost use Rattle.std.specs.Hash as fed;
+ghost use Rattle.std.specs.Cmp.Lexicographic.{pointwise, nat_list_eq_equiv};
+ghost use Rattle.std.specs.Cmp.{partial_equiv_from_equiv};
+ghost use Rattle.std.specs.Cmp.Rules.{hashing};
+ghost use Rattle.std.proofs.Common.{rules};
+
+use crate::items::{NoMemory, TryClone};
+use std::alloc::Global;
+use std::hash::{Hash, Hasher};
+use std::marker::Model;
+
+/// A text, which a contract sees as its octets in UTF-8.
+///
+/// Part 1 of the standard, section 1.6.20 (string). Lengths and places are in octets. Two texts
+/// are equal where their octets are; nothing is normalised. It keeps the allocator that it was
+/// made with.
+#[derive(Debug, Drop)]
+pub struct Text {
+    text: String,
+}
+
+impl Model for Text {
+    ghost Value = { List ℕ };
+
+    ghost view = { λ t. string_bytes t.text };
+}
+
+impl Text {
+    /// The empty text. It takes no memory; later growth takes it from `alloc`.
+    pub fn new(alloc: Global) -> Self
+        ensures { result ≡ [] }
+    {
+        Text {
+            text: String::new(alloc),
+        }
+    }
+
+    /// A copy of the text. The only error is want of memory.
+    pub fn from_str(alloc: Global, text: &str) -> Result<Self, NoMemory>
+        ensures { IfOk result (λ t. t ≡ text.now) }
+    {
+        Ok(Text {
+            text: String::from_str(alloc, text)?,
+        })
+    }
+
+    /// How many octets the text has in UTF-8.
+    pub fn len(&self) -> usize
+        ensures { result ≡ length self.now }
+    {
+        self.text.len()
+    }
+
+    /// Whether the text is empty.
+    pub fn is_empty(&self) -> bool
+        ensures { IsTrue result ↔ (self.now ≡ []) }
+    {
+        self.text.is_empty()
+    }
+
+    /// The octet at `index`, counted from 0; `None` from the length on.
+    pub fn get(&self, index: usize) -> Option<u8>
+        ensures { result ≡ slice_get self.now index }
+    {
+        self.text.as_bytes().get(index).copied()
+    }
+
+    /// The text as a string slice.
+    pub fn as_str(&self) -> &str
+        ensures { result.now ≡ self.now }
+    {
+        self.text.as_str()
+    }
+
+    /// Appends the character, which takes one to four octets. For want of memory the character
+    /// comes back, and the text is as it was.
+    pub fn push(&mut self, item: char) -> Result<(), (char, NoMemory)>
+        ensures ok { OnOk result (self.new ≡ self.old ++ encode_utf8 item) }
+        ensures err { IfErr result (λ refused. (refused.0 ≡ item) × (self.new ≡ self.old)) }
+    {
+        match self.text.push(item) {
+            Ok(()) => Ok(()),
+            Err(_) => Err((item, NoMemory)),
+        }
+    }
+}
+
+impl TryClone for Text {
+    fn try_clone(&self) -> Result<Self, NoMemory> {
+        Ok(Text {
+            text: self.text.clone()?,
+        })
+    }
+}
+
+impl PartialEq for Text {
+    ghost eq = { pointwise nat_eq };
+
+    ghost laws = { partial_equiv_from_equiv nat_list_eq_equiv };
+
+    fn eq(&self, other: &Self) -> bool {
+        self.as_str() == other.as_str()
+    }
+}
+
+impl Eq for Text {
+    ghost laws = { nat_list_eq_equiv };
+}
+
+impl Hash for Text {
+    ghost hash_input = { fed.str };
+
+    ghost respects_eq = { Prim.search (hashing, rules) };
+
+    fn hash<H: Hasher>(&self, state: &mut H) {
+        self.as_str().hash(state);
+    }
+}
+
+/// A symbol: a text that names a thing by agreement, as a key, a capability or a condition does.
+///
+/// Part 1 of the standard, section 1.6.21 (symbol). The standard's symbols are ASCII; this type
+/// takes any text, and a contract sees it as its octets in UTF-8, like a [`Text`].
+#[derive(Debug, Drop)]
+pub struct Symbol {
+    text: Text,
+}
+
+impl Model for Symbol {
+    ghost Value = { List ℕ };
+
+    ghost view = { λ s. s.text };
+}
+
+impl Symbol {
+    /// The empty symbol. It takes no memory; later growth takes it from `alloc`.
+    pub fn new(alloc: Global) -> Self
+        ensures { result ≡ [] }
+    {
+        Symbol {
+            text: Text::new(alloc),
+        }
+    }
+
+    /// A copy of the text, as a symbol. The only error is want of memory.
+    pub fn from_str(alloc: Global, text: &str) -> Result<Self, NoMemory>
+        ensures { IfOk result (λ s. s ≡ text.now) }
+    {
+        Ok(Symbol {
+            text: Text::from_str(alloc, text)?,
+        })
+    }
+
+    /// How many octets the symbol has in UTF-8.
+    pub fn len(&self) -> usize
+        ensures { result ≡ length self.now }
+    {
+        self.text.len()
+    }
+
+    /// Whether the symbol is empty.
+    pub fn is_empty(&self) -> bool
+        ensures { IsTrue result ↔ (self.now ≡ []) }
+    {
+        self.text.is_empty()
+    }
+
+    /// The octet at `index`, counted from 0; `None` from the length on.
+    pub fn get(&self, index: usize) -> Option<u8>
+        ensures { result ≡ slice_get self.now index }
+    {
+        self.text.get(index)
+    }
+
+    /// The symbol as a string slice.
+    pub fn as_str(&self) -> &str
+        ensures { result.now ≡ self.now }
+    {
+        self.text.as_str()
+    }
+
+    /// Appends the character. For want of memory the character comes back, and the symbol is as
+    /// it was.
+    pub fn push(&mut self, item: char) -> Result<(), (char, NoMemory)>
+        ensures ok { OnOk result (self.new ≡ self.old ++ encode_utf8 item) }
+        ensures err { IfErr result (λ refused. (refused.0 ≡ item) × (self.new ≡ self.old)) }
+    {
+        self.text.push(item)
+    }
+}
+
+impl TryClone for Symbol {
+    fn try_clone(&self) -> Result<Self, NoMemory> {
+        Ok(Symbol {
+            text: self.text.try_clone()?,
+        })
+    }
+}
+
+impl PartialEq for Symbol {
+    ghost eq = { pointwise nat_eq };
+
+    ghost laws = { partial_equiv_from_equiv nat_list_eq_equiv };
+
+    fn eq(&self, other: &Self) -> bool {
+        self.text == other.text
+    }
+}
+
+impl Eq for Symbol {
+    ghost laws = { nat_list_eq_equiv };
+}
+
+impl Hash for Symbol {
+    ghost hash_input = { fed.str };
+
+    ghost respects_eq = { Prim.search (hashing, rules) };
+
+    fn hash<H: Hasher>(&self, state: &mut H) {
+        self.text.hash(state);
+    }
+}
