@@ -1,0 +1,10 @@
+pub mod Values
+pub mod Sections
+pub mod Leading
+pub mod Spellings
+pub mod Bodies
+pub mod Written
+pub mod Messages
+pub mod More
+pub mod Wholes
+pub mod Readings

@@ -1,0 +1,7 @@
+pub mod Values
+pub mod Sections
+pub mod Fields
+pub mod Messages
+pub mod Canon
+pub mod Reading
+pub mod Walks

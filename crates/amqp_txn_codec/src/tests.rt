@@ -1,0 +1,232 @@
+//! Payloads of outside origin, and what no clause says: that calls succeed with ample memory, and
+//! that deep values are read at once.
+
+use crate::{ControlMessageBody, Declare, Discharge, NotControl, decode, skip_value};
+use amqp_txn_types::{IdTooLong, TransactionId};
+use std::process::Abort;
+use std::test::Fail;
+
+fn declare() -> ControlMessageBody {
+    ControlMessageBody::Declare(Declare { global_id: None })
+}
+
+fn discharge(id: &[u8], fail: Option<bool>) -> Result<ControlMessageBody, IdTooLong> {
+    let txn_id = TransactionId::new(id)?;
+    Ok(ControlMessageBody::Discharge(Discharge { txn_id, fail }))
+}
+
+#[test]
+fn declares_are_read_in_every_form(rt: HostRuntime) {
+    let spellings: [&[u8]; 9] = [
+        // The canonical spelling.
+        b"\x00Sw\x00S\x31E",
+        // A descriptor by eight octets.
+        b"\x00\x80\x00\x00\x00\x00\x00\x00\x00w\x00S\x31E",
+        // A descriptor by name.
+        b"\x00Sw\x00\xa3\x11amqp:declare:listE",
+        // A descriptor by a long name.
+        b"\x00\xb3\x00\x00\x00\x11amqp:amqp-value:*\x00S\x31E",
+        // A header before the body.
+        b"\x00Sp\xc0\x01\x00\x00Sw\x00S\x31E",
+        // A footer behind it.
+        b"\x00Sw\x00S\x31E\x00Sx\xc1\x01\x00",
+        // Qpid-proton 0.37.0: a header, properties, and a list with null.
+        b"\x00SpE\x00SsE\x00Sw\x00\xa3\x11amqp:declare:list\xd0\x00\x00\x00\x05\x00\x00\x00\x01\x40",
+        // Qpid-proton 0.37.0: every section before the body.
+        b"\x00Sp\xc0\x02\x01A\x00Sq\xd1\x00\x00\x00\x0f\x00\x00\x00\x02\xa3\x07x-opt-dU\x01\x00Sr\xd1\x00\x00\x00\x29\x00\x00\x00\x02\xa3\x07x-opt-m\xd0\x00\x00\x00\x17\x00\x00\x00\x03U\x01U\x02\xd1\x00\x00\x00\x0a\x00\x00\x00\x02\xa1\x01a\xa0\x01b\x00Ss\xc0\x05\x01\xa1\x02m\x31\x00St\xd1\x00\x00\x00\x0a\x00\x00\x00\x02\xa1\x01k\xa1\x01v\x00Sw\x00\xa3\x11amqp:declare:list\xd0\x00\x00\x00\x05\x00\x00\x00\x01\x40",
+        // Qpid-proton 0.37.0: sections by name, and a footer.
+        b"\x00\xa3\x10amqp:header:list\xd0\x00\x00\x00\x05\x00\x00\x00\x01A\x00\xa3\x11amqp:amqp-value:*\x00S\x31E\x00\xa3\x0famqp:footer:map\xd1\x00\x00\x00\x0f\x00\x00\x00\x02\xa3\x07x-opt-fU\x01",
+    ];
+    for octets in spellings {
+        assert_eq!(rt; decode(octets), Ok(declare()), "at {octets:?}");
+    }
+}
+
+#[test]
+fn a_global_id_is_read(rt: HostRuntime) -> Result<(), Fail> {
+    // qpid-proton 0.37.0
+    let octets =
+        b"\x00SpE\x00SsE\x00Sw\x00S\x31\xd0\x00\x00\x00\x0e\x00\x00\x00\x01\xa0\x08global-\x31";
+    let global_id = Some(TransactionId::new(b"global-1")?);
+    let message = ControlMessageBody::Declare(Declare { global_id });
+    assert_eq!(rt; decode(octets), Ok(message));
+    Ok(())
+}
+
+fn reads_discharge(
+    rt: &impl Abort,
+    octets: &[u8],
+    id: &[u8],
+    fail: Option<bool>,
+) -> Result<(), IdTooLong> {
+    let message = discharge(id, fail)?;
+    assert_eq!(rt; decode(octets), Ok(message), "at {octets:?}");
+    Ok(())
+}
+
+#[test]
+fn discharges_are_read_in_every_form(rt: HostRuntime) -> Result<(), Fail> {
+    // No fail.
+    reads_discharge(
+        &rt,
+        b"\x00Sw\x00S\x32\xc0\x06\x01\xa0\x03\x01\x02\x03",
+        b"\x01\x02\x03",
+        None,
+    )?;
+    // A fail that is null.
+    reads_discharge(
+        &rt,
+        b"\x00Sw\x00S\x32\xc0\x07\x02\xa0\x03\x01\x02\x03\x40",
+        b"\x01\x02\x03",
+        None,
+    )?;
+    // A rollback.
+    reads_discharge(
+        &rt,
+        b"\x00Sw\x00S\x32\xc0\x07\x02\xa0\x03\x01\x02\x03A",
+        b"\x01\x02\x03",
+        Some(true),
+    )?;
+    // The long forms of list, id and fail.
+    reads_discharge(
+        &rt,
+        b"\x00Sw\x00S\x32\xd0\x00\x00\x00\x0e\x00\x00\x00\x02\xb0\x00\x00\x00\x03\x01\x02\x03V\x00",
+        b"\x01\x02\x03",
+        Some(false),
+    )?;
+    // An id of 32 octets.
+    reads_discharge(
+        &rt,
+        b"\x00Sw\x00S\x32\xc0\x23\x01\xa0\x20\x11\x11\x11\x11\x11\x11\x11\x11\x11\x11\x11\x11\x11\x11\x11\x11\x11\x11\x11\x11\x11\x11\x11\x11\x11\x11\x11\x11\x11\x11\x11\x11",
+        b"\x11\x11\x11\x11\x11\x11\x11\x11\x11\x11\x11\x11\x11\x11\x11\x11\x11\x11\x11\x11\x11\x11\x11\x11\x11\x11\x11\x11\x11\x11\x11\x11",
+        None,
+    )?;
+    Ok(())
+}
+
+#[test]
+fn discharges_of_other_libraries_are_read(rt: HostRuntime) -> Result<(), Fail> {
+    // Qpid-proton 0.37.0: an abort.
+    reads_discharge(
+        &rt,
+        b"\x00SpE\x00SsE\x00Sw\x00\xa3\x13amqp:discharge:list\xd0\x00\x00\x00\x0f\x00\x00\x00\x02\xa0\x08\x00\x00\x00\x00\x00\x00\x00\x02A",
+        b"\x00\x00\x00\x00\x00\x00\x00\x02",
+        Some(true),
+    )?;
+    // Azure _pyamqp 20230112: a fail in two octets.
+    reads_discharge(
+        &rt,
+        b"\x00Sw\x00S\x32\xc0\x15\x02\xa0\x10\x00\x00\x00\x00\x00\x00\x00\x00\x00\x00\x00\x00\x00\x00\x00\x01V\x01",
+        b"\x00\x00\x00\x00\x00\x00\x00\x00\x00\x00\x00\x00\x00\x00\x00\x01",
+        Some(true),
+    )?;
+    // Azure _pyamqp 20230112: a footer.
+    reads_discharge(
+        &rt,
+        b"\x00Sw\x00S\x32\xc0\x15\x02\xa0\x10\x00\x00\x00\x00\x00\x00\x00\x00\x00\x00\x00\x00\x00\x00\x00\x01V\x00\x00Sx\xc1\x0c\x02\xa3\x07x-opt-fT\x01",
+        b"\x00\x00\x00\x00\x00\x00\x00\x00\x00\x00\x00\x00\x00\x00\x00\x01",
+        Some(false),
+    )?;
+    Ok(())
+}
+
+#[test]
+fn other_octets_are_refused(rt: HostRuntime) {
+    let others: [&[u8]; 16] = [
+        // No octets.
+        b"",
+        // A header twice.
+        b"\x00Sp\xc0\x01\x00\x00Sp\xc0\x01\x00\x00Sw\x00S\x31E",
+        // A header behind the body.
+        b"\x00Sw\x00S\x31E\x00Sp\xc0\x01\x00",
+        // A footer without its end.
+        b"\x00Sw\x00S\x31E\x00Sx\xc1\x01",
+        // A discharge without an id.
+        b"\x00Sw\x00S\x32E",
+        // An octet behind the body.
+        b"\x00Sw\x00S\x31E\x00",
+        // Another descriptor.
+        b"\x00Sw\x00S\x33E",
+        // A count of 2 for one field.
+        b"\x00Sw\x00S\x31\xc0\x02\x02\x40",
+        // A size that is one too great.
+        b"\x00Sw\x00S\x31\xc0\x03\x01\x40",
+        // RabbitMQ 3.10.8: two bodies.
+        b"\x00Sw\x00S\x31\xc0\x02\x01\x40\x00Sw\x00S\x31\xc0\x02\x01\x40",
+        // Uamqp 1.5.3: a footer before the body.
+        b"\x00Sx\xc1\x0d\x02\xa3\x07x-opt-k\xa1\x01v\x00Sw\x00S\x32\xc0\x14\x02\xa0\x10\x00\x00\x00\x00\x00\x00\x00\x00\x00\x00\x00\x00\x00\x00\x00\x01B",
+        // Qpid-proton 0.37.0: a descriptor that is a string.
+        b"\x00SpE\x00SsE\x00Sw\x00\xa1\x11amqp:declare:list\xd0\x00\x00\x00\x05\x00\x00\x00\x01\x40",
+        // Azure _pyamqp 20230112: an id that is a string.
+        b"\x00Sw\x00S\x32\xc0\x0a\x02\xa1\x05txn-\x31V\x01",
+        // Uamqp 1.5.3: no id.
+        b"\x00Sw\x00S\x32\xc0\x03\x02\x40A",
+        // Uamqp 1.5.3: an id of 33 octets.
+        b"\x00Sw\x00S\x32\xc0\x25\x02\xa0\x21\x11\x11\x11\x11\x11\x11\x11\x11\x11\x11\x11\x11\x11\x11\x11\x11\x11\x11\x11\x11\x11\x11\x11\x11\x11\x11\x11\x11\x11\x11\x11\x11\x11B",
+        // Qpid-proton 0.37.0: a fail that is a number.
+        b"\x00SpE\x00SsE\x00Sw\x00\xa3\x13amqp:discharge:list\xd0\x00\x00\x00\x18\x00\x00\x00\x02\xa0\x10\x00\x00\x00\x00\x00\x00\x00\x00\x00\x00\x00\x00\x00\x00\x00\x01U\x01",
+    ];
+    for octets in others {
+        assert_eq!(rt; decode(octets), Err(NotControl), "at {octets:?}");
+    }
+}
+
+#[test]
+fn the_canonical_spelling_is_written(rt: HostRuntime) -> Result<(), Fail> {
+    let spelling = b"\x00Sw\x00S\x32\xc0\x07\x02\xa0\x03\x01\x02\x03A";
+    let txn_id = TransactionId::new(b"\x01\x02\x03")?;
+    let fail = Some(true);
+    let message = ControlMessageBody::Discharge(Discharge { txn_id, fail });
+    let payload = message.encode(rt.alloc())?;
+    assert_eq!(rt; payload.as_slice(), spelling.as_slice());
+    let mut out = [9; 64];
+    let len = message.encode_into(&mut out);
+    assert_eq!(rt; &out[..len], spelling.as_slice());
+    Ok(())
+}
+
+fn no_prefix_is_read(rt: &impl Abort, spelling: &[u8]) {
+    for end in 0..spelling.len() {
+        assert_eq!(rt; decode(&spelling[..end]), Err(NotControl), "at {end}");
+    }
+}
+
+#[test]
+fn no_prefix_of_a_canonical_spelling_is_read(rt: HostRuntime) {
+    no_prefix_is_read(&rt, b"\x00Sw\x00S\x31E");
+    no_prefix_is_read(&rt, b"\x00Sw\x00S\x31\xc0\x06\x01\xa0\x03\x01\x02\x03");
+    no_prefix_is_read(&rt, b"\x00Sw\x00S\x32\xc0\x06\x01\xa0\x03\x01\x02\x03");
+    no_prefix_is_read(&rt, b"\x00Sw\x00S\x32\xc0\x07\x02\xa0\x03\x01\x02\x03A");
+}
+
+#[test]
+fn a_value_is_skipped(rt: HostRuntime) {
+    // A list of two octets between others, and a described value.
+    assert_eq!(rt; skip_value(b"\x01\xc0\x02\x01\x40\x99", 1), Some(5));
+    assert_eq!(rt; skip_value(b"\x00\x53\x07\xa1\x01\x61", 0), Some(6));
+    assert_eq!(rt; skip_value(b"\x00\x53\x07\xa1\x02\x61", 0), None);
+    assert_eq!(rt; skip_value(b"\x3f", 0), None);
+}
+
+#[test]
+fn values_within_values_are_read_at_once(rt: HostRuntime) -> Result<(), Fail> {
+    // Each of 400,000 constructors 0 wants two values, and 400,001 nulls are all of them.
+    let mut value = vec![in rt.alloc(); 0; 400_000]?;
+    assert_eq!(rt; skip_value(value.as_slice(), 0), None);
+    let nulls = vec![in rt.alloc(); 0x40; 400_001]?;
+    value.extend_from_slice(nulls.as_slice())?;
+    assert_eq!(rt; skip_value(value.as_slice(), 0), Some(800_001));
+    let mut octets = Vec::new(rt.alloc());
+    octets.extend_from_slice(b"\x00Sp")?;
+    octets.extend_from_slice(value.as_slice())?;
+    octets.extend_from_slice(b"\x00Sw\x00S\x31E")?;
+    assert_eq!(rt; decode(octets.as_slice()), Ok(declare()));
+    Ok(())
+}
+
+#[test]
+fn the_error_says_what_is_wrong(rt: HostRuntime) -> Result<(), Fail> {
+    let text = format!(in rt.alloc(); "{NotControl}")?;
+    assert_eq!(rt; text.as_str(), "the octets are no control message");
+    Ok(())
+}
