@@ -1,0 +1,16 @@
+//! Numbers of calls.
+
+ghost use Rattle.std.specs.Prelude.{◌≡◌};
+ghost use Rattle.amqp_below.specs.Recording.{is_among};
+
+use amqp_txn_types::Items;
+
+/// Numbers of calls, which count from 1.
+pub type CallNumbers = Items<u64>;
+
+/// Whether the number is one of these.
+pub(crate) fn is_among(numbers: &CallNumbers, number: u64) -> bool
+    ensures { result ≡ is_among numbers.now number }
+{
+    numbers.as_slice().contains(&number)
+}
