@@ -1,0 +1,11 @@
+pub mod Ids
+pub mod Places
+pub mod Looking
+pub mod Living
+pub mod Whole
+pub mod Origins
+pub mod Lives
+pub mod Scanning
+pub mod Echoing
+pub mod Drawing
+pub mod Prefixes

@@ -1,0 +1,12 @@
+pub mod Entries
+pub mod Links
+pub mod Live
+pub mod Hands
+pub mod Work
+pub mod Answers
+pub mod Legal
+pub mod Valid
+pub mod Stops
+pub mod Opened
+pub mod Others
+pub mod Texts
