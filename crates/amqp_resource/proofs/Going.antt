@@ -1,0 +1,469 @@
+-- What each kind of step leaves, from what the calls that it makes leave.
+use Rattle.std.proofs.Common.{◌≡◌, ℕ, zero, suc, ◌+◌, ◌<◌, ◌≤◌, Bool, true, false, cond, not, ◌&&◌, ◌||◌, Option, Some, None, Result, Ok, Err, List, [], ◌∷◌, ◌++◌, length, map, take, refl, sym, ◌∙◌, ap, arith, subst, append-nil, inl, inr}
+use Rattle.std.specs.Prelude.{◌==◌, ◌⊎◌, slice_get, is_some, MatchBool}
+use Rattle.std.specs.List.{list_any, list_all, filter, zip}
+use Rattle.std.proofs.lemmas.List.{length-map}
+use Rattle.std.proofs.lemmas.List.Folds.{list_all-append}
+use Rattle.std.proofs.lemmas.Bool.{eq-eqb, ne_eqb, and_right}
+use Rattle.amqp_txn_types.specs.declared.id.TransactionId.{TransactionId}
+use Rattle.amqp_txn_types.specs.declared.small.AmqpError.TheVariants as amqp_errors
+use Rattle.amqp_txn_types.specs.declared.small.TransactionError.TheVariants as transaction_errors
+use Rattle.amqp_txn_types.specs.declared.delivery.SessionStopReason.{SessionStopReason}
+use Rattle.amqp_txn_types.specs.declared.performatives.Attach.{Attach}
+use Rattle.amqp_txn_types.specs.declared.performatives.Frame.{Frame}
+use Rattle.amqp_txn_types.specs.declared.performatives.Frame.TheVariants as frames
+use Rattle.amqp_txn_types.specs.Frames.{txn, coord, is_plain, plain, is_transfer, attaches_coordinator, stripped}
+use Rattle.amqp_txn_codec.specs.declared.message.Declare.{Declare}
+use Rattle.amqp_txn_codec.specs.declared.message.Discharge.{Discharge}
+use Rattle.amqp_txn_codec.specs.declared.message.ControlMessageBody.{ControlMessageBody}
+use Rattle.amqp_txn_codec.specs.declared.message.ControlMessageBody.TheVariants as messages
+use Rattle.amqp_txn_codec.specs.Reading.{message_of}
+use Rattle.amqp_below.specs.declared.answers.Answers.{Answers}
+use Rattle.amqp_below.specs.declared.inner_error.SessionInnerError.{SessionInnerError}
+use Rattle.amqp_below.specs.declared.inner_error.SessionInnerError.TheVariants as faults
+use Rattle.amqp_below.specs.declared.refusal.Refusal.{Refusal}
+use Rattle.amqp_below.specs.Drawn.{DrawnIds}
+use Rattle.amqp_below.specs.Told.{Told, Steady, Opens, grown, Rose}
+use Rattle.amqp_record.specs.declared.entry.Entry.{Entry}
+use Rattle.amqp_record.specs.declared.step.Step.{Step}
+use Rattle.amqp_record.specs.declared.step.Step.TheVariants as steps
+use Rattle.amqp_record.specs.declared.reply.Reply.{Reply}
+use Rattle.amqp_record.specs.declared.reply.Reply.TheVariants as replies
+use Rattle.amqp_record.specs.declared.reply.RejectText.{RejectText}
+use Rattle.amqp_record.specs.declared.reply.RejectText.TheVariants as texts
+use Rattle.amqp_record.specs.declared.stop.StepError.{StepError}
+use Rattle.amqp_record.specs.declared.stop.StepError.TheVariants as errors
+use Rattle.amqp_record.specs.Entries.{same_id, is_some_id, message_discharges, step_discharges}
+use Rattle.amqp_record.specs.Links.{is_open, attached_count}
+use Rattle.amqp_record.specs.Live.{is_live, home, is_held_on}
+use Rattle.amqp_record.specs.Hands.{frames_of, is_rollback, hands}
+use Rattle.amqp_record.specs.Work.{given_by}
+use Rattle.amqp_record.specs.Answers.{answered_under, WindowFits, WindowsFit, Answer, AnswerFrame, AnswerControl, AnswerMessage, AnswerDischarge, AnswerDeclare, AnswerLinkEnd, Draws, Echoed}
+use Rattle.amqp_record.specs.Opened.{opened_by, refused_by, refusal_of}
+use Rattle.amqp_record.proofs.Whole.{plain_none, hands-plain, hands-other_frame, hands-commit, hands-no_commit, not_held_no_commit, commits-at, commits-discharge, commits-rollback}
+use Rattle.amqp_resource.specs.declared.held.Live.{Live}
+use Rattle.amqp_resource.specs.declared.held.Held.{Held}
+use Rattle.amqp_resource.specs.declared.taking.TakeError.{TakeError}
+use Rattle.amqp_resource.specs.Held.{Stands, StandsAt, Distinct, look, look_without, with_frame, kept_by, is_in}
+use Rattle.amqp_resource.specs.Draws.{is_kept, DrewLive, DrewUnused}
+use Rattle.amqp_resource.specs.Taking.{TookFrames, TakesFrame, taken_frames}
+use Rattle.amqp_resource.specs.Committing.{HandedSome, HandedPart, RefusedAt, given_of}
+use Rattle.amqp_resource.specs.Steps.{Went, Refused, Stayed, StepGave, AddsRefusal, FrameMayFault, MayFault, IsDead, IsPost, IsUnder, UnderDead, EndGave, ended_by, entry_of, fault_of, is_live_under, is_unknown, message_takes_memory, nothing_drawn, takes_memory}
+use Rattle.amqp_resource.proofs.Kept.{found, look_push, Distinct_push}
+use Rattle.amqp_resource.proofs.Handing.{grown-nil, refused_after-err}
+use Rattle.amqp_resource.proofs.Standing.{Quiet, stands-quiet, stands-post, stands-attached, stands-discharged, stands-closed, stands-declared}
+
+-- ---- nothing more below
+
+pub steady-same : (told : Told) → Steady told told
+steady-same told = record { taken = refl; opened = refl; refused = refl; state = refl; later = omega arith }
+
+adds_nothing : {A : Type 0} (old new : Option (List A)) (more : List A) → more ≡ [] → new ≡ old → new ≡ grown old more
+adds_nothing old new more m t = t ∙ sym (ap (grown old) m ∙ grown-nil old)
+
+hands_nothing : (old new : Option (List (Frame × List Frame))) (r : List Entry) (s : Step) (reply : Reply) → hands r s ≡ [] → new ≡ old → new ≡ grown old (zip (hands r s) (given_by s reply))
+hands_nothing old new r s reply h t = t ∙ sym (ap (λ fs. grown old (zip fs (given_by s reply))) h ∙ grown-nil old)
+
+-- a reply to a step that hands nothing
+went-steady : (g : Held) (old new : Told) (r : List Entry) (s : Step) (d : DrawnIds) (reply : Reply) → Answer r s d.ids reply → Stands g (r ++ entry_of s d reply ∷ []) → hands r s ≡ [] → opened_by s reply ≡ [] → refused_by s reply ≡ [] → Steady old new → Went g old new r s d reply
+went-steady g old new r s d reply a st h o f t = record {
+  answer = a;
+  stands = st;
+  taken = hands_nothing old.taken new.taken r s reply h t.taken;
+  opened = adds_nothing old.opened new.opened (opened_by s reply) o t.opened;
+  refused = adds_nothing old.refused new.refused (refused_by s reply) f t.refused;
+}
+
+-- what is kept may stand in other memory
+pub stands-moved : (h g : Held) (r : List Entry) → Stands h r → g.live.items ≡ h.live.items → g.links.items ≡ h.links.items → g.opened ≡ h.opened → Stands g r
+stands-moved h g r s lg kg og = record {
+  legal = s.legal;
+  distinct = subst Distinct (sym lg) s.distinct;
+  live = λ t. ap (λ ls. look ls t) lg ∙ s.live t;
+  links = λ k. ap (λ ks. is_in ks k) kg ∙ s.links k;
+  opened = og ∙ s.opened;
+}
+
+-- ---- faults
+
+-- a refusal of the layer below, as the answer of a step
+pub refused_gives : (h : Held) (old new : Told) (r : List Entry) (s : Step) (error own : SessionInnerError) (handed : ℕ) → is_unknown error ≡ false → error ≡ fault_of own → Refused old new r s (fault_of own) handed → StepGave h old new r s (Err (errors.Fault error handed))
+refused_gives h old new r s error own handed k e f =
+    let P : Bool → Type 0 = λ b. MatchBool b (UnderDead r s × (handed ≡ 0)) (Refused old new r s error handed) in
+    subst P (sym k) (subst (λ (x : SessionInnerError). Refused old new r s x handed) (sym e) f)
+
+-- ---- plain frames
+
+plain_no_coordinator : (frame : Frame) (o : Option TransactionId) → is_plain o (coord frame) ≡ true → coord frame ≡ false
+plain_no_coordinator frame None h = flip (coord frame) h
+  where
+    flip : (b : Bool) → not b ≡ true → b ≡ false
+    flip false x = refl
+    flip true x = cc x
+plain_no_coordinator frame (Some t) h = cc h
+
+quiet-frames : (frame : Frame) (a : Answers) → Quiet (entry_of (steps.Frame frame) nothing_drawn (replies.Frames a))
+quiet-frames frame a = record { declares = λ t. refl; discharges = λ t. refl; attaches = λ k. refl; closes = λ k. refl; attached = refl }
+
+answer-plain : (r : List Entry) (frame : Frame) (a : Answers) → plain frame ≡ true → WindowFits frame a → Answer r (steps.Frame frame) [] (replies.Frames a)
+answer-plain r frame a p w =
+    let P : Option TransactionId → Type 0 = λ o. AnswerFrame r frame o (replies.Frames a) in
+    (refl, subst P (sym (plain_none frame p)) (plain_no_coordinator frame (txn frame) p, w))
+
+-- a plain frame that was taken
+pub went-plain : (h : Held) (r : List Entry) (frame : Frame) (a : Answers) (old new : Told) → plain frame ≡ true → Stands h r → TakesFrame old new frame (Ok a) → Went h old new r (steps.Frame frame) nothing_drawn (replies.Frames a)
+went-plain h r frame a old new p s t = record {
+  answer = answer-plain r frame a p t.taken.1;
+  stands = stands-quiet h r (entry_of (steps.Frame frame) nothing_drawn (replies.Frames a)) s (answer-plain r frame a p t.taken.1) (quiet-frames frame a) (λ u. ap (is_some_id u) (plain_none frame p));
+  taken = t.taken.0 ∙ ap (grown old.taken) (sym (ap (λ fs. zip fs (given_by (steps.Frame frame) (replies.Frames a))) (hands-plain r frame p) ∙ ap (λ b. zip (frame ∷ []) (cond b (a.given ∷ []) [])) p));
+  opened = adds_nothing old.opened new.opened [] refl t.opened;
+  refused = t.refused;
+}
+
+plain_adds : (r : List Entry) (frame : Frame) (own : SessionInnerError) (b : Bool) → plain frame ≡ true → AddsRefusal (steps.Frame frame) (hands r (steps.Frame frame)) (cond b 1 0) (fault_of own) (cond b [] (refusal_of frame own))
+plain_adds r frame own true p = (own, refl, inr (refl, inr (omega arith)))
+plain_adds r frame own false p = (own, refl, inl (frame, ap (λ (fs : List Frame). slice_get fs 0) (hands-plain r frame p), refl))
+
+plain_took : (old new : Option (List (Frame × List Frame))) (r : List Entry) (frame : Frame) (b : Bool) → plain frame ≡ true → TookFrames old new (taken_frames b frame) → (cond b 1 0 ≤ length (hands r (steps.Frame frame))) × TookFrames old new (take (cond b 1 0) (hands r (steps.Frame frame)))
+plain_took old new r frame true p t = (
+  let e : length (hands r (steps.Frame frame)) ≡ 1 = ap length (hands-plain r frame p) in omega arith,
+  subst (λ (fs : List Frame). TookFrames old new (take 1 fs)) (sym (hands-plain r frame p)) t,
+)
+plain_took old new r frame false p t = (omega arith, t)
+
+-- a plain frame that was refused
+pub refused-plain : (r : List Entry) (frame : Frame) (e : TakeError) (old new : Told) → plain frame ≡ true → TakesFrame old new frame (Err e) → Refused old new r (steps.Frame frame) (fault_of e.error) (cond e.taken 1 0)
+refused-plain r frame e old new p t =
+    let part = plain_took old.taken new.taken r frame e.taken p t.taken in
+    record {
+      fits = subst (FrameMayFault r frame) (sym (plain_none frame p)) (plain_no_coordinator frame (txn frame) p);
+      took = part;
+      opened = t.opened;
+      refused = (cond e.taken [] (refusal_of frame e.error), plain_adds r frame e.error e.taken p, t.refused);
+    }
+
+pub stayed-plain : (h : Held) (r : List Entry) (frame : Frame) → plain frame ≡ true → Stands h r → Stayed h r (steps.Frame frame)
+stayed-plain h r frame p s = record { stands = s; takes = ap (is_live_under r) (plain_none frame p) }
+
+-- ---- a frame under an id
+
+live_at : (r : List Entry) (t : TransactionId) (o : Option (ℕ × List Frame)) → o ≡ kept_by r t → (o ≡ None → ⊥) → is_live r t ≡ true
+live_at r t o e n = by_case (is_live r t) refl
+  where
+    by_case : (b : Bool) → is_live r t ≡ b → b ≡ true
+    by_case true h = refl
+    by_case false h = absurd (n (e ∙ ap (λ b. cond b (Some (home r t, frames_of r t)) None) h))
+
+pub stands_live : (h : Held) (r : List Entry) (i : ℕ) (t : TransactionId) → Stands h r → StandsAt h.live.items i t → is_live r t ≡ true
+stands_live h r i t s a = live_at r t (look h.live.items t) (s.live t) (found h.live.items i t a)
+
+-- what is kept is live
+pub kept_live : (h : Held) (r : List Entry) (t : TransactionId) → Stands h r → is_kept h.live.items t ≡ is_live r t
+kept_live h r t s = ap is_some (s.live t) ∙ by_case (is_live r t)
+  where
+    by_case : (b : Bool) → is_some {T = ℕ × List Frame} (cond b (Some (home r t, frames_of r t)) None) ≡ b
+    by_case true = refl
+    by_case false = refl
+
+abbrev pub post_reply : TransactionId → Frame → Reply
+post_reply u frame = replies.Frames (record { given = answered_under u frame; window = None })
+
+answer-post : (r : List Entry) (frame : Frame) (u : TransactionId) → txn frame ≡ Some u → is_live r u ≡ true → Answer r (steps.Frame frame) [] (post_reply u frame)
+answer-post r frame u e l =
+    let P : Option TransactionId → Type 0 = λ o. AnswerFrame r frame o (post_reply u frame) in
+    (refl, subst P (sym e) (l, refl))
+
+not_plain : (frame : Frame) (u : TransactionId) → txn frame ≡ Some u → plain frame ≡ false
+not_plain frame u e = ap (λ o. is_plain o (coord frame)) e
+
+pub went-post : (h g : Held) (r : List Entry) (frame : Frame) (u : TransactionId) (i : ℕ) (old new : Told) → txn frame ≡ Some u → Stands h r → StandsAt h.live.items i u → Distinct g.live.items → ((t : TransactionId) → look g.live.items t ≡ cond (same_id t u) (with_frame (look h.live.items t) frame) (look h.live.items t)) → g.links.items ≡ h.links.items → g.opened ≡ h.opened → Steady old new → Went g old new r (steps.Frame frame) nothing_drawn (post_reply u frame)
+went-post h g r frame u i old new e s at dg lg kg og t =
+    let a = answer-post r frame u e (stands_live h r i u s at) in
+    went-steady g old new r (steps.Frame frame) nothing_drawn (post_reply u frame) a
+    (stands-post h g r (entry_of (steps.Frame frame) nothing_drawn (post_reply u frame)) frame u s a (quiet-frames frame (record { given = answered_under u frame; window = None })) refl (λ v. ap (is_some_id v) e) dg lg kg og)
+    (hands-other_frame r frame (not_plain frame u e)) refl refl t
+
+pub unknown-post : (h : Held) (r : List Entry) (frame : Frame) (u : TransactionId) → txn frame ≡ Some u → Stands h r → look h.live.items u ≡ None → UnderDead r (steps.Frame frame) × (◌≡◌ {A = ℕ} 0 0)
+unknown-post h r frame u e s n = (subst (IsDead r) (sym e) (sym (kept_live h r u s) ∙ ap is_some n), refl)
+
+-- the answer of a post was refused below
+pub refused-post : (h : Held) (r : List Entry) (frame : Frame) (u : TransactionId) (i : ℕ) (own : SessionInnerError) (old new : Told) → txn frame ≡ Some u → Stands h r → StandsAt h.live.items i u → 1 ≤ length (answered_under u frame) → Steady old new → Refused old new r (steps.Frame frame) (fault_of own) 0
+refused-post h r frame u i own old new e s at some t =
+    let under : IsPost (steps.Frame frame) = subst IsUnder (sym e) tt in
+    record {
+      fits = subst (FrameMayFault r frame) (sym e) (stands_live h r i u s at, some);
+      took = (omega arith, ([], refl, t.taken ∙ sym (grown-nil old.taken)));
+      opened = t.opened;
+      refused = ([], (own, refl, inr (refl, inl under)), t.refused ∙ sym (grown-nil old.refused));
+    }
+
+pub stayed-post : (h g : Held) (r : List Entry) (frame : Frame) (u : TransactionId) (i : ℕ) → txn frame ≡ Some u → Stands h r → StandsAt h.live.items i u → Stands g r → Stayed g r (steps.Frame frame)
+stayed-post h g r frame u i e s at sg = record { stands = sg; takes = ap (is_live_under r) e ∙ stands_live h r i u s at }
+
+-- ---- an attach to a coordinator
+
+txn-attach : (attach : Attach) → txn (frames.Attach attach) ≡ None
+unfolding txn
+txn-attach attach = refl
+
+coord-attach : (attach : Attach) → coord (frames.Attach attach) ≡ attaches_coordinator attach
+unfolding coord
+coord-attach attach = refl
+
+coordinator_not_plain : (attach : Attach) → attaches_coordinator attach ≡ true → plain (frames.Attach attach) ≡ false
+coordinator_not_plain attach c = ap (λ o. is_plain o (coord (frames.Attach attach))) (txn-attach attach) ∙ ap not (coord-attach attach ∙ c)
+
+attach_answer : (r : List Entry) (attach : Attach) (reply : Reply) → AnswerFrame r (frames.Attach attach) None reply → Answer r (steps.Frame (frames.Attach attach)) [] reply
+attach_answer r attach reply a = let P : Option TransactionId → Type 0 = λ o. AnswerFrame r (frames.Attach attach) o reply in (refl, subst P (sym (txn-attach attach)) a)
+
+pub went-attached : (h g : Held) (r : List Entry) (attach : Attach) (given : List Frame) (old new : Told) → attaches_coordinator attach ≡ true → Stands h r → g.live.items ≡ h.live.items → g.links.items ≡ h.links.items ++ h.opened ∷ [] → g.opened ≡ h.opened + 1 → Opens old new attach (Ok given) → Went g old new r (steps.Frame (frames.Attach attach)) nothing_drawn (replies.Attached h.opened given)
+went-attached h g r attach given old new c s lg kg og t =
+    let a = attach_answer r attach (replies.Attached h.opened given) (coord-attach attach ∙ c, s.opened) in
+    record {
+      answer = a;
+      stands = stands-attached h g r (entry_of (steps.Frame (frames.Attach attach)) nothing_drawn (replies.Attached h.opened given)) given s a refl (λ t. refl) (λ t. refl) (λ u. ap (is_some_id u) (txn-attach attach)) (λ k. refl) lg kg og;
+      taken = hands_nothing old.taken new.taken r (steps.Frame (frames.Attach attach)) (replies.Attached h.opened given) (hands-other_frame r (frames.Attach attach) (coordinator_not_plain attach c)) t.taken;
+      opened = t.opened;
+      refused = adds_nothing old.refused new.refused [] refl t.refused;
+    }
+
+pub went-attach_refused : (h g : Held) (r : List Entry) (attach : Attach) (error : SessionInnerError) (old new : Told) → attaches_coordinator attach ≡ true → Stands h r → g.live.items ≡ h.live.items → g.links.items ≡ h.links.items → g.opened ≡ h.opened → Opens old new attach (Err error) → Went g old new r (steps.Frame (frames.Attach attach)) nothing_drawn (replies.AttachRefused error)
+went-attach_refused h g r attach error old new c s lg kg og t =
+    let a = attach_answer r attach (replies.AttachRefused error) (coord-attach attach ∙ c) in
+    record {
+      answer = a;
+      stands = stands-quiet g r (entry_of (steps.Frame (frames.Attach attach)) nothing_drawn (replies.AttachRefused error)) (stands-moved h g r s lg kg og) a
+          (record { declares = λ t. refl; discharges = λ t. refl; attaches = λ k. refl; closes = λ k. refl; attached = refl }) (λ u. ap (is_some_id u) (txn-attach attach));
+      taken = hands_nothing old.taken new.taken r (steps.Frame (frames.Attach attach)) (replies.AttachRefused error) (hands-other_frame r (frames.Attach attach) (coordinator_not_plain attach c)) t.taken;
+      opened = adds_nothing old.opened new.opened [] refl t.opened;
+      refused = t.refused ∙ refused_after-err old.refused (frames.Attach attach) error;
+    }
+
+pub stayed-attach : (g : Held) (r : List Entry) (attach : Attach) → Stands g r → Stayed g r (steps.Frame (frames.Attach attach))
+stayed-attach g r attach s = record { stands = s; takes = ap (is_live_under r) (txn-attach attach) }
+
+-- ---- a discharge
+
+control_answer : (r : List Entry) (k : ℕ) (payload : List ℕ) (m : Option ControlMessageBody) (d : List TransactionId) (reply : Reply) → is_open r k ≡ true → message_of payload ≡ m → AnswerMessage r k m d reply → Answer r (steps.Control k payload) d reply
+control_answer r k payload m d reply o e a =
+    let P : Bool → Type 0 = λ b. AnswerControl r k b (message_of payload) d reply in
+    let Q : Option ControlMessageBody → Type 0 = λ x. AnswerMessage r k x d reply in
+    subst P (sym o) (subst Q (sym e) a)
+
+quiet-rejected : (k : ℕ) (payload : List ℕ) (d : DrawnIds) (text : RejectText) → Quiet (entry_of (steps.Control k payload) d (replies.Rejected transaction_errors.UnknownId text))
+quiet-rejected k payload d text = record { declares = λ t. refl; discharges = λ t. refl; attaches = λ j. refl; closes = λ j. refl; attached = refl }
+
+pub went-absent : (h : Held) (r : List Entry) (k : ℕ) (payload : List ℕ) (discharge : Discharge) (told : Told) → message_of payload ≡ Some (messages.Discharge discharge) → is_in h.links.items k ≡ true → Stands h r → is_held_on r k discharge.txn_id ≡ false → Went h told told r (steps.Control k payload) nothing_drawn (replies.Rejected transaction_errors.UnknownId texts.Absent)
+went-absent h r k payload discharge told m o s n =
+    let opened : is_open r k ≡ true = sym (s.links k) ∙ o in
+    let a = control_answer r k payload (Some (messages.Discharge discharge)) [] (replies.Rejected transaction_errors.UnknownId texts.Absent) opened m (n, refl) in
+    went-steady h told told r (steps.Control k payload) nothing_drawn (replies.Rejected transaction_errors.UnknownId texts.Absent) a
+    (stands-quiet h r (entry_of (steps.Control k payload) nothing_drawn (replies.Rejected transaction_errors.UnknownId texts.Absent)) s a (quiet-rejected k payload nothing_drawn texts.Absent) (λ t. refl))
+    (hands-no_commit r k payload (not_held_no_commit r k payload discharge opened m n)) refl refl (steady-same told)
+
+-- what isn't kept isn't held
+pub not_kept : (h : Held) (r : List Entry) (k : ℕ) (u : TransactionId) → Stands h r → look h.live.items u ≡ None → is_held_on r k u ≡ false
+not_kept h r k u s n = by_case (is_live r u) refl
+  where
+    by_case : (b : Bool) → is_live r u ≡ b → (is_live r u && (home r u == k)) ≡ false
+    by_case true x = let e : kept_by r u ≡ Some (home r u, frames_of r u) = ap (λ b. cond b (Some (home r u, frames_of r u)) None) x in cc (e, sym (s.live u) ∙ n)
+    by_case false x = ap (λ b. b && (home r u == k)) x
+
+-- what is kept has the record's home and frames
+pub kept-home : (h : Held) (r : List Entry) (u : TransactionId) (k : ℕ) (fs : List Frame) → Stands h r → look h.live.items u ≡ Some (k, fs) → (is_live r u ≡ true) × (home r u ≡ k) × (frames_of r u ≡ fs)
+kept-home h r u k fs s e = by_case (is_live r u) refl
+  where
+    by_case : (b : Bool) → is_live r u ≡ b → (is_live r u ≡ true) × (home r u ≡ k) × (frames_of r u ≡ fs)
+    by_case true x =
+        let both : Some (home r u, frames_of r u) ≡ Some (k, fs) = sym (ap (λ b. cond b (Some (home r u, frames_of r u)) None) x) ∙ sym (s.live u) ∙ e in
+        let pair : ◌≡◌ {A = ℕ × List Frame} (home r u, frames_of r u) (k, fs) = cc both in
+        (x, ap (λ (p : ℕ × List Frame). p.0) pair, ap (λ (p : ℕ × List Frame). p.1) pair)
+    by_case false x = let none : None ≡ Some (k, fs) = sym (ap (λ b. cond b (Some (home r u, frames_of r u)) None) x) ∙ sym (s.live u) ∙ e in cc none
+
+discharges_says : (k : ℕ) (payload : List ℕ) (t : TransactionId) (discharge : Discharge) (echoes : List Answers) → message_of payload ≡ Some (messages.Discharge discharge) → step_discharges t (steps.Control k payload) (replies.Accepted echoes) ≡ same_id t discharge.txn_id
+discharges_says k payload t discharge echoes m = ap (message_discharges t) m
+
+-- an accepted discharge, whichever it is
+stands-accepted : (h g : Held) (r : List Entry) (k : ℕ) (payload : List ℕ) (discharge : Discharge) (echoes : List Answers) → message_of payload ≡ Some (messages.Discharge discharge) → Stands h r → Answer r (steps.Control k payload) [] (replies.Accepted echoes) → Distinct g.live.items → ((t : TransactionId) → look g.live.items t ≡ look_without discharge.txn_id h.live.items t) → g.links.items ≡ h.links.items → g.opened ≡ h.opened → Stands g (r ++ entry_of (steps.Control k payload) nothing_drawn (replies.Accepted echoes) ∷ [])
+stands-accepted h g r k payload discharge echoes m s a dg lg kg og =
+    stands-discharged h g r (entry_of (steps.Control k payload) nothing_drawn (replies.Accepted echoes)) discharge.txn_id s a (λ t. refl) (λ t. discharges_says k payload t discharge echoes m) (λ t. refl) (λ j. refl) (λ j. refl) refl dg lg kg og
+
+held_on : (r : List Entry) (k : ℕ) (u : TransactionId) → is_live r u ≡ true → home r u ≡ k → is_held_on r k u ≡ true
+held_on r k u l e = ap (λ b. b && (home r u == k)) l ∙ eq-eqb (home r u) k e
+
+accepted_answer : (r : List Entry) (k : ℕ) (payload : List ℕ) (discharge : Discharge) (echoes : List Answers) (b : Bool) → is_open r k ≡ true → message_of payload ≡ Some (messages.Discharge discharge) → is_held_on r k discharge.txn_id ≡ true → is_rollback discharge.fail ≡ b → Echoed r discharge.txn_id b echoes → Answer r (steps.Control k payload) [] (replies.Accepted echoes)
+accepted_answer r k payload discharge echoes b o m l rb x =
+    let P : Bool → Type 0 = λ c. Echoed r discharge.txn_id c echoes in
+    control_answer r k payload (Some (messages.Discharge discharge)) [] (replies.Accepted echoes) o m (l, refl, subst P (sym rb) x)
+
+pub went-rollback : (h g : Held) (r : List Entry) (k : ℕ) (payload : List ℕ) (discharge : Discharge) (fs : List Frame) (told : Told) → message_of payload ≡ Some (messages.Discharge discharge) → is_rollback discharge.fail ≡ true → is_in h.links.items k ≡ true → Stands h r → look h.live.items discharge.txn_id ≡ Some (k, fs) → Distinct g.live.items → ((t : TransactionId) → look g.live.items t ≡ look_without discharge.txn_id h.live.items t) → g.links.items ≡ h.links.items → g.opened ≡ h.opened → Went g told told r (steps.Control k payload) nothing_drawn (replies.Accepted [])
+went-rollback h g r k payload discharge fs told m rb o s at dg lg kg og =
+    let opened : is_open r k ≡ true = sym (s.links k) ∙ o in
+    let kept = kept-home h r discharge.txn_id k fs s at in
+    let a = accepted_answer r k payload discharge [] true opened m (held_on r k discharge.txn_id kept.0 kept.1) rb refl in
+    went-steady g told told r (steps.Control k payload) nothing_drawn (replies.Accepted []) a
+    (stands-accepted h g r k payload discharge [] m s a dg lg kg og)
+    (hands-no_commit r k payload (commits-rollback r k payload discharge opened m rb)) refl refl (steady-same told)
+
+commit_hands : (h : Held) (r : List Entry) (k : ℕ) (payload : List ℕ) (discharge : Discharge) (fs : List Frame) → message_of payload ≡ Some (messages.Discharge discharge) → is_rollback discharge.fail ≡ false → is_in h.links.items k ≡ true → Stands h r → look h.live.items discharge.txn_id ≡ Some (k, fs) → hands r (steps.Control k payload) ≡ map stripped fs
+commit_hands h r k payload discharge fs m rb o s at =
+    let opened : is_open r k ≡ true = sym (s.links k) ∙ o in
+    let kept = kept-home h r discharge.txn_id k fs s at in
+    hands-commit r k payload discharge.txn_id (commits-discharge r k payload discharge opened m rb (held_on r k discharge.txn_id kept.0 kept.1)) ∙ ap (map stripped) kept.2
+
+pub went-commit : (h g : Held) (r : List Entry) (k : ℕ) (payload : List ℕ) (discharge : Discharge) (fs : List Frame) (echoes : List Answers) (old new : Told) → message_of payload ≡ Some (messages.Discharge discharge) → is_rollback discharge.fail ≡ false → is_in h.links.items k ≡ true → Stands h r → look h.live.items discharge.txn_id ≡ Some (k, fs) → Distinct g.live.items → ((t : TransactionId) → look g.live.items t ≡ look_without discharge.txn_id h.live.items t) → g.links.items ≡ h.links.items → g.opened ≡ h.opened → HandedSome old new fs echoes → Went g old new r (steps.Control k payload) nothing_drawn (replies.Accepted echoes)
+went-commit h g r k payload discharge fs echoes old new m rb o s at dg lg kg og t =
+    let opened : is_open r k ≡ true = sym (s.links k) ∙ o in
+    let kept = kept-home h r discharge.txn_id k fs s at in
+    let fits : WindowsFit (frames_of r discharge.txn_id) echoes = subst (λ (x : List Frame). WindowsFit x echoes) (sym kept.2) t.fits in
+    let a = accepted_answer r k payload discharge echoes false opened m (held_on r k discharge.txn_id kept.0 kept.1) rb fits in
+    record {
+      answer = a;
+      stands = stands-accepted h g r k payload discharge echoes m s a dg lg kg og;
+      taken = t.taken ∙ ap (λ x. grown old.taken (zip x (given_of echoes))) (sym (commit_hands h r k payload discharge fs m rb o s at));
+      opened = adds_nothing old.opened new.opened [] refl t.opened;
+      refused = adds_nothing old.refused new.refused [] refl t.refused;
+    }
+
+part_adds : (r : List Entry) (s : Step) (handed : List Frame) (at : ℕ) (own : SessionInnerError) (more : List Refusal) → RefusedAt handed at own more → AddsRefusal s handed at (fault_of own) more
+part_adds r s handed at own more (inl x) = (own, refl, inl x)
+part_adds r s handed at own more (inr x) = (own, refl, inr (x.0, inr x.1))
+
+pub refused-commit : (h : Held) (r : List Entry) (k : ℕ) (payload : List ℕ) (discharge : Discharge) (fs : List Frame) (own : SessionInnerError) (handed : ℕ) (old new : Told) → message_of payload ≡ Some (messages.Discharge discharge) → is_rollback discharge.fail ≡ false → is_in h.links.items k ≡ true → Stands h r → look h.live.items discharge.txn_id ≡ Some (k, fs) → HandedPart old new fs own handed → Refused old new r (steps.Control k payload) (fault_of own) handed
+refused-commit h r k payload discharge fs own handed old new m rb o s at t =
+    let all = commit_hands h r k payload discharge fs m rb o s at in
+    let e : length (hands r (steps.Control k payload)) ≡ length fs = ap length all ∙ length-map fs stripped in
+    record {
+      fits = omega (arith, t.some, e);
+      took = (omega (arith, t.within, e), subst (λ (x : List Frame). TookFrames old.taken new.taken (take handed x)) (sym all) t.took);
+      opened = t.opened;
+      refused = (
+        t.refused.0,
+        subst (λ (x : List Frame). AddsRefusal (steps.Control k payload) x handed (fault_of own) t.refused.0) (sym all) (part_adds r (steps.Control k payload) (map stripped fs) handed own t.refused.0 t.refused.1),
+        t.refused.2,
+      );
+    }
+
+pub stayed-commit : (h : Held) (r : List Entry) (k : ℕ) (payload : List ℕ) (discharge : Discharge) (fs : List Frame) → message_of payload ≡ Some (messages.Discharge discharge) → is_rollback discharge.fail ≡ false → is_in h.links.items k ≡ true → Stands h r → look h.live.items discharge.txn_id ≡ Some (k, fs) → Stayed h r (steps.Control k payload)
+stayed-commit h r k payload discharge fs m rb o s at =
+    let kept = kept-home h r discharge.txn_id k fs s at in
+    record {
+      stands = s;
+      takes =
+          ap (λ b. b && message_takes_memory r k (message_of payload)) (sym (s.links k) ∙ o) ∙ ap (message_takes_memory r k) m
+          ∙ ap (λ b. not b && is_held_on r k discharge.txn_id) rb ∙ held_on r k discharge.txn_id kept.0 kept.1;
+    }
+
+-- what is kept for another link isn't held on this one
+pub held_elsewhere : (h : Held) (r : List Entry) (k : ℕ) (u : TransactionId) (j : ℕ) (fs : List Frame) → Stands h r → look h.live.items u ≡ Some (j, fs) → (j ≡ k → ⊥) → is_held_on r k u ≡ false
+held_elsewhere h r k u j fs s e n =
+    let kept = kept-home h r u j fs s e in
+    ap (λ b. is_live r u && b) (ne_eqb (home r u) k (λ x. n (sym kept.1 ∙ x))) ∙ and_right (is_live r u) false refl
+
+-- one look, two answers
+pub held_here : (h : Held) (u : TransactionId) (j i : ℕ) (fs gs : List Frame) (k : ℕ) → look h.live.items u ≡ Some (j, fs) → look h.live.items u ≡ Some (i, gs) → i ≡ k → look h.live.items u ≡ Some (k, fs)
+held_here h u j i fs gs k a b e =
+    let both : Some (j, fs) ≡ Some (i, gs) = sym a ∙ b in
+    let pair : ◌≡◌ {A = ℕ × List Frame} (j, fs) (i, gs) = cc both in
+    a ∙ ap (λ x. Some (x, fs)) (ap (λ (p : ℕ × List Frame). p.0) pair ∙ e)
+
+-- ---- links that end or close
+
+link_end_answer : (r : List Entry) (k : ℕ) (b : Bool) (reply : Reply) → is_open r k ≡ b → AnswerLinkEnd b reply → Answer r (steps.LinkEnd k) [] reply
+link_end_answer r k b reply o a = let P : Bool → Type 0 = λ x. AnswerLinkEnd x reply in (refl, subst P (sym o) a)
+
+pub went-no_link_end : (h : Held) (r : List Entry) (k : ℕ) (told : Told) → is_in h.links.items k ≡ false → Stands h r → Went h told told r (steps.LinkEnd k) nothing_drawn replies.NoLink
+went-no_link_end h r k told o s =
+    let a = link_end_answer r k false replies.NoLink (sym (s.links k) ∙ o) tt in
+    went-steady h told told r (steps.LinkEnd k) nothing_drawn replies.NoLink a
+    (stands-quiet h r (entry_of (steps.LinkEnd k) nothing_drawn replies.NoLink) s a (record { declares = λ t. refl; discharges = λ t. refl; attaches = λ j. refl; closes = λ j. refl; attached = refl }) (λ t. refl))
+    refl refl refl (steady-same told)
+
+pub went-link_end : (h g : Held) (r : List Entry) (k : ℕ) (told : Told) → is_in h.links.items k ≡ true → Stands h r → g.live.items ≡ filter (λ l. not (l.holder == k)) h.live.items → g.links.items ≡ filter (λ j. not (j == k)) h.links.items → g.opened ≡ h.opened → Went g told told r (steps.LinkEnd k) nothing_drawn replies.LinkEnded
+went-link_end h g r k told o s lg kg og =
+    let a = link_end_answer r k true replies.LinkEnded (sym (s.links k) ∙ o) tt in
+    went-steady g told told r (steps.LinkEnd k) nothing_drawn replies.LinkEnded a
+    (stands-closed h g r (entry_of (steps.LinkEnd k) nothing_drawn replies.LinkEnded) k s a (λ t. refl) (λ t. refl) (λ t. refl) (λ j. refl) (λ j. refl) refl lg kg og)
+    refl refl refl (steady-same told)
+
+pub went-close : (h g : Held) (r : List Entry) (k : ℕ) (payload : List ℕ) (told : Told) → message_of payload ≡ None → is_in h.links.items k ≡ true → Stands h r → g.live.items ≡ filter (λ l. not (l.holder == k)) h.live.items → g.links.items ≡ filter (λ j. not (j == k)) h.links.items → g.opened ≡ h.opened → Went g told told r (steps.Control k payload) nothing_drawn (replies.LinkClosed amqp_errors.NotAllowed)
+went-close h g r k payload told m o s lg kg og =
+    let opened : is_open r k ≡ true = sym (s.links k) ∙ o in
+    let a = control_answer r k payload None [] (replies.LinkClosed amqp_errors.NotAllowed) opened m refl in
+    went-steady g told told r (steps.Control k payload) nothing_drawn (replies.LinkClosed amqp_errors.NotAllowed) a
+    (stands-closed h g r (entry_of (steps.Control k payload) nothing_drawn (replies.LinkClosed amqp_errors.NotAllowed)) k s a (λ t. refl) (λ t. refl) (λ t. refl) (λ j. refl) (λ j. refl) refl lg kg og)
+    (hands-no_commit r k payload (commits-at r k payload true None opened m)) refl refl (steady-same told)
+
+pub went-no_link : (h : Held) (r : List Entry) (k : ℕ) (payload : List ℕ) (told : Told) → is_in h.links.items k ≡ false → Stands h r → Went h told told r (steps.Control k payload) nothing_drawn replies.NoLink
+went-no_link h r k payload told o s =
+    let shut : is_open r k ≡ false = sym (s.links k) ∙ o in
+    let P : Bool → Type 0 = λ b. AnswerControl r k b (message_of payload) [] replies.NoLink in
+    let a : Answer r (steps.Control k payload) [] replies.NoLink = subst P (sym shut) refl in
+    went-steady h told told r (steps.Control k payload) nothing_drawn replies.NoLink a
+    (stands-quiet h r (entry_of (steps.Control k payload) nothing_drawn replies.NoLink) s a (record { declares = λ t. refl; discharges = λ t. refl; attaches = λ j. refl; closes = λ j. refl; attached = refl }) (λ t. refl))
+    (hands-no_commit r k payload (commits-at r k payload false (message_of payload) shut refl)) refl refl (steady-same told)
+
+-- ---- a declare
+
+abbrev pub declare_of : Option TransactionId → Option ControlMessageBody
+declare_of global = Some (messages.Declare (record { global_id = global }))
+
+declare_hands_nothing : (r : List Entry) (k : ℕ) (payload : List ℕ) (global : Option TransactionId) → is_open r k ≡ true → message_of payload ≡ declare_of global → hands r (steps.Control k payload) ≡ []
+declare_hands_nothing r k payload global o m = hands-no_commit r k payload (commits-at r k payload true (declare_of global) o m)
+
+pub went-global : (h : Held) (r : List Entry) (k : ℕ) (payload : List ℕ) (global : TransactionId) (told : Told) → message_of payload ≡ declare_of (Some global) → is_in h.links.items k ≡ true → Stands h r → Went h told told r (steps.Control k payload) nothing_drawn (replies.Rejected transaction_errors.UnknownId texts.GlobalId)
+went-global h r k payload global told m o s =
+    let opened : is_open r k ≡ true = sym (s.links k) ∙ o in
+    let a = control_answer r k payload (declare_of (Some global)) [] (replies.Rejected transaction_errors.UnknownId texts.GlobalId) opened m refl in
+    went-steady h told told r (steps.Control k payload) nothing_drawn (replies.Rejected transaction_errors.UnknownId texts.GlobalId) a
+    (stands-quiet h r (entry_of (steps.Control k payload) nothing_drawn (replies.Rejected transaction_errors.UnknownId texts.GlobalId)) s a (quiet-rejected k payload nothing_drawn texts.GlobalId) (λ t. refl))
+    (declare_hands_nothing r k payload (Some global) opened m) refl refl (steady-same told)
+
+all_same : (p q : TransactionId → Bool) (xs : List TransactionId) → ((x : TransactionId) → p x ≡ q x) → list_all p xs ≡ list_all q xs
+all_same p q [] h = refl
+all_same p q (x ∷ xs) h = ap (λ b. b && list_all p xs) (h x) ∙ ap (λ b. q x && b) (all_same p q xs h)
+
+pub went-declared : (h g : Held) (r : List Entry) (k : ℕ) (payload : List ℕ) (d : DrawnIds) (t : TransactionId) (told : Told) → message_of payload ≡ declare_of None → is_in h.links.items k ≡ true → Stands h r → DrewUnused h.live.items d.ids t → g.live.items ≡ h.live.items ++ record { id = t; holder = k; frames = [] } ∷ [] → g.links.items ≡ h.links.items → g.opened ≡ h.opened → Went g told told r (steps.Control k payload) d (replies.Declared t)
+went-declared h g r k payload d t told m o s u lg kg og =
+    let opened : is_open r k ≡ true = sym (s.links k) ∙ o in
+    let dead : is_live r t ≡ false = sym (kept_live h r t s) ∙ ap is_some u.unused in
+    let before = u.parts.0 in
+    let draws : Draws r d.ids t = (before, u.parts.1, u.count, sym (all_same (is_kept h.live.items) (is_live r) before (λ x. kept_live h r x s)) ∙ u.parts.2, dead) in
+    let a = control_answer r k payload (declare_of None) d.ids (replies.Declared t) opened m draws in
+    let one : Live = record { id = t; holder = k; frames = [] } in
+    went-steady g told told r (steps.Control k payload) d (replies.Declared t) a
+    (stands-declared h g r (entry_of (steps.Control k payload) d (replies.Declared t)) t s a dead opened (λ x. refl) (λ x. refl) (λ x. refl) (λ j. refl) (λ j. refl) refl
+    (subst Distinct (sym lg) (Distinct_push h.live.items one u.unused s.distinct))
+    (λ x. ap (λ ls. look ls x) lg ∙ look_push h.live.items one x u.unused) kg og)
+    (declare_hands_nothing r k payload None opened m) refl refl (steady-same told)
+
+pub went-repeat : (h g : Held) (r : List Entry) (k : ℕ) (payload : List ℕ) (d : DrawnIds) (told : Told) → message_of payload ≡ declare_of None → is_in h.links.items k ≡ true → Stands h r → DrewLive h.live.items d.ids → g.live.items ≡ h.live.items → g.links.items ≡ h.links.items → g.opened ≡ h.opened → Went g told told r (steps.Control k payload) d (replies.Rejected transaction_errors.UnknownId texts.IdsRepeat)
+went-repeat h g r k payload d told m o s u lg kg og =
+    let opened : is_open r k ≡ true = sym (s.links k) ∙ o in
+    let a = control_answer r k payload (declare_of None) d.ids (replies.Rejected transaction_errors.UnknownId texts.IdsRepeat) opened m (u.count, sym (all_same (is_kept h.live.items) (is_live r) d.ids (λ x. kept_live h r x s)) ∙ u.all) in
+    went-steady g told told r (steps.Control k payload) d (replies.Rejected transaction_errors.UnknownId texts.IdsRepeat) a
+    (stands-quiet g r (entry_of (steps.Control k payload) d (replies.Rejected transaction_errors.UnknownId texts.IdsRepeat)) (stands-moved h g r s lg kg og) a (quiet-rejected k payload d texts.IdsRepeat) (λ t. refl))
+    (declare_hands_nothing r k payload None opened m) refl refl (steady-same told)
+
+pub stayed-declare : (h g : Held) (r : List Entry) (k : ℕ) (payload : List ℕ) → message_of payload ≡ declare_of None → is_in h.links.items k ≡ true → Stands h r → Stands g r → Stayed g r (steps.Control k payload)
+stayed-declare h g r k payload m o s sg = record {
+  stands = sg;
+  takes = ap (λ b. b && message_takes_memory r k (message_of payload)) (sym (s.links k) ∙ o) ∙ ap (message_takes_memory r k) m;
+}
+
+-- ---- the loop of draws
+
+pub all-snoc : (live : List Live) (ds : List TransactionId) (d : TransactionId) → list_all (is_kept live) ds ≡ true → (look live d ≡ None → ⊥) → list_all (is_kept live) (ds ++ d ∷ []) ≡ true
+all-snoc live ds d a n = list_all-append (is_kept live) ds (d ∷ []) ∙ ap (λ b. b && (is_kept live d && true)) a ∙ here (look live d) n
+  where
+    here : (o : Option (ℕ × List Frame)) → (o ≡ None → ⊥) → (is_some o && true) ≡ true
+    here None x = absurd (x refl)
+    here (Some k) x = refl
+
+-- ---- ends
+
+pub ended_gives : (h : Held) (old new : Told) (r : List Entry) (s : Step) (reason : SessionStopReason) (takes : Bool) (error : StepError) → ended_by s ≡ Some reason → takes_memory r s ≡ takes → Stands h r → EndGave reason takes error → StepGave h old new r s (Err error)
+ended_gives h old new r s reason takes (errors.Ended got) e m st g = e ∙ ap Some (sym g)
+ended_gives h old new r s reason takes errors.NoMemory e m st g = record { stands = st; takes = m ∙ g }
+ended_gives h old new r s reason takes (errors.Fault error handed) e m st g = absurd g
+ended_gives h old new r s reason takes (errors.Stopped code) e m st g = absurd g

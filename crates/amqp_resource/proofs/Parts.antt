@@ -1,0 +1,242 @@
+-- The parts of what a step leaves, as its public clauses say them.
+use Rattle.std.proofs.Common.{◌≡◌, ℕ, Bool, true, false, Option, Some, None, Result, Ok, Err, List, [], ◌∷◌, ◌++◌, length, take, refl, sym, ◌∙◌, ap, subst, inl, inr, ◌≤◌}
+use Rattle.std.specs.Prelude.{◌⊎◌, ⊤, MatchBool, IfOk, IfErr, OnErr}
+use Rattle.std.specs.List.{zip}
+use Rattle.amqp_txn_types.specs.declared.id.TransactionId.{TransactionId}
+use Rattle.amqp_txn_types.specs.declared.delivery.SessionStopReason.{SessionStopReason}
+use Rattle.amqp_txn_types.specs.declared.performatives.Frame.{Frame}
+use Rattle.amqp_txn_types.specs.Frames.{txn}
+use Rattle.amqp_txn_codec.specs.declared.message.ControlMessageBody.{ControlMessageBody}
+use Rattle.amqp_txn_codec.specs.declared.message.ControlMessageBody.TheVariants as messages
+use Rattle.amqp_txn_codec.specs.Reading.{message_of}
+use Rattle.amqp_below.specs.declared.inner_error.SessionInnerError.{SessionInnerError}
+use Rattle.amqp_below.specs.declared.inner_error.SessionInnerError.TheVariants as faults
+use Rattle.amqp_below.specs.declared.refusal.Refusal.{Refusal}
+use Rattle.amqp_below.specs.Drawn.{DrawnIds}
+use Rattle.amqp_below.specs.Told.{Told, grown, Rose}
+use Rattle.amqp_record.specs.declared.entry.Entry.{Entry}
+use Rattle.amqp_record.specs.declared.step.Step.{Step}
+use Rattle.amqp_record.specs.declared.step.Step.TheVariants as steps
+use Rattle.amqp_record.specs.declared.reply.Reply.{Reply}
+use Rattle.amqp_record.specs.declared.reply.Reply.TheVariants as replies
+use Rattle.amqp_record.specs.declared.stop.StepError.{StepError}
+use Rattle.amqp_record.specs.declared.stop.StepError.TheVariants as errors
+use Rattle.amqp_record.specs.Links.{is_open}
+use Rattle.amqp_record.specs.Live.{is_live}
+use Rattle.amqp_record.specs.Hands.{hands}
+use Rattle.amqp_record.specs.Work.{given_by}
+use Rattle.amqp_record.specs.Answers.{Answer, AnswerFrame, AnswerControl, AnswerDeclare, AnswerMessage, AnswerLinkEnd}
+use Rattle.amqp_record.specs.Opened.{opened_by, refused_by}
+use Rattle.amqp_resource.specs.declared.held.Held.{Held}
+use Rattle.amqp_resource.specs.Held.{Stands}
+use Rattle.amqp_resource.specs.Taking.{TookFrames}
+use Rattle.amqp_resource.specs.Steps.{FrameMayFault, IfAttachRefused, IfEnded, IfRefused, IfUnknown, IsControlAttach, IsDead, IsFirstStop, MayFault, OnAttachRefused, OnNoMemory, OnOwnError, OpenedBy, Refused, RefusedAdds, RefusedBy, StepCause, StepGave, TookFirst, TookHands, UnderDead, ended_by, entry_of, is_live_under, is_unknown, takes_memory}
+
+-- ---- choices
+
+on_false : (A : Type 0) {B C : Type 0} (b : Bool) → (B → C) → MatchBool b A B → MatchBool b ⊤ C
+on_false A true f x = tt
+on_false A false f x = f x
+
+on_true : {A C : Type 0} (B : Type 0) (b : Bool) → (A → C) → MatchBool b A B → MatchBool b C ⊤
+on_true B true f x = f x
+on_true B false f x = tt
+
+in_both : (A : Type 0) {B C : Type 0} (b : Bool) → (B → C) → MatchBool b A B → MatchBool b C ⊤ → C
+in_both A true f x y = y
+in_both A false f x y = f x
+
+in_none : {A B : Type 0} (b : Bool) → (A → ⊥) → (B → ⊥) → MatchBool b A B → ⊥
+in_none true f h x = f x
+in_none false f h x = h x
+
+pub own_weaker : (result : Result (DrawnIds × Reply) StepError) (P Q : Type 0) → (P → Q) → OnOwnError result P → OnOwnError result Q
+own_weaker (Ok out) P Q f x = tt
+own_weaker (Err (errors.Fault error handed)) P Q f x = on_true _ (is_unknown error) f x
+own_weaker (Err (errors.Ended reason)) P Q f x = f x
+own_weaker (Err (errors.Stopped code)) P Q f x = f x
+own_weaker (Err errors.NoMemory) P Q f x = f x
+
+-- ---- what is so of a reply
+
+pub gave_answer : (h : Held) (old new : Told) (r : List Entry) (s : Step) (result : Result (DrawnIds × Reply) StepError) → StepGave h old new r s result → IfOk result (λ out. Answer r s out.0.ids out.1)
+gave_answer h old new r s (Ok out) g = g.answer
+gave_answer h old new r s (Err error) g = tt
+
+pub gave_stands : (h : Held) (old new : Told) (r : List Entry) (s : Step) (result : Result (DrawnIds × Reply) StepError) → StepGave h old new r s result → IfOk result (λ out. Stands h (r ++ entry_of s out.0 out.1 ∷ []))
+gave_stands h old new r s (Ok out) g = g.stands
+gave_stands h old new r s (Err error) g = tt
+
+pub gave_taken : (h : Held) (old new : Told) (r : List Entry) (s : Step) (result : Result (DrawnIds × Reply) StepError) → StepGave h old new r s result → IfOk result (λ out. TookHands old new r s out.1)
+gave_taken h old new r s (Ok out) g = g.taken
+gave_taken h old new r s (Err error) g = tt
+
+pub gave_opened : (h : Held) (old new : Told) (r : List Entry) (s : Step) (result : Result (DrawnIds × Reply) StepError) → StepGave h old new r s result → IfOk result (λ out. OpenedBy old new s out.1)
+gave_opened h old new r s (Ok out) g = g.opened
+gave_opened h old new r s (Err error) g = tt
+
+pub gave_refused : (h : Held) (old new : Told) (r : List Entry) (s : Step) (result : Result (DrawnIds × Reply) StepError) → StepGave h old new r s result → IfOk result (λ out. RefusedBy old new s out.1)
+gave_refused h old new r s (Ok out) g = g.refused
+gave_refused h old new r s (Err error) g = tt
+
+-- ---- what is so of a refusal below
+
+on_refused : (h : Held) (old new : Told) (r : List Entry) (s : Step) (result : Result (DrawnIds × Reply) StepError) (P : SessionInnerError → ℕ → Type 0) → ((error : SessionInnerError) (handed : ℕ) → Refused old new r s error handed → P error handed) → StepGave h old new r s result → IfRefused result P
+on_refused h old new r s (Ok out) P f g = tt
+on_refused h old new r s (Err (errors.Fault error handed)) P f g = on_false _ (is_unknown error) (f error handed) g
+on_refused h old new r s (Err (errors.Ended reason)) P f g = tt
+on_refused h old new r s (Err (errors.Stopped code)) P f g = tt
+on_refused h old new r s (Err errors.NoMemory) P f g = tt
+
+pub gave_part : (h : Held) (old new : Told) (r : List Entry) (s : Step) (result : Result (DrawnIds × Reply) StepError) → StepGave h old new r s result → IfRefused result (λ error handed. TookFirst old new r s handed)
+gave_part h old new r s result g = on_refused h old new r s result (λ error handed. TookFirst old new r s handed) (λ error handed x. x.took) g
+
+pub gave_last : (h : Held) (old new : Told) (r : List Entry) (s : Step) (result : Result (DrawnIds × Reply) StepError) → StepGave h old new r s result → IfRefused result (λ error handed. RefusedAdds old new r s error handed)
+gave_last h old new r s result g = on_refused h old new r s result (λ error handed. RefusedAdds old new r s error handed) (λ error handed x. x.refused) g
+
+pub gave_cause : (h : Held) (old new : Told) (r : List Entry) (s : Step) (result : Result (DrawnIds × Reply) StepError) → StepGave h old new r s result → IfRefused result (λ error handed. MayFault r s)
+gave_cause h old new r s result g = on_refused h old new r s result (λ error handed. MayFault r s) (λ error handed x. x.fits) g
+
+pub opened_none : (h : Held) (old new : Told) (r : List Entry) (s : Step) (result : Result (DrawnIds × Reply) StepError) → StepGave h old new r s result → OnOwnError result (new.opened ≡ old.opened) → OnErr result (new.opened ≡ old.opened)
+opened_none h old new r s (Ok out) g x = tt
+opened_none h old new r s (Err (errors.Fault error handed)) g x = in_both _ (is_unknown error) (λ f. f.opened) g x
+opened_none h old new r s (Err (errors.Ended reason)) g x = x
+opened_none h old new r s (Err (errors.Stopped code)) g x = x
+opened_none h old new r s (Err errors.NoMemory) g x = x
+
+-- ---- unknown ids
+
+dead_frame : (r : List Entry) (frame : Frame) (o : Option TransactionId) (reply : Reply) → IsDead r o → AnswerFrame r frame o reply → ⊥
+dead_frame r frame None reply d a = d
+dead_frame r frame (Some t) (replies.Frames given) d a = let h = a.0 in cc (h, d)
+dead_frame r frame (Some t) _ d a = a
+
+dead_unanswered : (r : List Entry) (s : Step) (d : List TransactionId) (reply : Reply) → UnderDead r s → Answer r s d reply → ⊥
+dead_unanswered r (steps.Frame frame) d reply u a = dead_frame r frame (txn frame) reply u a.1
+dead_unanswered r _ d reply u a = u
+
+dead_no_fault : (r : List Entry) (s : Step) → UnderDead r s → MayFault r s → ⊥
+dead_no_fault r (steps.Frame frame) u f = by_id (txn frame) u f
+  where
+    by_id : (o : Option TransactionId) → IsDead r o → FrameMayFault r frame o → ⊥
+    by_id None u f = u
+    by_id (Some t) u f = let h = f.0 in cc (h, u)
+dead_no_fault r _ u f = u
+
+dead_no_memory : (r : List Entry) (s : Step) → UnderDead r s → takes_memory r s ≡ true → ⊥
+dead_no_memory r (steps.Frame frame) u f = by_id (txn frame) u f
+  where
+    by_id : (o : Option TransactionId) → IsDead r o → is_live_under r o ≡ true → ⊥
+    by_id None u f = u
+    by_id (Some t) u f = cc (f, u)
+dead_no_memory r _ u f = u
+
+dead_no_end : (r : List Entry) (s : Step) (reason : SessionStopReason) → UnderDead r s → ended_by s ≡ Some reason → ⊥
+dead_no_end r (steps.Frame frame) reason u e = cc e
+dead_no_end r _ reason u e = u
+
+pub gave_unknown : (h : Held) (old new : Told) (r : List Entry) (s : Step) (result : Result (DrawnIds × Reply) StepError) → StepGave h old new r s result → UnderDead r s → result ≡ Err (errors.Fault faults.UnknownTxnId 0)
+gave_unknown h old new r s (Ok out) g u = absurd (dead_unanswered r s out.0.ids out.1 u g.answer)
+gave_unknown h old new r s (Err (errors.Fault faults.UnknownTxnId handed)) g u = ap (λ n. Err (errors.Fault faults.UnknownTxnId n)) g.1
+gave_unknown h old new r s (Err (errors.Fault error handed)) g u = absurd (dead_no_fault r s u g.fits)
+gave_unknown h old new r s (Err (errors.Ended reason)) g u = absurd (dead_no_end r s reason u g)
+gave_unknown h old new r s (Err (errors.Stopped code)) g u = absurd g
+gave_unknown h old new r s (Err errors.NoMemory) g u = absurd (dead_no_memory r s u g.takes)
+
+pub gave_unknown_only : (h : Held) (old new : Told) (r : List Entry) (s : Step) (result : Result (DrawnIds × Reply) StepError) → StepGave h old new r s result → IfUnknown result (λ handed. UnderDead r s × (handed ≡ 0))
+gave_unknown_only h old new r s (Ok out) g = tt
+gave_unknown_only h old new r s (Err (errors.Fault error handed)) g = on_true _ (is_unknown error) (λ x. x) g
+gave_unknown_only h old new r s (Err (errors.Ended reason)) g = tt
+gave_unknown_only h old new r s (Err (errors.Stopped code)) g = tt
+gave_unknown_only h old new r s (Err errors.NoMemory) g = tt
+
+-- ---- ends
+
+end_unanswered : (r : List Entry) (s : Step) (reason : SessionStopReason) (d : List TransactionId) (reply : Reply) → ended_by s ≡ Some reason → Answer r s d reply → ⊥
+end_unanswered r (steps.Frame frame) reason d reply e a = cc e
+end_unanswered r (steps.Control k payload) reason d reply e a = cc e
+end_unanswered r (steps.LinkEnd k) reason d reply e a = cc e
+end_unanswered r (steps.LocalEnd error) reason d reply e a = a
+end_unanswered r (steps.RemoteEnd error) reason d reply e a = a
+end_unanswered r (steps.ConnectionStop stop) reason d reply e a = a
+
+end_no_fault : (r : List Entry) (s : Step) (reason : SessionStopReason) → ended_by s ≡ Some reason → MayFault r s → ⊥
+end_no_fault r (steps.Frame frame) reason e f = cc e
+end_no_fault r (steps.Control k payload) reason e f = cc e
+end_no_fault r (steps.LinkEnd k) reason e f = cc e
+end_no_fault r (steps.LocalEnd error) reason e f = f
+end_no_fault r (steps.RemoteEnd error) reason e f = f
+end_no_fault r (steps.ConnectionStop stop) reason e f = f
+
+pub gave_ended : (h : Held) (old new : Told) (r : List Entry) (s : Step) (result : Result (DrawnIds × Reply) StepError) → StepGave h old new r s result → (reason : SessionStopReason) → ended_by s ≡ Some reason → (result ≡ Err (errors.Ended reason)) ⊎ (result ≡ Err errors.NoMemory)
+gave_ended h old new r s (Ok out) g reason e = absurd (end_unanswered r s reason out.0.ids out.1 e g.answer)
+gave_ended h old new r s (Err (errors.Fault error handed)) g reason e = absurd (in_none (is_unknown error) (λ x. dead_no_end r s reason x.0 e) (λ x. end_no_fault r s reason e x.fits) g)
+gave_ended h old new r s (Err (errors.Ended got)) g reason e = let same : got ≡ reason = cc (g, e) in inl (ap (λ x. Err (errors.Ended x)) same)
+gave_ended h old new r s (Err (errors.Stopped code)) g reason e = absurd g
+gave_ended h old new r s (Err errors.NoMemory) g reason e = inr refl
+
+-- ---- want of memory
+
+pub gave_memory : (h : Held) (old new : Told) (r : List Entry) (s : Step) (result : Result (DrawnIds × Reply) StepError) → StepGave h old new r s result → OnNoMemory result (Stands h r × (takes_memory r s ≡ true))
+gave_memory h old new r s (Ok out) g = tt
+gave_memory h old new r s (Err (errors.Fault error handed)) g = tt
+gave_memory h old new r s (Err (errors.Ended reason)) g = tt
+gave_memory h old new r s (Err (errors.Stopped code)) g = tt
+gave_memory h old new r s (Err errors.NoMemory) g = (g.stands, g.takes)
+
+-- ---- causes
+
+pub cause_rose : (before now : ℕ) (s : Step) (result : Result (DrawnIds × Reply) StepError) → StepCause before now s result → IfRefused result (λ error handed. Rose before now)
+cause_rose before now s (Ok out) c = tt
+cause_rose before now s (Err (errors.Fault error handed)) c = on_false _ (is_unknown error) (λ x. x) c
+cause_rose before now s (Err (errors.Ended reason)) c = tt
+cause_rose before now s (Err (errors.Stopped code)) c = tt
+cause_rose before now s (Err errors.NoMemory) c = tt
+
+pub cause_ended : (before now : ℕ) (s : Step) (result : Result (DrawnIds × Reply) StepError) → StepCause before now s result → IfEnded result (λ reason. ended_by s ≡ Some reason)
+cause_ended before now s (Ok out) c = tt
+cause_ended before now s (Err (errors.Fault error handed)) c = tt
+cause_ended before now s (Err (errors.Ended reason)) c = c
+cause_ended before now s (Err (errors.Stopped code)) c = tt
+cause_ended before now s (Err errors.NoMemory) c = tt
+
+pub cause_first : (before now : ℕ) (s : Step) (result : Result (DrawnIds × Reply) StepError) → StepCause before now s result → IfErr result IsFirstStop
+cause_first before now s (Ok out) c = tt
+cause_first before now s (Err (errors.Fault error handed)) c = tt
+cause_first before now s (Err (errors.Ended reason)) c = tt
+cause_first before now s (Err (errors.Stopped code)) c = absurd c
+cause_first before now s (Err errors.NoMemory) c = tt
+
+attach_only : (r : List Entry) (s : Step) (d : List TransactionId) (error : SessionInnerError) → Answer r s d (replies.AttachRefused error) → IsControlAttach s
+attach_only r (steps.Frame frame) d error a = by_id (txn frame) a.1
+  where
+    by_id : (o : Option TransactionId) → AnswerFrame r frame o (replies.AttachRefused error) → IsControlAttach (steps.Frame frame)
+    by_id None x = x
+    by_id (Some t) x = absurd x
+attach_only r (steps.Control k payload) d error a = absurd (by_open (is_open r k) (message_of payload) a)
+  where
+    by_open : (b : Bool) (m : Option ControlMessageBody) → AnswerControl r k b m d (replies.AttachRefused error) → ⊥
+    by_open false m x = x
+    by_open true None x = x
+    by_open true (Some (messages.Declare declare)) x = by_global declare.global_id x
+      where
+        by_global : (o : Option TransactionId) → AnswerDeclare r o d (replies.AttachRefused error) → ⊥
+        by_global None y = y
+        by_global (Some t) y = y
+    by_open true (Some (messages.Discharge discharge)) x = x
+attach_only r (steps.LinkEnd k) d error a = absurd (by_open (is_open r k) a.1)
+  where
+    by_open : (b : Bool) → AnswerLinkEnd b (replies.AttachRefused error) → ⊥
+    by_open false x = x
+    by_open true x = x
+attach_only r (steps.LocalEnd e) d error a = absurd a
+attach_only r (steps.RemoteEnd e) d error a = absurd a
+attach_only r (steps.ConnectionStop e) d error a = absurd a
+
+by_attach : (before now : ℕ) (r : List Entry) (s : Step) (d : List TransactionId) (reply : Reply) → Answer r s d reply → IfAttachRefused reply (Rose before now) → IfAttachRefused reply (Rose before now × IsControlAttach s)
+by_attach before now r s d (replies.AttachRefused error) a c = (c, attach_only r s d error a)
+by_attach before now r s d _ a c = tt
+
+pub gave_attach : (h : Held) (old new : Told) (before now : ℕ) (r : List Entry) (s : Step) (result : Result (DrawnIds × Reply) StepError) → StepGave h old new r s result → StepCause before now s result → OnAttachRefused result (Rose before now × IsControlAttach s)
+gave_attach h old new before now r s (Ok out) g c = by_attach before now r s out.0.ids out.1 g.answer c
+gave_attach h old new before now r s (Err error) g c = tt

@@ -1,0 +1,270 @@
+-- What the record says is kept, with one entry more.
+use Rattle.std.proofs.Common.{◌≡◌, ℕ, zero, suc, ◌+◌, ◌<◌, ◌≤◌, Bool, true, false, cond, not, ◌&&◌, ◌||◌, Option, Some, None, List, [], ◌∷◌, ◌++◌, length, refl, sym, ◌∙◌, ap, arith, subst, append-nil, add-zero}
+use Rattle.std.specs.Prelude.{◌==◌, is_some, MatchOption}
+use Rattle.std.specs.List.{list_any, filter}
+use Rattle.std.proofs.lemmas.Bool.{ne_eqb, eqb-true, eq-eqb, and_right, and_parts, and_cases, false_from_ne_true, cases_Bool}
+use Rattle.amqp_txn_types.specs.declared.id.TransactionId.{TransactionId}
+use Rattle.amqp_txn_types.specs.declared.performatives.Frame.{Frame}
+use Rattle.amqp_record.specs.Entries.{same_id}
+use Rattle.amqp_record.specs.declared.entry.Entry.{Entry}
+use Rattle.amqp_record.specs.declared.step.Step.{Step}
+use Rattle.amqp_record.specs.declared.step.Step.TheVariants as steps
+use Rattle.amqp_record.specs.declared.reply.Reply.{Reply}
+use Rattle.amqp_record.specs.declared.reply.Reply.TheVariants as replies
+use Rattle.amqp_record.specs.Entries.{declares, discharges, under, attaches, closes, is_attached, step_link, reply_attaches}
+use Rattle.amqp_record.specs.Links.{is_open, attached_count}
+use Rattle.amqp_record.specs.Live.{is_live, undischarged, since, home}
+use Rattle.amqp_record.specs.Hands.{frames_of, frame_of_step}
+use Rattle.amqp_record.specs.Legal.{IsLegal}
+use Rattle.amqp_record.specs.Answers.{Answer}
+use Rattle.amqp_record.proofs.Living.{live-at, live_undischarged, live_open, live-other, live-same}
+use Rattle.amqp_record.proofs.Looking.{is_open-other, is_open-closed, home-declared, home-other, undischarged-declared, undischarged-other, frames_of-declared, frames_of-other}
+use Rattle.amqp_record.proofs.Whole.{IsLegal-nil, IsLegal-snoc, count-snoc, is_open-attached, homes_attached}
+use Rattle.std.proofs.lemmas.List.Folds.{list_any-append}
+use Rattle.amqp_record.proofs.Ids.{same_id-refl}
+use Rattle.amqp_resource.proofs.Kept.{found, look_filter, Distinct_filter, is_in_filter}
+use Rattle.amqp_resource.specs.declared.held.Live.{Live}
+use Rattle.amqp_resource.specs.declared.held.Held.{Held}
+use Rattle.amqp_resource.specs.Held.{Stands, StandsAt, look, look_without, Distinct, is_in, kept_by, with_frame, unless_on}
+
+abbrev pub more_frames : Bool → Step → Option (ℕ × List Frame) → Option (ℕ × List Frame)
+more_frames b s None = None
+more_frames b s (Some kept) = Some (kept.0, kept.1 ++ cond b (frame_of_step (Some s)) [])
+
+-- what is kept after such an entry
+pub kept_by-same : (r : List Entry) (e : Entry) (t : TransactionId) → declares t e ≡ false → discharges t e ≡ false → (undischarged r t ≡ true → is_open (r ++ e ∷ []) (home r t) ≡ is_open r (home r t)) → kept_by (r ++ e ∷ []) t ≡ more_frames (under t e) e.step (kept_by r t)
+kept_by-same r e t d x o = ap (λ b. cond b (Some (home (r ++ e ∷ []) t, frames_of (r ++ e ∷ []) t)) None) (live-same r e t d x o) ∙ by_case (is_live r t) refl
+  where
+    by_case : (b : Bool) → is_live r t ≡ b → cond (is_live r t) (Some (home (r ++ e ∷ []) t, frames_of (r ++ e ∷ []) t)) None ≡ more_frames (under t e) e.step (kept_by r t)
+    by_case true h =
+        ap (λ b. cond b (Some (home (r ++ e ∷ []) t, frames_of (r ++ e ∷ []) t)) None) h
+        ∙ ap (λ k. Some (k, frames_of (r ++ e ∷ []) t)) (home-other r e t d)
+        ∙ ap (λ fs. Some (home r t, fs)) (frames_of-other r e t d (live_undischarged r t h))
+        ∙ sym (ap (λ b. more_frames (under t e) e.step (cond b (Some (home r t, frames_of r t)) None)) h)
+    by_case false h =
+        ap (λ b. cond b (Some (home (r ++ e ∷ []) t, frames_of (r ++ e ∷ []) t)) None) h
+        ∙ sym (ap (λ b. more_frames (under t e) e.step (cond b (Some (home r t, frames_of r t)) None)) h)
+
+more_none : (s : Step) (o : Option (ℕ × List Frame)) → more_frames false s o ≡ o
+more_none s None = refl
+more_none s (Some kept) = ap (λ fs. Some (kept.0, fs)) (append-nil kept.1)
+
+pub kept_by-quiet : (r : List Entry) (e : Entry) (t : TransactionId) → declares t e ≡ false → discharges t e ≡ false → under t e ≡ false → (undischarged r t ≡ true → is_open (r ++ e ∷ []) (home r t) ≡ is_open r (home r t)) → kept_by (r ++ e ∷ []) t ≡ kept_by r t
+kept_by-quiet r e t d x u o = kept_by-same r e t d x o ∙ ap (λ b. more_frames b e.step (kept_by r t)) u ∙ more_none e.step (kept_by r t)
+
+-- an accepted discharge
+pub kept_by-discharged : (r : List Entry) (e : Entry) (t : TransactionId) → declares t e ≡ false → discharges t e ≡ true → kept_by (r ++ e ∷ []) t ≡ None
+kept_by-discharged r e t d x =
+    ap (λ b. cond b (Some (home (r ++ e ∷ []) t, frames_of (r ++ e ∷ []) t)) None)
+    (live-other r e t d ∙ ap (λ b. (undischarged r t && not b) && is_open (r ++ e ∷ []) (home r t)) x ∙ ap (λ b. b && is_open (r ++ e ∷ []) (home r t)) (and_right (undischarged r t) false refl))
+
+eqb_sym : (a b : ℕ) → (a == b) ≡ (b == a)
+eqb_sym a b = by_case (a == b) (b == a) refl refl
+  where
+    by_case : (x y : Bool) → (a == b) ≡ x → (b == a) ≡ y → (a == b) ≡ (b == a)
+    by_case true y h g = h ∙ sym (eq-eqb b a (sym (eqb-true a b h)))
+    by_case false true h g = eq-eqb a b (sym (eqb-true b a g)) ∙ sym g
+    by_case false false h g = h ∙ sym g
+
+unless_held : (l b : Bool) (k j : ℕ) (fs : List Frame) → (j == k) ≡ b → unless_on k (cond l (Some (j, fs)) None) ≡ cond b None (cond l (Some (j, fs)) None)
+unless_held true b k j fs h = ap (λ x. cond x None (Some (j, fs))) h
+unless_held false true k j fs h = refl
+unless_held false false k j fs h = refl
+
+-- a closed link
+pub kept_by-closed : (r : List Entry) (e : Entry) (k : ℕ) (t : TransactionId) → declares t e ≡ false → discharges t e ≡ false → under t e ≡ false → ((j : ℕ) → attaches j e ≡ false) → ((j : ℕ) → closes j e ≡ (k == j)) → kept_by (r ++ e ∷ []) t ≡ unless_on k (kept_by r t)
+kept_by-closed r e k t d x u a c = by_case (k == home r t) refl
+  where
+    here : (b : Bool) → (k == home r t) ≡ b → (home r t == k) ≡ b
+    here b h = eqb_sym (home r t) k ∙ h
+
+    unless_kept : (b : Bool) → (home r t == k) ≡ b → unless_on k (kept_by r t) ≡ cond b None (kept_by r t)
+    unless_kept b h = unless_held (is_live r t) b k (home r t) (frames_of r t) h
+
+    by_case : (b : Bool) → (k == home r t) ≡ b → kept_by (r ++ e ∷ []) t ≡ unless_on k (kept_by r t)
+    by_case false h = kept_by-quiet r e t d x u (λ q. is_open-other r e (home r t) (a (home r t)) (c (home r t) ∙ h)) ∙ sym (unless_kept false (here false h))
+    by_case true h =
+        ap (λ b. cond b (Some (home (r ++ e ∷ []) t, frames_of (r ++ e ∷ []) t)) None)
+        (live-other r e t d ∙ ap (λ b. (undischarged r t && not (discharges t e)) && b) (is_open-closed r e (home r t) (c (home r t) ∙ h)) ∙ and_right (undischarged r t && not (discharges t e)) false refl)
+        ∙ sym (unless_kept true (here true h))
+
+-- a declare on a link that is open
+pub kept_by-declared : (r : List Entry) (e : Entry) (t : TransactionId) → declares t e ≡ true → is_open (r ++ e ∷ []) (step_link e.step) ≡ true → kept_by (r ++ e ∷ []) t ≡ Some (step_link e.step, [])
+kept_by-declared r e t d o =
+    ap (λ b. cond b (Some (home (r ++ e ∷ []) t, frames_of (r ++ e ∷ []) t)) None)
+    (live-at (r ++ e ∷ []) t ∙ ap (λ b. b && is_open (r ++ e ∷ []) (home (r ++ e ∷ []) t)) (undischarged-declared r e t d) ∙ ap (is_open (r ++ e ∷ [])) (home-declared r e t d) ∙ o)
+    ∙ ap (λ k. Some (k, frames_of (r ++ e ∷ []) t)) (home-declared r e t d) ∙ ap (λ fs. Some (step_link e.step, fs)) (frames_of-declared r e t d)
+
+-- ---- what is kept stands for a record with one entry more
+
+-- an entry that says nothing of ids and links
+pub record Quiet (e : Entry) : Type 0 where
+  pub declares : (t : TransactionId) → declares t e ≡ false
+  pub discharges : (t : TransactionId) → discharges t e ≡ false
+  pub attaches : (k : ℕ) → attaches k e ≡ false
+  pub closes : (k : ℕ) → closes k e ≡ false
+  pub attached : is_attached e.reply ≡ false
+
+pub quiet_count : (r : List Entry) (e : Entry) → is_attached e.reply ≡ false → attached_count (r ++ e ∷ []) ≡ attached_count r
+quiet_count r e h = count-snoc r e ∙ ap (λ b. attached_count r + cond b 1 0) h ∙ add-zero (attached_count r)
+
+pub stands-quiet : (h : Held) (r : List Entry) (e : Entry) → Stands h r → Answer r e.step e.drawn.ids e.reply → Quiet e → ((t : TransactionId) → under t e ≡ false) → Stands h (r ++ e ∷ [])
+stands-quiet h r e s a q u = record {
+  legal = IsLegal-snoc r e s.legal a;
+  distinct = s.distinct;
+  live = λ t. s.live t ∙ sym (kept_by-quiet r e t (q.declares t) (q.discharges t) (u t) (λ x. is_open-other r e (home r t) (q.attaches (home r t)) (q.closes (home r t))));
+  links = λ k. s.links k ∙ sym (is_open-other r e k (q.attaches k) (q.closes k));
+  opened = s.opened ∙ sym (quiet_count r e q.attached);
+}
+
+with_more : (b : Bool) (frame : Frame) (o : Option (ℕ × List Frame)) → more_frames b (steps.Frame frame) o ≡ cond b (with_frame o frame) o
+with_more true frame None = refl
+with_more false frame None = refl
+with_more true frame (Some kept) = refl
+with_more false frame (Some kept) = ap (λ fs. Some (kept.0, fs)) (append-nil kept.1)
+
+-- a frame under an id
+pub stands-post : (h g : Held) (r : List Entry) (e : Entry) (frame : Frame) (u : TransactionId) → Stands h r → Answer r e.step e.drawn.ids e.reply → Quiet e → e.step ≡ steps.Frame frame → ((t : TransactionId) → under t e ≡ same_id t u) → Distinct g.live.items → ((t : TransactionId) → look g.live.items t ≡ cond (same_id t u) (with_frame (look h.live.items t) frame) (look h.live.items t)) → g.links.items ≡ h.links.items → g.opened ≡ h.opened → Stands g (r ++ e ∷ [])
+stands-post h g r e frame u s a q es ue dg lg kg og = record {
+  legal = IsLegal-snoc r e s.legal a;
+  distinct = dg;
+  live = λ t.
+      lg t ∙ ap (λ o. cond (same_id t u) (with_frame o frame) o) (s.live t)
+      ∙ sym (kept_by-same r e t (q.declares t) (q.discharges t) (λ x. is_open-other r e (home r t) (q.attaches (home r t)) (q.closes (home r t)))
+      ∙ ap (λ b. more_frames b e.step (kept_by r t)) (ue t) ∙ ap (λ x. more_frames (same_id t u) x (kept_by r t)) es ∙ with_more (same_id t u) frame (kept_by r t));
+  links = λ k. ap (λ ks. is_in ks k) kg ∙ s.links k ∙ sym (is_open-other r e k (q.attaches k) (q.closes k));
+  opened = og ∙ s.opened ∙ sym (quiet_count r e q.attached);
+}
+
+-- an accepted discharge
+pub stands-discharged : (h g : Held) (r : List Entry) (e : Entry) (u : TransactionId) → Stands h r → Answer r e.step e.drawn.ids e.reply → ((t : TransactionId) → declares t e ≡ false) → ((t : TransactionId) → discharges t e ≡ same_id t u) → ((t : TransactionId) → under t e ≡ false) → ((k : ℕ) → attaches k e ≡ false) → ((k : ℕ) → closes k e ≡ false) → is_attached e.reply ≡ false → Distinct g.live.items → ((t : TransactionId) → look g.live.items t ≡ look_without u h.live.items t) → g.links.items ≡ h.links.items → g.opened ≡ h.opened → Stands g (r ++ e ∷ [])
+stands-discharged h g r e u s a de di un at cl ia dg lg kg og = record {
+  legal = IsLegal-snoc r e s.legal a;
+  distinct = dg;
+  live = λ t. lg t ∙ by_case t (same_id t u) refl;
+  links = λ k. ap (λ ks. is_in ks k) kg ∙ s.links k ∙ sym (is_open-other r e k (at k) (cl k));
+  opened = og ∙ s.opened ∙ sym (quiet_count r e ia);
+}
+  where
+    by_case : (t : TransactionId) (b : Bool) → same_id t u ≡ b → look_without u h.live.items t ≡ kept_by (r ++ e ∷ []) t
+    by_case t true x = ap (λ b. cond b None (look h.live.items t)) x ∙ sym (kept_by-discharged r e t (de t) (di t ∙ x))
+    by_case t false x =
+        ap (λ b. cond b None (look h.live.items t)) x ∙ s.live t
+        ∙ sym (kept_by-quiet r e t (de t) (di t ∙ x) (un t) (λ y. is_open-other r e (home r t) (at (home r t)) (cl (home r t))))
+
+or_true : (b : Bool) → (b || (true || false)) ≡ true
+or_true true = refl
+or_true false = refl
+
+or_false : (b : Bool) → (b || (false || false)) ≡ b
+or_false true = refl
+or_false false = refl
+
+and_true : (b : Bool) → (b && not false) ≡ b
+and_true true = refl
+and_true false = refl
+
+-- an attached link
+pub stands-attached : (h g : Held) (r : List Entry) (e : Entry) (frames : List Frame) → Stands h r → Answer r e.step e.drawn.ids e.reply → e.reply ≡ replies.Attached h.opened frames → ((t : TransactionId) → declares t e ≡ false) → ((t : TransactionId) → discharges t e ≡ false) → ((t : TransactionId) → under t e ≡ false) → ((k : ℕ) → closes k e ≡ false) → g.live.items ≡ h.live.items → g.links.items ≡ h.links.items ++ h.opened ∷ [] → g.opened ≡ h.opened + 1 → Stands g (r ++ e ∷ [])
+stands-attached h g r e frames s a er de di un cl lg kg og = record {
+  legal = IsLegal-snoc r e s.legal a;
+  distinct = subst Distinct (sym lg) s.distinct;
+  live = λ t. ap (λ ls. look ls t) lg ∙ s.live t ∙ sym (kept_by-quiet r e t (de t) (di t) (un t) (λ x. is_open-other r e (home r t) (apart t x) (cl (home r t))));
+  links = λ k. ap (λ ks. is_in ks k) kg ∙ list_any-append (λ j. j == k) h.links.items (h.opened ∷ []) ∙ ap (λ b. b || ((h.opened == k) || false)) (s.links k) ∙ by_case k (h.opened == k) refl;
+  opened = og ∙ ap (λ n. n + 1) s.opened ∙ sym (count-snoc r e ∙ ap (λ x. attached_count r + cond (is_attached x) 1 0) er);
+}
+  where
+    says : (k : ℕ) → attaches k e ≡ (h.opened == k)
+    says k = ap (reply_attaches k) er
+
+    apart : (t : TransactionId) → undischarged r t ≡ true → attaches (home r t) e ≡ false
+    apart t x = says (home r t) ∙ ne_eqb h.opened (home r t) (λ y. omega (arith, homes_attached r t s.legal x, s.opened))
+
+    by_case : (k : ℕ) (b : Bool) → (h.opened == k) ≡ b → (is_open r k || ((h.opened == k) || false)) ≡ is_open (r ++ e ∷ []) k
+    by_case k true x =
+        ap (λ b. is_open r k || (b || false)) x ∙ or_true (is_open r k)
+        ∙ sym (ap (is_open (r ++ e ∷ [])) (sym (eqb-true h.opened k x)) ∙ is_open-attached r e h.opened frames s.legal er s.opened)
+    by_case k false x = ap (λ b. is_open r k || (b || false)) x ∙ or_false (is_open r k) ∙ sym (is_open-other r e k (says k ∙ x) (cl k))
+
+-- a closed link
+pub stands-closed : (h g : Held) (r : List Entry) (e : Entry) (k : ℕ) → Stands h r → Answer r e.step e.drawn.ids e.reply → ((t : TransactionId) → declares t e ≡ false) → ((t : TransactionId) → discharges t e ≡ false) → ((t : TransactionId) → under t e ≡ false) → ((j : ℕ) → attaches j e ≡ false) → ((j : ℕ) → closes j e ≡ (k == j)) → is_attached e.reply ≡ false → g.live.items ≡ filter (λ l. not (l.holder == k)) h.live.items → g.links.items ≡ filter (λ j. not (j == k)) h.links.items → g.opened ≡ h.opened → Stands g (r ++ e ∷ [])
+stands-closed h g r e k s a de di un at cl ia lg kg og = record {
+  legal = IsLegal-snoc r e s.legal a;
+  distinct = subst Distinct (sym lg) (Distinct_filter h.live.items k s.distinct);
+  live = λ t. ap (λ ls. look ls t) lg ∙ look_filter h.live.items k t s.distinct ∙ ap (unless_on k) (s.live t) ∙ sym (kept_by-closed r e k t (de t) (di t) (un t) at cl);
+  links = λ j. ap (λ ks. is_in ks j) kg ∙ is_in_filter h.links.items k j ∙ ap (λ b. b && not (j == k)) (s.links j) ∙ by_case j (k == j) refl;
+  opened = og ∙ s.opened ∙ sym (quiet_count r e ia);
+}
+  where
+    by_case : (j : ℕ) (b : Bool) → (k == j) ≡ b → (is_open r j && not (j == k)) ≡ is_open (r ++ e ∷ []) j
+    by_case j true x = ap (λ b. is_open r j && not b) (eqb_sym j k ∙ x) ∙ and_right (is_open r j) false refl ∙ sym (is_open-closed r e j (cl j ∙ x))
+    by_case j false x = ap (λ b. is_open r j && not b) (eqb_sym j k ∙ x) ∙ and_true (is_open r j) ∙ sym (is_open-other r e j (at j) (cl j ∙ x))
+
+-- a declared id
+pub stands-declared : (h g : Held) (r : List Entry) (e : Entry) (u : TransactionId) → Stands h r → Answer r e.step e.drawn.ids e.reply → is_live r u ≡ false → is_open r (step_link e.step) ≡ true → ((t : TransactionId) → declares t e ≡ same_id t u) → ((t : TransactionId) → discharges t e ≡ false) → ((t : TransactionId) → under t e ≡ false) → ((k : ℕ) → attaches k e ≡ false) → ((k : ℕ) → closes k e ≡ false) → is_attached e.reply ≡ false → Distinct g.live.items → ((t : TransactionId) → look g.live.items t ≡ cond (same_id t u) (Some (step_link e.step, [])) (look h.live.items t)) → g.links.items ≡ h.links.items → g.opened ≡ h.opened → Stands g (r ++ e ∷ [])
+stands-declared h g r e u s a nl op de di un at cl ia dg lg kg og = record {
+  legal = IsLegal-snoc r e s.legal a;
+  distinct = dg;
+  live = λ t. lg t ∙ by_case t (same_id t u) refl;
+  links = λ k. ap (λ ks. is_in ks k) kg ∙ s.links k ∙ sym (is_open-other r e k (at k) (cl k));
+  opened = og ∙ s.opened ∙ sym (quiet_count r e ia);
+}
+  where
+    by_case : (t : TransactionId) (b : Bool) → same_id t u ≡ b → cond (same_id t u) (Some (step_link e.step, [])) (look h.live.items t) ≡ kept_by (r ++ e ∷ []) t
+    by_case t true x =
+        ap (λ b. cond b (Some (step_link e.step, [])) (look h.live.items t)) x
+        ∙ sym (kept_by-declared r e t (de t ∙ x) (is_open-other r e (step_link e.step) (at (step_link e.step)) (cl (step_link e.step)) ∙ op))
+    by_case t false x =
+        ap (λ b. cond b (Some (step_link e.step, [])) (look h.live.items t)) x ∙ s.live t
+        ∙ sym (kept_by-quiet r e t (de t ∙ x) (di t) (un t) (λ y. is_open-other r e (home r t) (at (home r t)) (cl (home r t))))
+
+-- nothing kept stands for the empty record
+none_live : (t : TransactionId) → is_live [] t ≡ false
+unfolding is_live undischarged since
+none_live t = refl
+
+none_open : (k : ℕ) → is_open [] k ≡ false
+unfolding is_open
+none_open k = refl
+
+pub stands-new : (h : Held) → h.live.items ≡ [] → h.links.items ≡ [] → h.opened ≡ 0 → Stands h []
+stands-new h l k o = record {
+  legal = IsLegal-nil;
+  distinct = subst Distinct (sym l) tt;
+  live = λ t. ap (λ ls. look ls t) l ∙ sym (ap (λ b. cond b (Some (home [] t, frames_of [] t)) None) (none_live t));
+  links = λ j. ap (λ ks. is_in ks j) k ∙ sym (none_open j);
+  opened = o;
+}
+
+-- ---- a session that keeps nothing
+
+no_ids : (ls : List Live) → ((t : TransactionId) → look ls t ≡ None) → ls ≡ []
+no_ids [] h = refl
+no_ids (l ∷ ls) h = let here : look (l ∷ ls) l.id ≡ Some (l.holder, l.frames) = ap (λ b. cond b (Some (l.holder, l.frames)) (look ls l.id)) (same_id-refl l.id) in cc (here, h l.id)
+
+no_links : (ks : List ℕ) → ((k : ℕ) → is_in ks k ≡ false) → ks ≡ []
+no_links [] h = refl
+no_links (k ∷ ks) h = let here : is_in (k ∷ ks) k ≡ true = ap (λ b. b || is_in ks k) (eq-eqb k k refl) in cc (here, h k)
+
+pub new-live : (h : Held) → Stands h [] → h.live.items ≡ []
+new-live h s = no_ids h.live.items (λ t. s.live t ∙ ap (λ b. cond b (Some (home [] t, frames_of [] t)) None) (none_live t))
+
+pub new-links : (h : Held) → Stands h [] → h.links.items ≡ []
+new-links h s = no_links h.links.items (λ k. s.links k ∙ none_open k)
+
+-- what is kept for an id, by its place
+pub place_live : (ls : List Live) (t : TransactionId) (o : Option ℕ) → MatchOption o (look ls t ≡ None) (λ i. (i < length ls) × StandsAt ls i t) → is_some o ≡ is_some (look ls t)
+place_live ls t None h = sym (ap is_some h)
+place_live ls t (Some i) h = sym (kept (look ls t) (found ls i t h.1))
+  where
+    kept : (o : Option (ℕ × List Frame)) → (o ≡ None → ⊥) → is_some o ≡ true
+    kept None n = absurd (n refl)
+    kept (Some x) n = refl
+
+-- a list is empty where its length is tested to be 0
+pub empty_items : {A : Type 0} (xs : List A) (n : ℕ) (b : Bool) → b ≡ (n == 0) → n ≡ length xs → b ≡ true → xs ≡ []
+empty_items [] n b t l e = refl
+empty_items (x ∷ xs) n b t l e = absurd (omega (arith, eqb-true n 0 (sym t ∙ e), l))
+
+pub some_items : {A : Type 0} (xs : List A) (n : ℕ) (b : Bool) → b ≡ (n == 0) → n ≡ length xs → b ≡ false → xs ≡ [] → ⊥
+some_items xs n b t l e h = let zero_len : n ≡ 0 = l ∙ ap length h in let yes : b ≡ true = t ∙ eq-eqb n 0 zero_len in cc (yes, e)

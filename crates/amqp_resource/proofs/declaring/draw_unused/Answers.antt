@@ -1,0 +1,33 @@
+use Rattle.std.proofs.Common.{rules, ap, sym, ◌∙◌, refl, subst, List, ◌++◌, ◌∷◌, [], ◌≡◌, arith, length, ◌+◌, true}
+use Rattle.std.specs.List.{list_all}
+use Rattle.std.proofs.lemmas.List.{length-append}
+use Rattle.amqp_txn_types.specs.declared.id.TransactionId.{TransactionId}
+use Rattle.amqp_below.specs.Ids.{Drew}
+use Rattle.amqp_below.proofs.Draws.{Drew-append, Drew-one}
+use Rattle.amqp_resource.specs.Draws.{is_kept}
+use Rattle.amqp_resource.proofs.Kept.{found}
+use Rattle.amqp_resource.proofs.Going.{all-snoc}
+use Rattle.amqp_resource.proofs.declaring.draw_unused.Goals as goal
+
+pub returns-in-None-clause-drew : goal.returns-in-None-clause-drew
+returns-in-None-clause-drew g c =
+    let P : List TransactionId → Type 0 = λ ds. Drew (g.G.IdSource.next c.args.ids.now) (g.G.IdSource.next c.draw-id.new.self) ds in
+    subst P (sym c.push.ensures.ids)
+    (Drew-append (g.G.IdSource.next c.args.ids.now) (g.G.IdSource.next c.loop-turn.ids) (g.G.IdSource.next c.draw-id.new.self) c.loop-turn.drawn.ids (c.draw-id.result ∷ [])
+    c.loop-turn.invariant.drew (Drew-one (g.G.IdSource.next c.loop-turn.ids) (g.G.IdSource.next c.draw-id.new.self) c.draw-id.result c.draw-id.ensures.drawn c.draw-id.ensures.rest))
+
+pub loop-turn-preserved : goal.loop-turn-preserved
+loop-turn-preserved g c =
+    let start = g.G.IdSource.next c.args.ids.now in
+    let mid = g.G.IdSource.next c.loop-turn.ids in
+    let end = g.G.IdSource.next c.draw-id.new.self in
+    let items : c.push.new.self.ids ≡ c.loop-turn.drawn.ids ++ c.draw-id.result ∷ [] = c.push.ensures.ids in
+    record {
+      count = ap length items ∙ length-append c.loop-turn.drawn.ids (c.draw-id.result ∷ []) ∙ ap (λ n. n + 1) c.loop-turn.invariant.count;
+      room = omega (arith, c.loop-turn.invariant.room, c.push.ensures.spare);
+      all = ap (list_all (is_kept c.args.live.now)) items ∙ all-snoc c.args.live.now c.loop-turn.drawn.ids c.draw-id.result c.loop-turn.invariant.all (found c.args.live.now c.in-Some.field-0 c.draw-id.result c.in-Some.ensures.1);
+      drew =
+          subst (λ (ds : List TransactionId). Drew start end ds) (sym items)
+          (Drew-append start mid end c.loop-turn.drawn.ids (c.draw-id.result ∷ []) c.loop-turn.invariant.drew (Drew-one mid end c.draw-id.result c.draw-id.ensures.drawn c.draw-id.ensures.rest));
+      start = c.draw-id.ensures.start ∙ c.loop-turn.invariant.start;
+    }

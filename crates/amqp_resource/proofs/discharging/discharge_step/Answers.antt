@@ -1,0 +1,76 @@
+use Rattle.std.proofs.Common.{rules, ap, sym, subst, ◌∙◌, [], ◌∷◌, cond, refl, List, ℕ, ◌≡◌, true, false, not, Some, None, get_or}
+use Rattle.amqp_txn_types.specs.declared.performatives.Frame.{Frame}
+use Rattle.amqp_record.specs.declared.step.Step.TheVariants as steps
+use Rattle.amqp_resource.specs.declared.held.Live.{Live}
+use Rattle.amqp_resource.specs.Held.{StandsAt, look}
+use Rattle.amqp_resource.specs.Committing.{HandedSome, HandedPart}
+use Rattle.amqp_resource.proofs.Kept.{look_at}
+use Rattle.amqp_resource.proofs.Going.{went-absent, went-rollback, went-commit, refused-commit, refused_gives, stayed-commit, not_kept, held_elsewhere, held_here}
+use Rattle.amqp_resource.proofs.discharging.discharge_step.Goals as goal
+
+pub returns-in_default-clause-goes : goal.returns-in_default-clause-goes
+returns-in_default-clause-goes g c r s =
+    rw (c.no_draws.ensures, c.absent.ensures) (went-absent c.args.held.now r c.args.link c.args.payload.now c.args.discharge (g.S.LayerBelow.told c.args.below.now) c.requires.message c.requires.opened s
+    (not_kept c.args.held.now r c.args.link c.args.discharge.txn_id s (ap (λ ls. look ls c.args.discharge.txn_id) (sym c.as_slice.ensures.value) ∙ c.in_default.ensures)))
+
+pub returns-then-index-link-clause-goes : goal.returns-then-index-link-clause-goes
+returns-then-index-link-clause-goes g c r s =
+    let at : StandsAt c.args.held.now.live.items c.in-Some.at c.args.discharge.txn_id =
+    subst (λ (ls : List Live). StandsAt ls c.in-Some.at c.args.discharge.txn_id) c.as_slice.ensures.value c.in-Some.ensures.1 in
+    let here = look_at c.args.held.now.live.items c.in-Some.at c.args.discharge.txn_id c.index.result.now at s.distinct in
+    rw (c.no_draws-then-index-link.ensures, c.absent-then-index-link.ensures) (went-absent c.args.held.now r c.args.link c.args.payload.now c.args.discharge (g.S.LayerBelow.told c.args.below.now) c.requires.message c.requires.opened s
+    (held_elsewhere c.args.held.now r c.args.link c.args.discharge.txn_id _ _ s here (λ e. c.if-index-link.true (ap (λ l. l.holder) c.index.ensures ∙ e))))
+
+pub returns-then-is_rollback-clause-goes : goal.returns-then-is_rollback-clause-goes
+returns-then-is_rollback-clause-goes g c r s =
+    let at : StandsAt c.args.held.now.live.items c.in-Some.at c.args.discharge.txn_id =
+    subst (λ (ls : List Live). StandsAt ls c.in-Some.at c.args.discharge.txn_id) c.as_slice.ensures.value c.in-Some.ensures.1 in
+    let here = look_at c.args.held.now.live.items c.in-Some.at c.args.discharge.txn_id c.index.result.now at s.distinct in
+    let kept = c.take_at-dropped.ensures in
+    rw (c.no_draws-then-is_rollback.ensures, c.new.ensures)
+    (went-rollback c.args.held.now _ r c.args.link c.args.payload.now c.args.discharge c.take_at-dropped.result.frames (g.S.LayerBelow.told c.args.below.now) c.requires.message
+    (sym c.is_rollback.ensures ∙ c.if-is_rollback.true) c.requires.opened s
+    (held_here c.args.held.now c.args.discharge.txn_id _ _ _ _ c.args.link (kept.taken s.distinct) here (ap (λ l. l.holder) (sym c.index.ensures) ∙ c.if-index-link.false))
+    (kept.distinct s.distinct) (kept.rest s.distinct) refl refl)
+
+pub returns-in_default-with_capacity-clause-goes : goal.returns-in_default-with_capacity-clause-goes
+returns-in_default-with_capacity-clause-goes g c r s =
+    let at : StandsAt c.args.held.now.live.items c.in-Some.at c.args.discharge.txn_id =
+    subst (λ (ls : List Live). StandsAt ls c.in-Some.at c.args.discharge.txn_id) c.as_slice.ensures.value c.in-Some.ensures.1 in
+    let here = look_at c.args.held.now.live.items c.in-Some.at c.args.discharge.txn_id c.index.result.now at s.distinct in
+    stayed-commit c.args.held.now r c.args.link c.args.payload.now c.args.discharge _ c.requires.message
+    (sym c.is_rollback.ensures ∙ c.if-is_rollback.false) c.requires.opened s
+    (held_here c.args.held.now c.args.discharge.txn_id _ _ _ _ c.args.link here here (ap (λ l. l.holder) (sym c.index.ensures) ∙ c.if-index-link.false))
+
+pub returns-in-Ok-hand_all-clause-goes : goal.returns-in-Ok-hand_all-clause-goes
+returns-in-Ok-hand_all-clause-goes g c r s =
+    let at : StandsAt c.args.held.now.live.items c.in-Some.at c.args.discharge.txn_id =
+    subst (λ (ls : List Live). StandsAt ls c.in-Some.at c.args.discharge.txn_id) c.as_slice.ensures.value c.in-Some.ensures.1 in
+    let here = look_at c.args.held.now.live.items c.in-Some.at c.args.discharge.txn_id c.index.result.now at s.distinct in
+    let kept = c.take_at-frames.ensures in
+    let old = g.S.LayerBelow.told c.args.below.now in
+    let new = g.S.LayerBelow.told c.hand_all.new.below in
+    let P : List Frame → Type 0 = λ fs. HandedSome old new fs c.in-Ok-hand_all.echoes in
+    let handed : P c.into_vec.result.items = c.in-Ok-hand_all.ensures.handed in
+    rw c.no_draws-in-Ok-hand_all.ensures
+    (went-commit c.args.held.now _ r c.args.link c.args.payload.now c.args.discharge c.take_at-frames.result.frames c.in-Ok-hand_all.echoes old new c.requires.message
+    (sym c.is_rollback.ensures ∙ c.if-is_rollback.false) c.requires.opened s
+    (held_here c.args.held.now c.args.discharge.txn_id _ _ _ _ c.args.link (kept.taken s.distinct) here (ap (λ l. l.holder) (sym c.index.ensures) ∙ c.if-index-link.false))
+    (kept.distinct s.distinct) (kept.rest s.distinct) refl refl (subst P c.into_vec.ensures handed))
+
+pub returns-in-Err-clause-goes : goal.returns-in-Err-clause-goes
+returns-in-Err-clause-goes g c r s =
+    let at : StandsAt c.args.held.now.live.items c.in-Some.at c.args.discharge.txn_id =
+    subst (λ (ls : List Live). StandsAt ls c.in-Some.at c.args.discharge.txn_id) c.as_slice.ensures.value c.in-Some.ensures.1 in
+    let here = look_at c.args.held.now.live.items c.in-Some.at c.args.discharge.txn_id c.index.result.now at s.distinct in
+    let kept = c.take_at-frames.ensures in
+    let old = g.S.LayerBelow.told c.args.below.now in
+    let new = g.S.LayerBelow.told c.hand_all.new.below in
+    let own = c.in-Err.refusal.error in
+    let P : List Frame → Type 0 = λ fs. HandedPart old new fs own c.in-Err.refusal.handed in
+    let handed : P c.into_vec.result.items = c.in-Err.ensures.handed in
+    refused_gives c.args.held.now old new r (steps.Control c.args.link c.args.payload.now) c.fault_of.result own c.in-Err.refusal.handed c.fault_of.ensures.known c.fault_of.ensures.fault
+    (refused-commit c.args.held.now r c.args.link c.args.payload.now c.args.discharge c.take_at-frames.result.frames own c.in-Err.refusal.handed old new c.requires.message
+    (sym c.is_rollback.ensures ∙ c.if-is_rollback.false) c.requires.opened s
+    (held_here c.args.held.now c.args.discharge.txn_id _ _ _ _ c.args.link (kept.taken s.distinct) here (ap (λ l. l.holder) (sym c.index.ensures) ∙ c.if-index-link.false))
+    (subst P c.into_vec.ensures handed))

@@ -1,0 +1,109 @@
+use Rattle.std.proofs.Common.{rules, ap, sym, ◌∙◌, refl, subst, List, ◌++◌, ◌∷◌, [], ◌≡◌, arith, length, ◌+◌, ◌≤◌, None}
+use Rattle.std.proofs.lemmas.List.{length-append}
+use Rattle.amqp_record.specs.declared.entry.Entry.{Entry}
+use Rattle.amqp_record.specs.declared.step.Step.{Step}
+use Rattle.amqp_resource.specs.Steps.{entry_of}
+use Rattle.amqp_resource.specs.Session.{held_of, below_of, stop_of}
+use Rattle.amqp_resource.specs.Drive.{Left}
+use Rattle.amqp_resource.proofs.Parts.{own_weaker}
+use Rattle.amqp_resource.proofs.Running.{Ran, Broke, broke_cause, broke_done, broke_ended, broke_leaves, broke_refused, broke_rose, broke_took, broke_unknown, failed, left-more, ran-more, ran-nil, some_step, stops_by}
+use Rattle.amqp_resource.proofs.driving.drive.Given.{Over}
+use Rattle.amqp_resource.proofs.driving.drive.Goals as goal
+
+pub loop-step-init : goal.loop-step-init
+loop-step-init g c =
+    let items : c.in-Ok.entries.items ≡ [] = c.in-Ok.ensures.items in
+    let all : c.from-rest.result.items ≡ c.args.steps = c.from-rest.ensures.0 ∙ c.into_vec.ensures in
+    record {
+      runs = c.requires.runs;
+      ran = rw items (ran-nil (g.S.LayerBelow.told (below_of c.args.session.now)) (g.G.IdSource.next c.args.ids.now) (held_of c.args.session.now) c.requires.stands);
+      start = refl;
+      left = rw items (sym all);
+      count = rw items (omega (arith, ap length all));
+      room = omega (arith, c.in-Ok.ensures.capacity, c.len.ensures);
+    }
+
+pub loop-step-preserved : goal.loop-step-preserved
+loop-step-preserved g c =
+    let r = c.loop-step.entries.items in
+    let e : Entry = entry_of c.in-Some.step c.in-Ok-step.drawn c.in-Ok-step.reply in
+    let runs = c.loop-step.invariant.runs in
+    let stands = c.loop-step.invariant.ran.stands in
+    let pushed : c.push_reserved.new.self.items ≡ r ++ e ∷ [] = c.push_reserved.ensures.items in
+    let popped : c.loop-step.rest.items ≡ c.in-Some.step ∷ c.pop_front.new.self.items = c.in-Some.ensures.items in
+    let said = c.in-Ok-step.ensures in
+    record {
+      runs = said.stops runs;
+      ran = rw pushed (ran-more _ _ _ _ _ _ (held_of c.loop-step.session) (held_of c.step.new.self) r c.in-Some.step c.in-Ok-step.drawn c.in-Ok-step.reply c.loop-step.invariant.ran
+          (record {
+            stands = said.stands runs r stands;
+            taken = said.taken runs r stands;
+            opened = said.opened runs r stands;
+            refused = said.refused runs r stands;
+            attach = said.attach_refused runs r stands;
+            later = said.later;
+            state = said.state;
+          })
+          said.drew);
+      start = said.start ∙ c.loop-step.invariant.start;
+      left = rw pushed (left-more c.args.steps r c.in-Some.step c.in-Ok-step.drawn c.in-Ok-step.reply c.pop_front.new.self.items (rw (← popped) c.loop-step.invariant.left));
+      count = omega (arith, ap length pushed, length-append r (e ∷ []), ap length popped, c.loop-step.invariant.count);
+      room = omega (arith, c.loop-step.invariant.room, c.push_reserved.ensures.capacity);
+    }
+
+-- what the step that stopped the run leaves
+broke : (g : Over) (c : goal.After-drop-rest g) → Broke (held_of c.step.new.self) (g.S.LayerBelow.told (below_of c.loop-step.session)) (g.S.LayerBelow.told (below_of c.step.new.self)) c.loop-step.entries.items c.in-Some.step c.in-Err.error (stop_of c.step.new.self)
+broke g c =
+    let r = c.loop-step.entries.items in
+    let runs = c.loop-step.invariant.runs in
+    let stands = c.loop-step.invariant.ran.stands in
+    let said = c.in-Err.ensures in
+    record {
+      first = said.runs runs;
+      handed = said.handed runs r stands;
+      opened = said.opened_none runs r stands;
+      refused = said.refused_last runs r stands;
+      unknown = said.unknown runs r stands;
+      unknown_only = said.unknown_only runs r stands;
+      refusal = said.refusal runs r stands;
+      rose = said.refusal_rose;
+      ended = said.ended runs r stands;
+      ended_only = said.ended_only;
+      memory = said.memory runs r stands;
+      own = own_weaker (failed c.in-Err.error) (below_of c.step.new.self ≡ below_of c.loop-step.session) _ (ap g.S.LayerBelow.told) said.untouched;
+      later = said.later;
+      state = said.state;
+      stops = said.stops runs;
+    }
+
+left : (g : Over) (c : goal.After-drop-rest g) → Left c.args.steps c.loop-step.entries.items (c.in-Some.step ∷ c.pop_front.new.self.items)
+left g c =
+    let popped : c.loop-step.rest.items ≡ c.in-Some.step ∷ c.pop_front.new.self.items = c.in-Some.ensures.items in
+    subst (λ (ss : List Step). Left c.args.steps c.loop-step.entries.items ss) popped c.loop-step.invariant.left
+
+pub returns-in-Err-clause-unknown : goal.returns-in-Err-clause-unknown
+returns-in-Err-clause-unknown g c =
+    let by = stops_by c.in-Err.error c.stop_by-stop.result.0 c.stop_by-stop.result.1 c.stop_by-stop.ensures in
+    rw (c.driven-in-Err.ensures, by.0) (broke_unknown _ _ _ c.loop-step.entries.items c.in-Some.step c.in-Err.error _ c.args.steps c.pop_front.new.self.items (left g c) (broke g c))
+
+pub returns-in-Err-clause-ended : goal.returns-in-Err-clause-ended
+returns-in-Err-clause-ended g c =
+    let by = stops_by c.in-Err.error c.stop_by-stop.result.0 c.stop_by-stop.result.1 c.stop_by-stop.ensures in
+    rw (c.driven-in-Err.ensures, by.0) (broke_ended _ _ _ c.loop-step.entries.items c.in-Some.step c.in-Err.error _ c.args.steps c.pop_front.new.self.items (left g c) (broke g c))
+
+pub returns-in-Err-clause-taken : goal.returns-in-Err-clause-taken
+returns-in-Err-clause-taken g c =
+    let by = stops_by c.in-Err.error c.stop_by-stop.result.0 c.stop_by-stop.result.1 c.stop_by-stop.ensures in
+    rw (c.driven-in-Err.ensures, by.0, by.1) (broke_took _ _ _ _ _ _ _ c.loop-step.entries.items c.in-Some.step c.in-Err.error _ c.args.steps c.pop_front.new.self.items (left g c) c.loop-step.invariant.ran (broke g c))
+
+pub returns-in-Err-clause-refused : goal.returns-in-Err-clause-refused
+returns-in-Err-clause-refused g c =
+    let by = stops_by c.in-Err.error c.stop_by-stop.result.0 c.stop_by-stop.result.1 c.stop_by-stop.ensures in
+    rw (c.driven-in-Err.ensures, by.0, by.1) (broke_refused _ _ _ _ _ _ _ c.loop-step.entries.items c.in-Some.step c.in-Err.error _ c.args.steps c.pop_front.new.self.items (left g c) c.loop-step.invariant.ran (broke g c))
+
+pub returns-in_default-clause-taken : goal.returns-in_default-clause-taken
+returns-in_default-clause-taken g c =
+    rw (c.driven.ensures, c.new.ensures.items) ((ran-nil (g.S.LayerBelow.told (below_of c.args.session.now)) (g.G.IdSource.next c.args.ids.now) (held_of c.args.session.now) c.requires.stands).taken, refl)
+
+pub returns-in_default-clause-cause : goal.returns-in_default-clause-cause
+returns-in_default-clause-cause g c = rw (c.driven.ensures, c.new.ensures.items) (some_step c.args.steps (λ empty. let some = c.in_default.ensures.succeeds (c.len.ensures ∙ empty) in cc some))

@@ -1,0 +1,20 @@
+use Rattle.std.proofs.Common.{rules, ap, sym, subst, ◌∙◌, [], ◌∷◌, cond, Ok, Err}
+use Rattle.amqp_txn_types.specs.declared.performatives.Frame.{Frame}
+use Rattle.amqp_record.specs.declared.step.Step.TheVariants as steps
+use Rattle.amqp_resource.specs.Taking.{TakesFrame}
+use Rattle.amqp_resource.proofs.Going.{went-plain, refused-plain, refused_gives, stayed-plain}
+use Rattle.amqp_resource.proofs.frame_steps.plain_step.Goals as goal
+
+pub returns-in-Ok-take_frame-clause-goes : goal.returns-in-Ok-take_frame-clause-goes
+returns-in-Ok-take_frame-clause-goes g c r s =
+    let old = g.S.LayerBelow.told c.args.below.now in
+    let new = g.S.LayerBelow.told c.take_frame.new.below in
+    rw c.no_draws.ensures (went-plain c.args.held.now r c.args.frame.now c.in-Ok-take_frame.answers old new c.requires s
+    (subst (λ (f : Frame). TakesFrame old new f (Ok c.in-Ok-take_frame.answers)) c.in-Ok.ensures.copy c.in-Ok-take_frame.ensures))
+
+pub returns-in-Err-clause-goes : goal.returns-in-Err-clause-goes
+returns-in-Err-clause-goes g c r s =
+    let old = g.S.LayerBelow.told c.args.below.now in
+    let new = g.S.LayerBelow.told c.take_frame.new.below in
+    rw c.handed_of.ensures (refused_gives c.args.held.now old new r (steps.Frame c.args.frame.now) c.fault_of.result c.in-Err.refusal.error _ c.fault_of.ensures.known c.fault_of.ensures.fault
+    (refused-plain r c.args.frame.now c.in-Err.refusal old new c.requires (subst (λ (f : Frame). TakesFrame old new f (Err c.in-Err.refusal)) c.in-Ok.ensures.copy c.in-Err.ensures)))

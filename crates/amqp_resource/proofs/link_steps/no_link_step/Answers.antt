@@ -1,0 +1,6 @@
+use Rattle.std.proofs.Common.{rules, ap, sym, ◌∙◌, refl}
+use Rattle.amqp_resource.proofs.Going.{went-no_link}
+use Rattle.amqp_resource.proofs.link_steps.no_link_step.Goals as goal
+
+pub returns-clause-goes : goal.returns-clause-goes
+returns-clause-goes c r s told = rw c.no_draws.ensures (went-no_link c.args.held.now r c.args.link c.args.payload.now told c.requires s)

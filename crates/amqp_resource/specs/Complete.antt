@@ -1,0 +1,35 @@
+-- When a step is answered well.
+use Rattle.std.specs.Prelude.{ℕ, ◌≡◌, Result, Ok, Err, List, length}
+use Rattle.amqp_txn_types.specs.declared.id.TransactionId.{TransactionId}
+use Rattle.amqp_below.specs.Drawn.{DrawnIds}
+use Rattle.amqp_below.specs.Told.{Rose}
+use Rattle.amqp_below.specs.Ids.{AreNext}
+use Rattle.amqp_record.specs.declared.step.Step.{Step}
+use Rattle.amqp_record.specs.declared.reply.Reply.{Reply}
+use Rattle.amqp_record.specs.declared.reply.Reply.TheVariants as replies
+use Rattle.amqp_record.specs.declared.entry.Entry.{Entry}
+use Rattle.amqp_record.specs.declared.stop.StepError.{StepError}
+use Rattle.amqp_record.specs.declared.stop.StepError.TheVariants as errors
+use Rattle.amqp_record.specs.Valid.{Valid}
+
+-- one of the five replies that do what was asked
+abbrev pub DoesIt : Reply → Type 0
+DoesIt (replies.Frames a) = Unit {0}
+DoesIt (replies.Attached link given) = Unit {0}
+DoesIt replies.LinkEnded = Unit {0}
+DoesIt (replies.Declared t) = Unit {0}
+DoesIt (replies.Accepted echoes) = Unit {0}
+DoesIt _ = ⊥
+
+-- such a reply, or want of memory
+abbrev pub Completed : Result (DrawnIds × Reply) StepError → Type 0
+Completed (Ok out) = DoesIt out.1
+Completed (Err errors.NoMemory) = Unit {0}
+Completed (Err _) = ⊥
+
+-- the premises: the step is valid, and no refusal was counted
+pub record InOrder (before now : ℕ) (ids : ℕ → TransactionId) (r : List Entry) (s : Step) (n : List TransactionId) : Type 0 where
+  pub next : AreNext ids 0 n
+  pub count : length n ≡ 16
+  pub valid : Valid r s n
+  pub quiet : Rose before now → ⊥

@@ -1,0 +1,9 @@
+pub mod Held
+pub mod Taking
+pub mod Committing
+pub mod Draws
+pub mod Steps
+pub mod Complete
+pub mod Session
+pub mod Drive
+pub mod Listed

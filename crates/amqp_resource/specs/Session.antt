@@ -1,0 +1,62 @@
+-- The parts of a session that clauses speak of.
+use Rattle.std.specs.Prelude.{ℕ, ◌≡◌, Bool, Option, Some, None, Result, Ok, Err, List, [], is_some}
+use Rattle.amqp_txn_types.specs.declared.id.TransactionId.{TransactionId}
+use Rattle.amqp_txn_types.specs.declared.small.SessionState.TheVariants.{Mapped}
+use Rattle.amqp_below.specs.Drawn.{DrawnIds}
+use Rattle.amqp_below.specs.Told.{Told}
+use Rattle.amqp_record.specs.declared.reply.Reply.{Reply}
+use Rattle.amqp_record.specs.declared.entry.Entry.{Entry}
+use Rattle.amqp_record.specs.declared.stop.StopCode.{StopCode}
+use Rattle.amqp_record.specs.declared.stop.StepError.{StepError}
+use Rattle.amqp_record.specs.declared.stop.StepError.TheVariants as errors
+use Rattle.amqp_record.specs.Stops.{fault_code, ended_code}
+use Rattle.amqp_resource.specs.declared.held.Held.{Held}
+use Rattle.amqp_resource.specs.declared.session.TxnSession.{TxnSession}
+use Rattle.amqp_resource.specs.Held.{Stands}
+use Rattle.amqp_resource.specs.Draws.{is_kept}
+
+-- what a session keeps
+abbrev pub held_of : {S : Type 0} → TxnSession S → Held
+held_of x = x.held
+
+-- the layer below
+abbrev pub below_of : {S : Type 0} → TxnSession S → S
+below_of x = x.below
+
+-- what the layer below tells
+abbrev pub told_of : {S : Type 0} → (S → Told) → TxnSession S → Told
+told_of told x = told x.below
+
+-- the code of its stop, once it has stopped
+abbrev pub stop_of : {S : Type 0} → TxnSession S → Option StopCode
+stop_of x = x.stop
+
+-- how many control links it has opened
+abbrev pub opened_of : {S : Type 0} → TxnSession S → ℕ
+opened_of x = x.held.opened
+
+-- the id is live on the session
+abbrev pub is_live_on : {S : Type 0} → TxnSession S → TransactionId → Bool
+is_live_on x t = is_kept x.held.live.items t
+
+-- a session stands for a record: the record is legal, and the session's live ids with their frames and holders, and its links, are those of the record
+abbrev pub StandsFor : {S : Type 0} → TxnSession S → List Entry → Type 0
+StandsFor x r = Stands (held_of x) r
+
+-- a fresh session: no live id, no link opened so far, not stopped, and mapped below
+pub record IsFresh {S : Type 0} (told : S → Told) (x : TxnSession S) : Type 0 where
+  pub stands : StandsFor x []
+  pub runs : stop_of x ≡ None
+  pub mapped : (told (below_of x)).state ≡ Mapped
+
+-- the code that is kept after an answer
+abbrev pub StopAfter : Result (DrawnIds × Reply) StepError → Option StopCode → Type 0
+StopAfter (Ok out) stop = stop ≡ None
+StopAfter (Err (errors.Fault error handed)) stop = stop ≡ Some (fault_code error)
+StopAfter (Err (errors.Ended reason)) stop = stop ≡ Some (ended_code reason)
+StopAfter (Err (errors.Stopped code)) stop = stop ≡ Some code
+StopAfter (Err errors.NoMemory) stop = stop ≡ None
+
+-- a fact of each record that a session stands for which hasn't stopped
+abbrev pub ForEachRecord : {S : Type 0} → TxnSession S → (List Entry → Type 0) → Type 0
+ForEachRecord x P = stop_of x ≡ None → (r : List Entry) → StandsFor x r → P r

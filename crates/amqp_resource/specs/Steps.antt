@@ -1,0 +1,257 @@
+-- What one step does on a session that stands for a record.
+use Rattle.std.specs.Prelude.{ℕ, Bool, true, false, not, ◌&&◌, ◌≡◌, ◌≤◌, ◌⊎◌, ⊤, Option, Some, None, Result, Ok, Err, List, [], ◌∷◌, ◌++◌, length, take, slice_get, is_some, is_none, MatchBool}
+use Rattle.std.specs.List.{zip}
+use Rattle.amqp_txn_types.specs.declared.id.TransactionId.{TransactionId}
+use Rattle.amqp_txn_types.specs.declared.delivery.Error.{Error}
+use Rattle.amqp_txn_types.specs.declared.delivery.ConnectionStopReason.{ConnectionStopReason}
+use Rattle.amqp_txn_types.specs.declared.delivery.ConnectionStopReason.TheVariants as stop_reasons
+use Rattle.amqp_txn_types.specs.declared.delivery.SessionStopReason.{SessionStopReason}
+use Rattle.amqp_txn_types.specs.declared.delivery.SessionStopReason.TheVariants as reasons
+use Rattle.amqp_txn_types.specs.declared.performatives.Frame.{Frame}
+use Rattle.amqp_txn_types.specs.Frames.{txn, coord}
+use Rattle.amqp_txn_codec.specs.declared.message.ControlMessageBody.{ControlMessageBody}
+use Rattle.amqp_txn_codec.specs.declared.message.ControlMessageBody.TheVariants as messages
+use Rattle.amqp_txn_codec.specs.Reading.{message_of}
+use Rattle.amqp_below.specs.declared.inner_error.SessionInnerError.{SessionInnerError}
+use Rattle.amqp_below.specs.declared.inner_error.SessionInnerError.TheVariants as faults
+use Rattle.amqp_below.specs.declared.refusal.Refusal.{Refusal}
+use Rattle.amqp_below.specs.Drawn.{DrawnIds}
+use Rattle.amqp_below.specs.Told.{Told, grown, Rose}
+use Rattle.amqp_record.specs.declared.step.Step.{Step}
+use Rattle.amqp_record.specs.declared.step.Step.TheVariants as steps
+use Rattle.amqp_record.specs.declared.reply.Reply.{Reply}
+use Rattle.amqp_record.specs.declared.reply.Reply.TheVariants as replies
+use Rattle.amqp_record.specs.declared.entry.Entry.{Entry}
+use Rattle.amqp_record.specs.declared.stop.StepError.{StepError}
+use Rattle.amqp_record.specs.declared.stop.StepError.TheVariants as errors
+use Rattle.amqp_record.specs.Links.{is_open}
+use Rattle.amqp_record.specs.Live.{is_live, is_held_on}
+use Rattle.amqp_record.specs.Hands.{is_rollback, hands}
+use Rattle.amqp_record.specs.Work.{given_by}
+use Rattle.amqp_record.specs.Answers.{Answer, answered_under}
+use Rattle.amqp_record.specs.Opened.{opened_by, refused_by, refusal_of}
+use Rattle.amqp_resource.specs.declared.held.Held.{Held}
+use Rattle.amqp_resource.specs.Held.{Stands}
+use Rattle.amqp_resource.specs.Taking.{TookFrames}
+
+-- a step with its draws and reply
+abbrev pub entry_of : Step → DrawnIds → Reply → Entry
+entry_of s d reply = record { step = s; drawn = d; reply = reply }
+
+-- the ids of a step that draws none
+abbrev pub nothing_drawn : DrawnIds
+nothing_drawn = record { ids = []; spare = 0 }
+
+-- ---- what a step is
+
+-- the end that the session's own side asks for
+abbrev pub local_end : Option Error → SessionStopReason
+local_end None = reasons.Ended
+local_end (Some error) = reasons.EndedWithError error
+
+-- the end that the peer asks for
+abbrev pub remote_end : Option Error → SessionStopReason
+remote_end None = reasons.RemoteEnded
+remote_end (Some error) = reasons.RemoteEndedWithError error
+
+-- the session's end that a step asks for, with the step's own value
+abbrev pub ended_by : Step → Option SessionStopReason
+ended_by (steps.LocalEnd error) = Some (local_end error)
+ended_by (steps.RemoteEnd error) = Some (remote_end error)
+ended_by (steps.ConnectionStop reason) = Some (reasons.ConnectionStopped reason)
+ended_by _ = None
+
+-- the id, if there is one, isn't live
+abbrev pub IsDead : List Entry → Option TransactionId → Type 0
+IsDead r None = ⊥
+IsDead r (Some t) = is_live r t ≡ false
+
+-- the step is a frame under an id that isn't live
+abbrev pub UnderDead : List Entry → Step → Type 0
+UnderDead r (steps.Frame frame) = IsDead r (txn frame)
+UnderDead r _ = ⊥
+
+-- there is an id
+abbrev pub IsUnder : Option TransactionId → Type 0
+IsUnder None = ⊥
+IsUnder (Some t) = Unit {0}
+
+-- the step is a post or a retirement: a frame under an id
+abbrev pub IsPost : Step → Type 0
+IsPost (steps.Frame frame) = IsUnder (txn frame)
+IsPost _ = ⊥
+
+-- the step is an attach to a coordinator
+abbrev pub IsControlAttach : Step → Type 0
+IsControlAttach (steps.Frame frame) = coord frame ≡ true
+IsControlAttach _ = ⊥
+
+-- a frame calls below where it is plain, or is answered with a disposition
+abbrev pub FrameMayFault : List Entry → Frame → Option TransactionId → Type 0
+FrameMayFault r frame None = coord frame ≡ false
+FrameMayFault r frame (Some t) = (is_live r t ≡ true) × (1 ≤ length (answered_under t frame))
+
+-- a step that a refusal below may stop: a plain frame, a post that is answered with a disposition, a commit with at least one frame
+abbrev pub MayFault : List Entry → Step → Type 0
+MayFault r (steps.Frame frame) = FrameMayFault r frame (txn frame)
+MayFault r (steps.Control k payload) = 1 ≤ length (hands r (steps.Control k payload))
+MayFault r _ = ⊥
+
+-- an id, if there is one, is live
+abbrev pub is_live_under : List Entry → Option TransactionId → Bool
+is_live_under r None = true
+is_live_under r (Some t) = is_live r t
+
+-- a message on an open link takes memory where it is a declare without a global id or a commit
+abbrev pub message_takes_memory : List Entry → ℕ → Option ControlMessageBody → Bool
+message_takes_memory r k None = false
+message_takes_memory r k (Some (messages.Declare declare)) = is_none declare.global_id
+message_takes_memory r k (Some (messages.Discharge discharge)) = not (is_rollback discharge.fail) && is_held_on r k discharge.txn_id
+
+-- a connection's stop with an error
+abbrev pub stop_takes_memory : ConnectionStopReason → Bool
+stop_takes_memory stop_reasons.Closed = false
+stop_takes_memory stop_reasons.RemoteClosed = false
+stop_takes_memory _ = true
+
+-- the steps that take memory; all others never want it
+abbrev pub takes_memory : List Entry → Step → Bool
+takes_memory r (steps.Frame frame) = is_live_under r (txn frame)
+takes_memory r (steps.Control k payload) = is_open r k && message_takes_memory r k (message_of payload)
+takes_memory r (steps.LinkEnd k) = false
+takes_memory r (steps.LocalEnd error) = is_some error
+takes_memory r (steps.RemoteEnd error) = is_some error
+takes_memory r (steps.ConnectionStop reason) = stop_takes_memory reason
+
+-- ---- refusals of the layer below
+
+-- the fault of an id that isn't live
+abbrev pub is_unknown : SessionInnerError → Bool
+is_unknown faults.UnknownTxnId = true
+is_unknown _ = false
+
+-- what a refusal below is given as
+abbrev pub fault_of : SessionInnerError → SessionInnerError
+fault_of faults.UnknownTxnId = faults.IllegalState
+fault_of error = error
+
+-- what a fault adds to what was refused: the frame at the place of those that the step hands, with the layer's own error;
+-- or nothing, where an outgoing disposition may have been refused
+abbrev pub AddsRefusal : Step → List Frame → ℕ → SessionInnerError → List Refusal → Type 0
+AddsRefusal s handed at error more =
+    (own : SessionInnerError) × (error ≡ fault_of own) × (((f : Frame) × (slice_get handed at ≡ Some f) × (more ≡ refusal_of f own)) ⊎ ((more ≡ []) × (IsPost s ⊎ (1 ≤ at))))
+
+-- ---- what an answer leaves
+
+-- below took what the step hands, each frame with what the reply says was given back for it
+abbrev pub TookHands : Told → Told → List Entry → Step → Reply → Type 0
+TookHands old new r s reply = new.taken ≡ grown old.taken (zip (hands r s) (given_by s reply))
+
+-- below took the first frames of those that the step hands
+abbrev pub TookFirst : Told → Told → List Entry → Step → ℕ → Type 0
+TookFirst old new r s handed = (handed ≤ length (hands r s)) × TookFrames old.taken new.taken (take handed (hands r s))
+
+-- below opened what the reply says
+abbrev pub OpenedBy : Told → Told → Step → Reply → Type 0
+OpenedBy old new s reply = new.opened ≡ grown old.opened (opened_by s reply)
+
+-- below refused what the reply says
+abbrev pub RefusedBy : Told → Told → Step → Reply → Type 0
+RefusedBy old new s reply = new.refused ≡ grown old.refused (refused_by s reply)
+
+-- below refused what the fault adds
+abbrev pub RefusedAdds : Told → Told → List Entry → Step → SessionInnerError → ℕ → Type 0
+RefusedAdds old new r s error handed = (more : List Refusal) × AddsRefusal s (hands r s) handed error more × (new.refused ≡ grown old.refused more)
+
+-- the reply is allowed, the session stands for the record with its entry, and below took what the step hands
+pub record Went (h : Held) (old new : Told) (r : List Entry) (s : Step) (d : DrawnIds) (reply : Reply) : Type 0 where
+  pub answer : Answer r s d.ids reply
+  pub stands : Stands h (r ++ entry_of s d reply ∷ [])
+  pub taken : TookHands old new r s reply
+  pub opened : OpenedBy old new s reply
+  pub refused : RefusedBy old new s reply
+
+-- a refusal below stopped the step: the first frames of what it hands were taken
+pub record Refused (old new : Told) (r : List Entry) (s : Step) (error : SessionInnerError) (handed : ℕ) : Type 0 where
+  pub fits : MayFault r s
+  pub took : TookFirst old new r s handed
+  pub opened : new.opened ≡ old.opened
+  pub refused : RefusedAdds old new r s error handed
+
+-- nothing was done, for want of memory
+pub record Stayed (h : Held) (r : List Entry) (s : Step) : Type 0 where
+  pub stands : Stands h r
+  pub takes : takes_memory r s ≡ true
+
+-- by the answer
+abbrev pub StepGave : Held → Told → Told → List Entry → Step → Result (DrawnIds × Reply) StepError → Type 0
+StepGave h old new r s (Ok out) = Went h old new r s out.0 out.1
+StepGave h old new r s (Err (errors.Fault error handed)) = MatchBool (is_unknown error) (UnderDead r s × (handed ≡ 0)) (Refused old new r s error handed)
+StepGave h old new r s (Err (errors.Ended reason)) = ended_by s ≡ Some reason
+StepGave h old new r s (Err (errors.Stopped code)) = ⊥
+StepGave h old new r s (Err errors.NoMemory) = Stayed h r s
+
+-- what a step does, whatever record the session stood for
+abbrev pub Steps : Held → Held → Told → Told → Step → Result (DrawnIds × Reply) StepError → Type 0
+Steps old new told told2 s result = (r : List Entry) → Stands old r → StepGave new told told2 r s result
+
+-- a step that makes no call below
+abbrev pub StepsHere : Held → Held → Step → Result (DrawnIds × Reply) StepError → Type 0
+StepsHere old new s result = (r : List Entry) → Stands old r → (told : Told) → StepGave new told told r s result
+
+-- ---- causes
+
+-- a reply that is a refused attach, with a fact
+abbrev pub IfAttachRefused : Reply → Type 0 → Type 0
+IfAttachRefused (replies.AttachRefused error) P = P
+IfAttachRefused _ P = ⊤
+
+-- when each answer may come on a session that hasn't stopped, whatever it stands for
+abbrev pub StepCause : ℕ → ℕ → Step → Result (DrawnIds × Reply) StepError → Type 0
+StepCause before now s (Ok out) = IfAttachRefused out.1 (Rose before now)
+StepCause before now s (Err (errors.Fault error handed)) = MatchBool (is_unknown error) (IsPost s × (handed ≡ 0)) (Rose before now)
+StepCause before now s (Err (errors.Ended reason)) = ended_by s ≡ Some reason
+StepCause before now s (Err (errors.Stopped code)) = ⊥
+StepCause before now s (Err errors.NoMemory) = Unit {0}
+
+-- an error without a call below: an id that isn't live, an end, a stop before, or want of memory of the session's own
+abbrev pub OnOwnError : Result (DrawnIds × Reply) StepError → Type 0 → Type 0
+OnOwnError (Ok out) P = ⊤
+OnOwnError (Err (errors.Fault error handed)) P = MatchBool (is_unknown error) P ⊤
+OnOwnError (Err _) P = P
+
+-- a refusal below, with its fault and how many frames were taken
+abbrev pub IfRefused : Result (DrawnIds × Reply) StepError → (SessionInnerError → ℕ → Type 0) → Type 0
+IfRefused (Err (errors.Fault error handed)) P = MatchBool (is_unknown error) ⊤ (P error handed)
+IfRefused _ P = ⊤
+
+-- the fault of an id that isn't live, with how many frames were taken
+abbrev pub IfUnknown : Result (DrawnIds × Reply) StepError → (ℕ → Type 0) → Type 0
+IfUnknown (Err (errors.Fault error handed)) P = MatchBool (is_unknown error) (P handed) ⊤
+IfUnknown _ P = ⊤
+
+-- an end, with its value
+abbrev pub IfEnded : Result (DrawnIds × Reply) StepError → (SessionStopReason → Type 0) → Type 0
+IfEnded (Err (errors.Ended reason)) P = P reason
+IfEnded _ P = ⊤
+
+-- want of memory of the session's own
+abbrev pub OnNoMemory : Result (DrawnIds × Reply) StepError → Type 0 → Type 0
+OnNoMemory (Err errors.NoMemory) P = P
+OnNoMemory _ P = ⊤
+
+-- a refused attach
+abbrev pub OnAttachRefused : Result (DrawnIds × Reply) StepError → Type 0 → Type 0
+OnAttachRefused (Ok out) P = IfAttachRefused out.1 P
+OnAttachRefused (Err error) P = ⊤
+
+-- the error isn't that of a session that had stopped before
+abbrev pub IsFirstStop : StepError → Type 0
+IsFirstStop (errors.Stopped code) = ⊥
+IsFirstStop _ = Unit {0}
+
+-- a step is answered with its own end, or with want of memory where the end has an error
+abbrev pub EndGave : SessionStopReason → Bool → StepError → Type 0
+EndGave reason takes (errors.Ended got) = got ≡ reason
+EndGave reason takes errors.NoMemory = takes ≡ true
+EndGave reason takes _ = ⊥

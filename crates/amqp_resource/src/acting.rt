@@ -1,0 +1,81 @@
+//! One step of a session that hasn't stopped.
+
+ghost use Rattle.std.specs.Prelude.{◌≡◌, ◌≤◌, ◌<◌, ◌-◌, ◌^◌, IfOk, OnErr};
+ghost use Rattle.amqp_below.specs.Ids.{Drew};
+ghost use Rattle.amqp_record.specs.declared.step.Step.TheVariants as steps;
+ghost use Rattle.amqp_resource.specs.Steps.{Steps, StepCause, OnOwnError};
+
+use crate::declaring::{declare_step, global_step};
+use crate::discharging::discharge_step;
+use crate::ending::{end_locally, end_remotely, end_with_connection};
+use crate::frame_steps::frame_step;
+use crate::held::{Held, has_link};
+use crate::link_steps::{close_step, link_end_step, no_link_step};
+use amqp_below::{Drawn, IdSource, LayerBelow};
+use amqp_record::{Reply, Step, StepError};
+use amqp_txn_codec::{ControlMessageBody, Declare, decode};
+use amqp_txn_types::Payload;
+use std::alloc::Global;
+
+/// A control message.
+fn control_step<S: LayerBelow, G: IdSource>(
+    held: &mut Held,
+    below: &mut S,
+    alloc: Global,
+    link: u64,
+    payload: &Payload,
+    ids: &mut G,
+) -> Result<(Drawn, Reply), StepError>
+    ensures goes { Steps held.old held.new (S.told below.old) (S.told below.new) (steps.Control link payload.now) result }
+    ensures cause { StepCause (S.told below.old).refusals (S.told below.new).refusals (steps.Control link payload.now) result }
+    ensures untouched { OnOwnError result (below.new ≡ below.old) }
+    ensures state { (S.told below.new).state ≡ (S.told below.old).state }
+    ensures later { (S.told below.old).refusals ≤ (S.told below.new).refusals }
+    ensures drew { IfOk result (λ out. Drew (G.next ids.old) (G.next ids.new) out.0.ids) }
+    ensures source { OnErr result (ids.new ≡ ids.old) }
+    ensures start { G.start ids.new ≡ G.start ids.old }
+{
+    if !has_link(held.links.as_slice(), link) {
+        return no_link_step(held, alloc, link, payload);
+    }
+    match decode(payload.as_slice()) {
+        Err(_) => close_step(held, alloc, link, payload),
+        Ok(ControlMessageBody::Declare(Declare {
+            global_id: Some(global),
+        })) => global_step(held, alloc, link, payload, global),
+        Ok(ControlMessageBody::Declare(Declare { global_id: None })) => {
+            declare_step(held, alloc, link, payload, ids)
+        }
+        Ok(ControlMessageBody::Discharge(discharge)) => {
+            discharge_step(held, below, alloc, link, payload, discharge)
+        }
+    }
+}
+
+/// One step of a session that hasn't stopped.
+pub fn act<S: LayerBelow, G: IdSource>(
+    held: &mut Held,
+    below: &mut S,
+    alloc: Global,
+    step: &Step,
+    ids: &mut G,
+) -> Result<(Drawn, Reply), StepError>
+    requires room { held.old.opened < 2 ^ 64 - 1 }
+    ensures goes { Steps held.old held.new (S.told below.old) (S.told below.new) step.now result }
+    ensures cause { StepCause (S.told below.old).refusals (S.told below.new).refusals step.now result }
+    ensures untouched { OnOwnError result (below.new ≡ below.old) }
+    ensures state { (S.told below.new).state ≡ (S.told below.old).state }
+    ensures later { (S.told below.old).refusals ≤ (S.told below.new).refusals }
+    ensures drew { IfOk result (λ out. Drew (G.next ids.old) (G.next ids.new) out.0.ids) }
+    ensures source { OnErr result (ids.new ≡ ids.old) }
+    ensures start { G.start ids.new ≡ G.start ids.old }
+{
+    match step {
+        Step::Frame(frame) => frame_step(held, below, alloc, frame),
+        Step::Control { link, payload } => control_step(held, below, alloc, *link, payload, ids),
+        Step::LinkEnd { link } => link_end_step(held, alloc, *link),
+        Step::LocalEnd(error) => Err(end_locally(error)),
+        Step::RemoteEnd(error) => Err(end_remotely(error)),
+        Step::ConnectionStop(reason) => Err(end_with_connection(reason)),
+    }
+}

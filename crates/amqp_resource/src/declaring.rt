@@ -1,0 +1,105 @@
+//! Declares: ids are drawn until one isn't live.
+
+ghost use Rattle.std.specs.Prelude.{◌≡◌, ◌≤◌, ℕ, [], true, Some, None, MatchOption, IfOk, OnErr};
+ghost use Rattle.amqp_txn_codec.specs.Reading.{message_of};
+ghost use Rattle.amqp_txn_codec.specs.declared.message.ControlMessageBody.TheVariants as messages;
+ghost use Rattle.amqp_below.specs.Ids.{Drew};
+ghost use Rattle.amqp_record.specs.declared.step.Step.TheVariants as steps;
+ghost use Rattle.amqp_resource.specs.Held.{is_in};
+ghost use Rattle.amqp_resource.specs.Draws.{DrewUnused, DrewLive};
+ghost use Rattle.amqp_resource.specs.Steps.{StepsHere, StepCause, nothing_drawn};
+
+use crate::held::{Held, Live, place_of};
+use crate::outcomes::no_draws;
+use amqp_below::{Drawn, IdSource};
+use amqp_record::{RejectText, Reply, StepError};
+use amqp_txn_types::{Frames, Payload, TransactionError, TransactionId};
+use std::alloc::Global;
+
+/// A declare with a global id is rejected.
+pub fn global_step(
+    held: &Held,
+    alloc: Global,
+    link: u64,
+    payload: &Payload,
+    global: TransactionId,
+) -> Result<(Drawn, Reply), StepError>
+    requires message { message_of payload.now ≡ Some (messages.Declare (record { global_id = Some global })) }
+    requires opened { is_in held.now.links.items link ≡ true }
+    ensures goes { StepsHere held.now held.now (steps.Control link payload.now) result }
+    ensures cause { (n : ℕ) → StepCause n n (steps.Control link payload.now) result }
+    ensures draws { IfOk result (λ out. out.0 ≡ nothing_drawn) }
+{
+    Ok((
+        no_draws(alloc),
+        Reply::Rejected {
+            error: TransactionError::UnknownId,
+            text: RejectText::GlobalId,
+        },
+    ))
+}
+
+/// Draws up to 16 ids, to the first that isn't live.
+fn draw_unused<G: IdSource>(
+    live: &[Live],
+    ids: &mut G,
+    drawn: &mut Drawn,
+) -> Option<TransactionId>
+    requires none { drawn.old.ids ≡ [] }
+    requires room { 16 ≤ drawn.old.spare }
+    ensures unused { MatchOption result (DrewLive live.now drawn.new.ids) (λ id. DrewUnused live.now drawn.new.ids id) }
+    ensures drew { Drew (G.next ids.old) (G.next ids.new) drawn.new.ids }
+    ensures start { G.start ids.new ≡ G.start ids.old }
+{
+    for _turn in 0..16usize {
+        let id = ids.draw();
+        drawn.push(id);
+        match place_of(live, id) {
+            None => return Some(id),
+            Some(_) => {}
+        }
+    }
+    None
+}
+
+/// A declare without a global id.
+pub fn declare_step<G: IdSource>(
+    held: &mut Held,
+    alloc: Global,
+    link: u64,
+    payload: &Payload,
+    ids: &mut G,
+) -> Result<(Drawn, Reply), StepError>
+    requires message { message_of payload.now ≡ Some (messages.Declare (record { global_id = None })) }
+    requires opened { is_in held.old.links.items link ≡ true }
+    ensures goes { StepsHere held.old held.new (steps.Control link payload.now) result }
+    ensures cause { (n : ℕ) → StepCause n n (steps.Control link payload.now) result }
+    ensures drew { IfOk result (λ out. Drew (G.next ids.old) (G.next ids.new) out.0.ids) }
+    ensures source { OnErr result (ids.new ≡ ids.old) }
+    ensures start { G.start ids.new ≡ G.start ids.old }
+{
+    let mut drawn = Drawn::new(alloc);
+    let Ok(()) = drawn.make_room() else {
+        return Err(StepError::NoMemory);
+    };
+    let Ok(()) = held.live.reserve(1) else {
+        return Err(StepError::NoMemory);
+    };
+    match draw_unused(held.live.as_slice(), ids, &mut drawn) {
+        Some(id) => {
+            held.live.push_reserved(Live {
+                id,
+                holder: link,
+                frames: Frames::new(alloc),
+            });
+            Ok((drawn, Reply::Declared(id)))
+        }
+        None => Ok((
+            drawn,
+            Reply::Rejected {
+                error: TransactionError::UnknownId,
+                text: RejectText::IdsRepeat,
+            },
+        )),
+    }
+}

@@ -1,0 +1,83 @@
+//! Discharges: a rollback lets its frames go, a commit hands them.
+
+ghost use Rattle.std.specs.Prelude.{◌≡◌, ◌≤◌, true, Some, IfOk};
+ghost use Rattle.amqp_txn_codec.specs.Reading.{message_of};
+ghost use Rattle.amqp_txn_codec.specs.declared.message.ControlMessageBody.TheVariants as messages;
+ghost use Rattle.amqp_txn_types.specs.declared.small.TransactionError.TheVariants as transaction_errors;
+ghost use Rattle.amqp_record.specs.declared.step.Step.TheVariants as steps;
+ghost use Rattle.amqp_record.specs.declared.reply.Reply.TheVariants as replies;
+ghost use Rattle.amqp_record.specs.declared.reply.RejectText.TheVariants as texts;
+ghost use Rattle.amqp_record.specs.Hands.{is_rollback};
+ghost use Rattle.amqp_resource.specs.Held.{is_in};
+ghost use Rattle.amqp_resource.specs.Steps.{Steps, StepCause, OnOwnError, nothing_drawn};
+
+use crate::committing::hand_all;
+use crate::held::{Held, Live, place_of, take_at};
+use crate::outcomes::{fault_of, no_draws};
+use amqp_below::{Drawn, Echoes, LayerBelow};
+use amqp_record::{RejectText, Reply, StepError};
+use amqp_txn_codec::Discharge;
+use amqp_txn_types::{Payload, TransactionError};
+use std::alloc::Global;
+
+fn is_rollback(fail: Option<bool>) -> bool
+    ensures { result ≡ is_rollback fail }
+{
+    matches!(fail, Some(true))
+}
+
+/// The reply to a discharge of an id that isn't both live and declared on the link.
+fn absent() -> Reply
+    ensures { result ≡ replies.Rejected transaction_errors.UnknownId texts.Absent }
+{
+    Reply::Rejected {
+        error: TransactionError::UnknownId,
+        text: RejectText::Absent,
+    }
+}
+
+/// A discharge on an open link.
+pub fn discharge_step<S: LayerBelow>(
+    held: &mut Held,
+    below: &mut S,
+    alloc: Global,
+    link: u64,
+    payload: &Payload,
+    discharge: Discharge,
+) -> Result<(Drawn, Reply), StepError>
+    requires message { message_of payload.now ≡ Some (messages.Discharge discharge) }
+    requires opened { is_in held.old.links.items link ≡ true }
+    ensures goes { Steps held.old held.new (S.told below.old) (S.told below.new) (steps.Control link payload.now) result }
+    ensures cause { StepCause (S.told below.old).refusals (S.told below.new).refusals (steps.Control link payload.now) result }
+    ensures untouched { OnOwnError result (below.new ≡ below.old) }
+    ensures state { (S.told below.new).state ≡ (S.told below.old).state }
+    ensures later { (S.told below.old).refusals ≤ (S.told below.new).refusals }
+    ensures draws { IfOk result (λ out. out.0 ≡ nothing_drawn) }
+{
+    let Some(at) = place_of(held.live.as_slice(), discharge.txn_id) else {
+        return Ok((no_draws(alloc), absent()));
+    };
+    if held.live[at].holder != link {
+        return Ok((no_draws(alloc), absent()));
+    }
+    if is_rollback(discharge.fail) {
+        let _dropped = take_at(&mut held.live, at, discharge.txn_id);
+        return Ok((no_draws(alloc), Reply::Accepted(Echoes::new(alloc))));
+    }
+    let room = held.live[at].frames.len();
+    let Ok(echoes) = Vec::with_capacity(alloc, room) else {
+        return Err(StepError::NoMemory);
+    };
+    let Live {
+        id: _,
+        holder: _,
+        frames,
+    } = take_at(&mut held.live, at, discharge.txn_id);
+    match hand_all(below, frames.into_vec(), echoes) {
+        Ok(echoes) => Ok((no_draws(alloc), Reply::Accepted(echoes))),
+        Err(refusal) => Err(StepError::Fault {
+            error: fault_of(refusal.error),
+            handed: refusal.handed,
+        }),
+    }
+}

@@ -1,0 +1,105 @@
+//! Lists of steps.
+
+ghost use Rattle.std.specs.Prelude.{◌≡◌, ◌≤◌, ◌↔◌, length, take, Some};
+ghost use Rattle.amqp_txn_types.specs.declared.delivery.SessionStopReason.{SessionStopReason};
+ghost use Rattle.amqp_below.specs.declared.inner_error.SessionInnerError.TheVariants as faults;
+ghost use Rattle.amqp_below.specs.Ids.{Drew};
+ghost use Rattle.amqp_below.specs.Told.{grown};
+ghost use Rattle.amqp_record.specs.declared.stop.Stop.TheVariants as stops;
+ghost use Rattle.amqp_record.specs.Entries.{drawn_of, steps_of};
+ghost use Rattle.amqp_record.specs.Legal.{IsLegal};
+ghost use Rattle.amqp_record.specs.Opened.{opens};
+ghost use Rattle.amqp_resource.specs.Drive.{NextStep, RunLeaves, RunRefused, RunRose, RunTook, StopCause, StopsBy, StopsWith};
+ghost use Rattle.amqp_resource.specs.Steps.{IsFirstStop, UnderDead, ended_by};
+ghost use Rattle.amqp_resource.specs.Session.{IsFresh, told_of};
+
+use crate::session::TxnSession;
+use amqp_below::{IdSource, LayerBelow};
+use amqp_record::{Driven, Entries, Entry, StepError, Steps, Stop};
+use std::collections::VecDeque;
+
+/// The stop of a run, by the error of its last step, with the number of frames handed.
+fn stop_by(error: StepError) -> (Stop, usize)
+    requires { IsFirstStop error }
+    ensures { StopsBy error result.0 result.1 }
+{
+    match error {
+        StepError::Fault { error, handed } => (Stop::Fault(error), handed),
+        StepError::Ended(reason) => (Stop::Ended(reason), 0),
+        StepError::NoMemory => (Stop::NoMemory, 0),
+        StepError::Stopped(_) => unreachable!(),
+    }
+}
+
+/// What a run made.
+fn driven(entries: Vec<Entry>, stop: Stop, handed: usize) -> Driven
+    ensures { result ≡ record { entries = entries.items; stop = stop; at = length entries.items; handed = handed } }
+{
+    let at = entries.len();
+    Driven {
+        entries: Entries::from_vec(entries),
+        stop,
+        at,
+        handed,
+    }
+}
+
+/// Makes the steps of a fresh session in order, until one isn't answered.
+pub fn drive<S: LayerBelow, G: IdSource>(
+    session: &mut TxnSession<S>,
+    steps: Steps,
+    ids: &mut G,
+) -> Driven
+    requires { IsFresh S.told session.old }
+    // The record: each entry is an answer of those before it, to the first of the steps, with the
+    // source's next ids.
+    ensures legal { IsLegal result.entries }
+    ensures at { result.at ≡ length result.entries }
+    ensures steps { steps_of result.entries ≡ take result.at steps }
+    ensures drew { Drew (G.next ids.old) (G.next ids.new) (drawn_of result.entries) }
+    ensures start { G.start ids.new ≡ G.start ids.old }
+    // The stop: Done exactly where every step has its entry, and each other one by the next step.
+    ensures done { (result.stop ≡ stops.Done) ↔ (steps_of result.entries ≡ steps) }
+    ensures cause { StopCause steps result.entries result.stop }
+    ensures unknown {
+        NextStep steps result.entries (λ s. UnderDead result.entries s) →
+            StopsWith result.stop (stops.Fault faults.UnknownTxnId) }
+    ensures ended {
+        (reason : SessionStopReason) → NextStep steps result.entries (λ s. ended_by s ≡ Some reason) →
+            StopsWith result.stop (stops.Ended reason) }
+    // What below took, opened and refused, after what it had before.
+    ensures taken {
+        RunTook (told_of S.told session.old).taken (told_of S.told session.new).taken
+            steps result.entries result.stop result.handed }
+    ensures opened {
+        (told_of S.told session.new).opened
+            ≡ grown (told_of S.told session.old).opened (opens result.entries) }
+    ensures refused {
+        RunRefused (told_of S.told session.old).refused (told_of S.told session.new).refused
+            steps result.entries result.stop result.handed }
+    // Each refusal that was answered was counted, as long as the count can rise.
+    ensures rose {
+        RunRose (told_of S.told session.old).refusals (told_of S.told session.new).refusals
+            result.entries result.stop }
+    ensures later { (told_of S.told session.old).refusals ≤ (told_of S.told session.new).refusals }
+    ensures state { (told_of S.told session.new).state ≡ (told_of S.told session.old).state }
+    // The session stands for the record, or keeps the code of its stop.
+    ensures leaves { RunLeaves session.new result.entries result.stop }
+{
+    let alloc = session.allocator();
+    let Ok(mut entries) = Vec::with_capacity(alloc, steps.len()) else {
+        return driven(Vec::new(alloc), Stop::NoMemory, 0);
+    };
+    let mut rest = VecDeque::from(steps.into_vec());
+    while let Some(step) = rest.pop_front() {
+        match session.step(&step, ids) {
+            Ok((drawn, reply)) => entries.push_reserved(Entry { step, drawn, reply }),
+            Err(error) => {
+                drop(step);
+                let (stop, handed) = stop_by(error);
+                return driven(entries, stop, handed);
+            }
+        }
+    }
+    driven(entries, Stop::Done, 0)
+}

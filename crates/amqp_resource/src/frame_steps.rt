@@ -1,0 +1,204 @@
+//! Steps that are frames: plain ones, work under a transaction, and attaches of control links.
+
+ghost use Rattle.std.specs.Prelude.{◌≡◌, ◌≤◌, ◌<◌, ◌-◌, ◌^◌, [], true, false, Some, IfOk, MatchOption, cond, List};
+ghost use Rattle.amqp_txn_types.specs.declared.performatives.Frame.TheVariants as frames;
+ghost use Rattle.amqp_txn_types.specs.Frames.{txn, coord, plain, attaches_coordinator};
+ghost use Rattle.amqp_record.specs.declared.step.Step.TheVariants as steps;
+ghost use Rattle.amqp_record.specs.Answers.{answered_under, presumed};
+ghost use Rattle.amqp_resource.specs.Steps.{Steps, StepCause, OnOwnError, nothing_drawn};
+
+use crate::held::{Held, keep_at, place_of, push_frame};
+use crate::outcomes::{fault_of, no_draws};
+use crate::taking::{check_given, take_frame};
+use amqp_below::{Answers, Drawn, LayerBelow, SessionInnerError};
+use amqp_record::{Reply, StepError};
+use amqp_txn_types::{
+    Attach, DeliveryState, Disposition, Frame, Frames, NoMemory, Outcome, Role, TransactionId,
+    TransactionalState, Transfer, TryClone, is_coordinator, txn_of,
+};
+use std::alloc::Global;
+
+fn handed_of(taken: bool) -> usize
+    ensures { result ≡ cond taken 1 0 }
+{
+    if taken { 1 } else { 0 }
+}
+
+/// A plain frame goes below.
+fn plain_step<S: LayerBelow>(
+    held: &Held,
+    below: &mut S,
+    alloc: Global,
+    frame: &Frame,
+) -> Result<(Drawn, Reply), StepError>
+    requires { plain frame.now ≡ true }
+    ensures goes { Steps held.now held.now (S.told below.old) (S.told below.new) (steps.Frame frame.now) result }
+    ensures cause { StepCause (S.told below.old).refusals (S.told below.new).refusals (steps.Frame frame.now) result }
+    ensures untouched { OnOwnError result (below.new ≡ below.old) }
+    ensures state { (S.told below.new).state ≡ (S.told below.old).state }
+    ensures later { (S.told below.old).refusals ≤ (S.told below.new).refusals }
+    ensures draws { IfOk result (λ out. out.0 ≡ nothing_drawn) }
+{
+    let Ok(copy) = frame.try_clone() else {
+        return Err(StepError::NoMemory);
+    };
+    match take_frame(below, copy) {
+        Ok(answers) => Ok((no_draws(alloc), Reply::Frames(answers))),
+        Err(refusal) => Err(StepError::Fault {
+            error: fault_of(refusal.error),
+            handed: handed_of(refusal.taken),
+        }),
+    }
+}
+
+/// The disposition of a post that has a delivery id and isn't settled, before its outcome is known.
+fn presumed(alloc: Global, transfer: &Transfer, id: TransactionId) -> Result<Frames, NoMemory>
+    ensures { IfOk result (λ given. given ≡ presumed transfer.now.settled transfer.now.delivery_id id) }
+{
+    let mut given = Frames::new(alloc);
+    if transfer.settled == Some(true) {
+        return Ok(given);
+    }
+    if let Some(first) = transfer.delivery_id {
+        let disposition = Disposition {
+            role: Role::Receiver,
+            first,
+            last: None,
+            settled: true,
+            state: Some(DeliveryState::TransactionalState(TransactionalState {
+                txn_id: id,
+                outcome: Some(Outcome::Accepted),
+            })),
+            batchable: false,
+        };
+        push_frame(&mut given, Frame::Disposition(disposition))?;
+    }
+    Ok(given)
+}
+
+/// What a frame under a live id is answered at once.
+fn answers_under(alloc: Global, frame: &Frame, id: TransactionId) -> Result<Frames, NoMemory>
+    ensures { IfOk result (λ given. given ≡ answered_under id frame.now) }
+{
+    match frame {
+        Frame::Transfer { transfer, .. } => presumed(alloc, transfer, id),
+        _ => Ok(Frames::new(alloc)),
+    }
+}
+
+/// A frame under an id is kept.
+fn post_step<S: LayerBelow>(
+    held: &mut Held,
+    below: &mut S,
+    alloc: Global,
+    frame: &Frame,
+    id: TransactionId,
+) -> Result<(Drawn, Reply), StepError>
+    requires { txn frame.now ≡ Some id }
+    ensures goes { Steps held.old held.new (S.told below.old) (S.told below.new) (steps.Frame frame.now) result }
+    ensures cause { StepCause (S.told below.old).refusals (S.told below.new).refusals (steps.Frame frame.now) result }
+    ensures untouched { OnOwnError result (below.new ≡ below.old) }
+    ensures state { (S.told below.new).state ≡ (S.told below.old).state }
+    ensures later { (S.told below.old).refusals ≤ (S.told below.new).refusals }
+    ensures draws { IfOk result (λ out. out.0 ≡ nothing_drawn) }
+{
+    let Some(at) = place_of(held.live.as_slice(), id) else {
+        return Err(StepError::Fault {
+            error: SessionInnerError::UnknownTxnId,
+            handed: 0,
+        });
+    };
+    let Ok(given) = answers_under(alloc, frame, id) else {
+        return Err(StepError::NoMemory);
+    };
+    let Ok(copy) = frame.try_clone() else {
+        return Err(StepError::NoMemory);
+    };
+    let Ok(()) = keep_at(&mut held.live, at, id, copy) else {
+        return Err(StepError::NoMemory);
+    };
+    match check_given(below, given.as_slice()) {
+        Ok(()) => Ok((
+            no_draws(alloc),
+            Reply::Frames(Answers {
+                given,
+                window: None,
+            }),
+        )),
+        Err(error) => Err(StepError::Fault {
+            error: fault_of(error),
+            handed: 0,
+        }),
+    }
+}
+
+/// An attach to a coordinator opens a control link.
+fn attach_step<S: LayerBelow>(
+    held: &mut Held,
+    below: &mut S,
+    alloc: Global,
+    attach: &Attach,
+) -> Result<(Drawn, Reply), StepError>
+    requires coordinator { attaches_coordinator attach.now ≡ true }
+    requires room { held.old.opened < 2 ^ 64 - 1 }
+    ensures goes { Steps held.old held.new (S.told below.old) (S.told below.new) (steps.Frame (frames.Attach attach.now)) result }
+    ensures cause { StepCause (S.told below.old).refusals (S.told below.new).refusals (steps.Frame (frames.Attach attach.now)) result }
+    ensures untouched { OnOwnError result (below.new ≡ below.old) }
+    ensures state { (S.told below.new).state ≡ (S.told below.old).state }
+    ensures later { (S.told below.old).refusals ≤ (S.told below.new).refusals }
+    ensures draws { IfOk result (λ out. out.0 ≡ nothing_drawn) }
+{
+    let Ok(()) = held.links.reserve(1) else {
+        return Err(StepError::NoMemory);
+    };
+    match below.on_control_attach(attach) {
+        Ok(frames) => {
+            let link = held.opened;
+            held.links.push_reserved(link);
+            held.opened += 1;
+            Ok((no_draws(alloc), Reply::Attached { link, frames }))
+        }
+        Err(error) => Ok((no_draws(alloc), Reply::AttachRefused(error))),
+    }
+}
+
+/// The attach of a frame that opens a control link.
+#[tactic(auto, unfolding(amqp_txn_types::specs::Frames::coord))]
+fn control_attach_of(frame: &Frame) -> Option<&Attach>
+    ensures { MatchOption result (coord frame.now ≡ false) (λ attach. (frame.now ≡ frames.Attach attach.now) × (attaches_coordinator attach.now ≡ true)) }
+{
+    match frame {
+        Frame::Attach(attach) => {
+            if is_coordinator(attach) {
+                Some(attach)
+            } else {
+                None
+            }
+        }
+        _ => None,
+    }
+}
+
+/// A step that is a frame.
+pub fn frame_step<S: LayerBelow>(
+    held: &mut Held,
+    below: &mut S,
+    alloc: Global,
+    frame: &Frame,
+) -> Result<(Drawn, Reply), StepError>
+    requires room { held.old.opened < 2 ^ 64 - 1 }
+    ensures goes { Steps held.old held.new (S.told below.old) (S.told below.new) (steps.Frame frame.now) result }
+    ensures cause { StepCause (S.told below.old).refusals (S.told below.new).refusals (steps.Frame frame.now) result }
+    ensures untouched { OnOwnError result (below.new ≡ below.old) }
+    ensures state { (S.told below.new).state ≡ (S.told below.old).state }
+    ensures later { (S.told below.old).refusals ≤ (S.told below.new).refusals }
+    ensures draws { IfOk result (λ out. out.0 ≡ nothing_drawn) }
+{
+    if let Some(id) = txn_of(frame) {
+        return post_step(held, below, alloc, frame, id);
+    }
+    match control_attach_of(frame) {
+        Some(attach) => attach_step(held, below, alloc, attach),
+        None => plain_step(held, below, alloc, frame),
+    }
+}

@@ -1,0 +1,61 @@
+//! Steps that end or close a control link, or name one that isn't open.
+
+ghost use Rattle.std.specs.Prelude.{◌≡◌, ℕ, true, false, None, IfOk};
+ghost use Rattle.amqp_txn_codec.specs.Reading.{message_of};
+ghost use Rattle.amqp_record.specs.declared.step.Step.TheVariants as steps;
+ghost use Rattle.amqp_resource.specs.Held.{is_in};
+ghost use Rattle.amqp_resource.specs.Steps.{StepsHere, StepCause, nothing_drawn};
+
+use crate::held::{Held, drop_held_on, drop_link, has_link};
+use crate::outcomes::no_draws;
+use amqp_below::Drawn;
+use amqp_record::{Reply, StepError};
+use amqp_txn_types::{AmqpError, Payload};
+use std::alloc::Global;
+
+/// The end of a link aborts what it declared.
+pub fn link_end_step(held: &mut Held, alloc: Global, link: u64) -> Result<(Drawn, Reply), StepError>
+    ensures goes { StepsHere held.old held.new (steps.LinkEnd link) result }
+    ensures cause { (n : ℕ) → StepCause n n (steps.LinkEnd link) result }
+    ensures draws { IfOk result (λ out. out.0 ≡ nothing_drawn) }
+{
+    if !has_link(held.links.as_slice(), link) {
+        return Ok((no_draws(alloc), Reply::NoLink));
+    }
+    drop_held_on(&mut held.live, link);
+    drop_link(&mut held.links, link);
+    Ok((no_draws(alloc), Reply::LinkEnded))
+}
+
+/// A payload that is no control message closes its link.
+pub fn close_step(
+    held: &mut Held,
+    alloc: Global,
+    link: u64,
+    payload: &Payload,
+) -> Result<(Drawn, Reply), StepError>
+    requires message { message_of payload.now ≡ None }
+    requires opened { is_in held.old.links.items link ≡ true }
+    ensures goes { StepsHere held.old held.new (steps.Control link payload.now) result }
+    ensures cause { (n : ℕ) → StepCause n n (steps.Control link payload.now) result }
+    ensures draws { IfOk result (λ out. out.0 ≡ nothing_drawn) }
+{
+    drop_held_on(&mut held.live, link);
+    drop_link(&mut held.links, link);
+    Ok((no_draws(alloc), Reply::LinkClosed(AmqpError::NotAllowed)))
+}
+
+/// A control message on a link that isn't open.
+pub fn no_link_step(
+    held: &Held,
+    alloc: Global,
+    link: u64,
+    payload: &Payload,
+) -> Result<(Drawn, Reply), StepError>
+    requires { is_in held.now.links.items link ≡ false }
+    ensures goes { StepsHere held.now held.now (steps.Control link payload.now) result }
+    ensures cause { (n : ℕ) → StepCause n n (steps.Control link payload.now) result }
+    ensures draws { IfOk result (λ out. out.0 ≡ nothing_drawn) }
+{
+    Ok((no_draws(alloc), Reply::NoLink))
+}

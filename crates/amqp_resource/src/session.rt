@@ -1,0 +1,226 @@
+//! A session: what it keeps, the layer below, and whether it stopped.
+
+ghost use Rattle.std.specs.Prelude.{◌≡◌, ◌≤◌, ◌<◌, ◌-◌, ◌^◌, ◌↔◌, ◌∷◌, ◌++◌, ◌⊎◌, [], List, None, Some, Err, IfSome, IfOk, IfErr, OnErr, IsTrue, true};
+ghost use Rattle.amqp_txn_types.specs.declared.id.TransactionId.{TransactionId as Id};
+ghost use Rattle.amqp_txn_types.specs.declared.delivery.SessionStopReason.{SessionStopReason};
+ghost use Rattle.amqp_below.specs.declared.inner_error.SessionInnerError.TheVariants as faults;
+ghost use Rattle.amqp_below.specs.Told.{Rose};
+ghost use Rattle.amqp_below.specs.Ids.{Drew};
+ghost use Rattle.amqp_record.specs.declared.entry.Entry.{Entry};
+ghost use Rattle.amqp_record.specs.declared.stop.StepError.TheVariants as errors;
+ghost use Rattle.amqp_record.specs.Links.{attached_count};
+ghost use Rattle.amqp_record.specs.Live.{is_live};
+ghost use Rattle.amqp_record.specs.Answers.{Answer};
+ghost use Rattle.amqp_resource.specs.Steps.{entry_of, ended_by, takes_memory, IfEnded, IfRefused, IfUnknown, IsControlAttach, IsFirstStop, MayFault, OnAttachRefused, OnNoMemory, OnOwnError, OpenedBy, RefusedAdds, RefusedBy, TookFirst, TookHands, UnderDead};
+ghost use Rattle.amqp_resource.specs.Complete.{InOrder, Completed};
+ghost use Rattle.amqp_resource.specs.Session.{ForEachRecord, IsFresh, StandsFor, StopAfter, below_of, is_live_on, opened_of, stop_of, told_of};
+
+use crate::acting::act;
+use crate::held::{Held, has_id, keeps_nothing};
+use amqp_below::{Drawn, IdSource, LayerBelow};
+use amqp_record::{Drawn16, Reply, Step, StepError, StopCode, code_of_end, code_of_fault};
+use amqp_txn_types::{SessionState, TransactionId};
+use std::alloc::Global;
+
+/// A session that serves transactions over a layer below. Part 4 of the standard, section 4.4.
+///
+/// It keeps the frames that come under each live transaction and hands them below when it commits.
+/// Once a refusal below, a frame under an id that isn't live or an end stopped it, it does nothing more.
+#[derive(Drop)]
+pub struct TxnSession<S> {
+    held: Held,
+    below: S,
+    stop: Option<StopCode>,
+    alloc: Global,
+}
+
+/// The code that a session keeps after an answer.
+fn stop_after(answer: &Result<(Drawn, Reply), StepError>) -> Option<StopCode>
+    ensures { StopAfter answer.now result }
+{
+    match answer {
+        Ok(_) => None,
+        Err(StepError::Fault { error, .. }) => Some(code_of_fault(error)),
+        Err(StepError::Ended(reason)) => Some(code_of_end(reason)),
+        Err(StepError::Stopped(code)) => Some(*code),
+        Err(StepError::NoMemory) => None,
+    }
+}
+
+impl<S> TxnSession<S> {
+    /// The allocator that the session grows on.
+    pub(crate) fn allocator(&self) -> Global {
+        self.alloc
+    }
+}
+
+impl<S: LayerBelow> TxnSession<S> {
+    /// A session over the layer below, whatever state that is in: no live id, no link opened, not
+    /// stopped. It takes no memory; later growth takes it from `alloc`.
+    pub fn new(alloc: Global, below: S) -> TxnSession<S>
+        ensures stands { StandsFor result [] }
+        ensures stop { stop_of result ≡ None }
+        ensures below { below_of result ≡ below }
+    {
+        TxnSession {
+            held: Held {
+                live: Vec::new(alloc),
+                links: Vec::new(alloc),
+                opened: 0,
+            },
+            below,
+            stop: None,
+            alloc,
+        }
+    }
+
+    /// Whether no id is live, no link was opened so far, the session hasn't stopped and the layer
+    /// below is mapped.
+    pub fn is_fresh(&self) -> bool
+        ensures { IsTrue result ↔ IsFresh S.told self.now }
+    {
+        if !keeps_nothing(&self.held) {
+            return false;
+        }
+        if self.stop.is_some() {
+            return false;
+        }
+        self.below.local_state() == SessionState::Mapped
+    }
+
+    /// Whether the id is live: declared, not discharged since, on a link that is open.
+    pub fn is_live(&self, txn_id: &TransactionId) -> bool
+        ensures kept { result ≡ is_live_on self.now txn_id.now }
+        ensures as_record { (r : List Entry) → StandsFor self.now r → result ≡ is_live r txn_id.now }
+    {
+        has_id(self.held.live.as_slice(), *txn_id)
+    }
+
+    /// How many control links were opened so far.
+    pub fn links_opened(&self) -> u64
+        ensures kept { result ≡ opened_of self.now }
+        ensures as_record { (r : List Entry) → StandsFor self.now r → result ≡ attached_count r }
+    {
+        self.held.opened
+    }
+
+    /// The code of the session's first stop.
+    pub fn stop_code(&self) -> Option<StopCode>
+        ensures { result ≡ stop_of self.now }
+    {
+        self.stop
+    }
+
+    /// The layer below.
+    pub fn below(&self) -> &S
+        ensures { result.now ≡ below_of self.now }
+    {
+        &self.below
+    }
+
+    /// The layer below, taken out of the session.
+    pub fn into_below(self) -> S
+        ensures { result ≡ below_of self }
+    {
+        self.below
+    }
+
+    /// One step, with its reply and the ids that it drew from the source.
+    ///
+    /// Errors: `Stopped` on a session that had stopped, with the code of its first stop. `Ended`
+    /// for the three ends, with the step's own value; a copy of its error may want memory.
+    /// `Fault` with an unknown id for work under an id that isn't live, and with any other error
+    /// where the layer below refused a plain frame, the answer of a post, or a frame of a commit;
+    /// `handed` counts the step's frames that were taken. Each of these stops the session. A
+    /// refused attach of a control link is a reply, and the session goes on. `NoMemory` leaves the
+    /// session as it was.
+    pub fn step<G: IdSource>(
+        &mut self,
+        step: &Step,
+        ids: &mut G,
+    ) -> Result<(Drawn16, Reply), StepError>
+        requires room { stop_of self.old ≡ None → opened_of self.old < 2 ^ 64 - 1 }
+        // A stopped session answers with the code of its first stop, and nothing changes.
+        ensures stopped {
+            IfSome (stop_of self.old) (λ code.
+                (result ≡ Err (errors.Stopped code)) × (self.new ≡ self.old) × (ids.new ≡ ids.old)) }
+        ensures runs { stop_of self.old ≡ None → IfErr result IsFirstStop }
+        // The reply is an answer of the record to the step with the ids drawn, and the session then
+        // stands for the record with this entry.
+        ensures answer {
+            ForEachRecord self.old (λ r. IfOk result (λ out. Answer r step.now out.0.ids out.1)) }
+        ensures stands {
+            ForEachRecord self.old (λ r. IfOk result (λ out.
+                StandsFor self.new (r ++ entry_of step.now out.0 out.1 ∷ []))) }
+        // Below took exactly what the step hands, each frame with what the reply says was given back;
+        // where it refused, the first of them.
+        ensures taken {
+            ForEachRecord self.old (λ r. IfOk result (λ out.
+                TookHands (told_of S.told self.old) (told_of S.told self.new) r step.now out.1)) }
+        ensures handed {
+            ForEachRecord self.old (λ r. IfRefused result (λ error handed.
+                TookFirst (told_of S.told self.old) (told_of S.told self.new) r step.now handed)) }
+        // What below opened and refused.
+        ensures opened {
+            ForEachRecord self.old (λ r. IfOk result (λ out.
+                OpenedBy (told_of S.told self.old) (told_of S.told self.new) step.now out.1)) }
+        ensures opened_none {
+            ForEachRecord self.old (λ r. OnErr result
+                ((told_of S.told self.new).opened ≡ (told_of S.told self.old).opened)) }
+        ensures refused {
+            ForEachRecord self.old (λ r. IfOk result (λ out.
+                RefusedBy (told_of S.told self.old) (told_of S.told self.new) step.now out.1)) }
+        ensures refused_last {
+            ForEachRecord self.old (λ r. IfRefused result (λ error handed.
+                RefusedAdds (told_of S.told self.old) (told_of S.told self.new) r step.now error handed)) }
+        // An unknown id is the fault of work under an id that isn't live, and of nothing else.
+        ensures unknown {
+            ForEachRecord self.old (λ r.
+                UnderDead r step.now → result ≡ Err (errors.Fault faults.UnknownTxnId 0)) }
+        ensures unknown_only {
+            ForEachRecord self.old (λ r. IfUnknown result (λ handed.
+                UnderDead r step.now × (handed ≡ 0))) }
+        // Every other fault is a refusal below, of a step that makes a call there.
+        ensures refusal {
+            ForEachRecord self.old (λ r. IfRefused result (λ error handed. MayFault r step.now)) }
+        ensures refusal_rose {
+            IfRefused result (λ error handed.
+                Rose (told_of S.told self.old).refusals (told_of S.told self.new).refusals) }
+        ensures attach_refused {
+            ForEachRecord self.old (λ r. OnAttachRefused result
+                (Rose (told_of S.told self.old).refusals (told_of S.told self.new).refusals
+                    × IsControlAttach step.now)) }
+        // An end is answered with its own value; a copy of its error may want memory.
+        ensures ended {
+            ForEachRecord self.old (λ r. (reason : SessionStopReason) → ended_by step.now ≡ Some reason →
+                (result ≡ Err (errors.Ended reason)) ⊎ (result ≡ Err errors.NoMemory)) }
+        ensures ended_only { IfEnded result (λ reason. ended_by step.now ≡ Some reason) }
+        // Want of memory leaves the session standing for what it stood for, and comes of no step that
+        // takes none.
+        ensures memory {
+            ForEachRecord self.old (λ r. OnNoMemory result
+                (StandsFor self.new r × (takes_memory r step.now ≡ true))) }
+        // An error that isn't a refusal below makes no call there. The count of refusals never falls.
+        ensures untouched { OnOwnError result (below_of self.new ≡ below_of self.old) }
+        ensures later { (told_of S.told self.old).refusals ≤ (told_of S.told self.new).refusals }
+        ensures state { (told_of S.told self.new).state ≡ (told_of S.told self.old).state }
+        // The stop that is kept.
+        ensures stops { stop_of self.old ≡ None → StopAfter result (stop_of self.new) }
+        // The ids drawn are the source's next ones, and every error leaves the source.
+        ensures drew { IfOk result (λ out. Drew (G.next ids.old) (G.next ids.new) out.0.ids) }
+        ensures source { OnErr result (ids.new ≡ ids.old) }
+        ensures start { G.start ids.new ≡ G.start ids.old }
+        // A valid step during which no refusal is counted does what was asked, or wants memory.
+        ensures complete {
+            ForEachRecord self.old (λ r. (n : List Id) →
+                InOrder (told_of S.told self.old).refusals (told_of S.told self.new).refusals
+                    (G.next ids.old) r step.now n → Completed result) }
+    {
+        if let Some(code) = self.stop {
+            return Err(StepError::Stopped(code));
+        }
+        let result = act(&mut self.held, &mut self.below, self.alloc, step, ids);
+        self.stop = stop_after(&result);
+        result
+    }
+}
