@@ -1,0 +1,7 @@
+pub mod Names
+pub mod Numbers
+pub mod Pieces
+pub mod Putting
+pub mod Spelling
+pub mod WordLemmas
+pub mod Runs

@@ -1,0 +1,15 @@
+-- Octets that are cut into pieces.
+use Rattle.std.specs.Prelude.{ℕ, ◌==◌, Option, Some, None, List, [], ◌∷◌}
+use Rattle.std.specs.Borrow.{Bor}
+use Rattle.std.specs.List.{slice_split}
+
+-- the pieces of octets that are left, none where nothing is left
+abbrev pub pieces_left : ℕ → Option (Bor (List ℕ)) → List (List ℕ)
+pieces_left separator None = []
+pieces_left separator (Some octets) = slice_split (λ b. b == separator) octets.now
+
+-- pieces without a last one that is empty
+abbrev pub without_last_empty : List (List ℕ) → List (List ℕ)
+without_last_empty [] = []
+without_last_empty ([] ∷ []) = []
+without_last_empty (piece ∷ pieces) = piece ∷ without_last_empty pieces

@@ -1,0 +1,88 @@
+-- What a run of the program answers: its statuses, its record, what was taken, and what is written.
+use Rattle.std.specs.Prelude.{ℕ, ◌≡◌, ◌==◌, ◌↔◌, ◌++◌, Option, Some, None, Result, Ok, Err, List, [], length, take, codes, if◌then◌else◌}
+use Rattle.std.specs.Fmt.{decimal}
+use Rattle.amqp_txn_types.specs.declared.id.TransactionId.{TransactionId}
+use Rattle.amqp_txn_types.specs.declared.performatives.Frame.{Frame}
+use Rattle.amqp_below.specs.declared.inner_error.SessionInnerError.TheVariants as faults
+use Rattle.amqp_below.specs.Told.{Told}
+use Rattle.amqp_below.specs.Ids.{AreNext}
+use Rattle.amqp_record.specs.declared.step.Step.{Step}
+use Rattle.amqp_record.specs.declared.entry.Entry.{Entry}
+use Rattle.amqp_record.specs.declared.stop.Stop.{Stop}
+use Rattle.amqp_record.specs.declared.stop.Stop.TheVariants as stops
+use Rattle.amqp_record.specs.declared.stop.Driven.{Driven}
+use Rattle.amqp_record.specs.Entries.{drawn_of, steps_of}
+use Rattle.amqp_record.specs.Legal.{IsLegal}
+use Rattle.amqp_record.specs.Opened.{opens}
+use Rattle.amqp_resource.specs.Drive.{RunTook, RunRefused, RunRose, StopCause}
+use Rattle.txn_program.specs.Report.{text_of}
+use Rattle.txn_program.specs.declared.words.Command.{Command}
+use Rattle.txn_program.specs.declared.words.Command.TheVariants as commands
+
+-- the text of a line of the input that isn't a step
+abbrev pub line_text : ℕ → List ℕ
+line_text number = codes "not a step: line " ++ decimal number ++ codes "\n"
+
+-- the status of a stop: 0 every step has its entry, 8 want of memory below, 1 any other fault and an end, 6 want of memory here
+abbrev pub stop_status : Stop → ℕ
+stop_status stops.Done = 0
+stop_status (stops.Fault faults.NoMemory) = 8
+stop_status (stops.Fault error) = 1
+stop_status (stops.Ended reason) = 1
+stop_status stops.NoMemory = 6
+
+-- the status of a run, by its record where steps were driven
+abbrev pub driven_status : Option Driven → ℕ
+driven_status None = 6
+driven_status (Some driven) = stop_status driven.stop
+
+-- the status: 2 for words outside the table, 3 for a line outside the line table, else by the run; want of memory apart
+abbrev pub status_of : Option Command → Result (List Step) ℕ → Option Driven → ℕ
+status_of None spelled driven = 2
+status_of (Some (commands.Run ids)) (Err line) driven = 3
+status_of (Some (commands.Run ids)) (Ok steps) driven = driven_status driven
+
+-- a list, where it is told
+abbrev pub list_of : Option (List (Frame × List Frame)) → List (Frame × List Frame)
+list_of None = []
+list_of (Some pairs) = pairs
+
+-- what the layer below took
+abbrev pub taken_of : Told → List (Frame × List Frame)
+taken_of told = list_of told.taken
+
+-- the report, where steps were driven
+abbrev pub report_text : Told → Option Driven → List ℕ
+report_text below None = []
+report_text below (Some driven) = text_of driven (taken_of below)
+
+-- the text that is written: of the words, of the line, or the report
+abbrev pub written_text : Told → Option Command → Result (List Step) ℕ → Option Driven → List ℕ
+written_text below None spelled driven = codes "usage\n"
+written_text below (Some (commands.Run ids)) (Err line) driven = line_text line
+written_text below (Some (commands.Run ids)) (Ok steps) driven = report_text below driven
+
+-- the text of a status: none for want of memory
+abbrev pub text_by : ℕ → List ℕ → List ℕ
+text_by status text = if status == 6 then [] else text
+
+-- the words ask for a run with these ids, every line of the input is a step, and this holds of the ids and the steps
+abbrev pub IsRunOf : Option Command → Result (List Step) ℕ → (List TransactionId → List Step → Type 0) → Type 0
+IsRunOf (Some (commands.Run ids)) (Ok steps) P = P ids steps
+IsRunOf command spelled P = ⊥
+
+-- a legal run over a front of the steps, with the ids of that source, and what the layer below has then taken, opened and refused of it
+pub record IsRun (ids : ℕ → TransactionId) (steps : List Step) (below : Told) (driven : Driven) : Type 0 where
+  -- the record is legal, for the id source
+  pub legal : IsLegal driven.entries
+  pub drawn : AreNext ids 0 (drawn_of driven.entries)
+  -- its steps are the first `at` of the input's
+  pub at : driven.at ≡ length driven.entries
+  pub front : steps_of driven.entries ≡ take driven.at steps
+  -- every step has its entry, or the next step is what stopped it
+  pub done : (driven.stop ≡ stops.Done) ↔ (steps_of driven.entries ≡ steps)
+  pub cause : StopCause steps driven.entries driven.stop
+  -- taken are the pairs of the record and, only after a refusal below, the first `handed` frames of the next step
+  pub taken : RunTook (Some []) below.taken steps driven.entries driven.stop driven.handed
+  pub opened : below.opened ≡ Some (opens driven.entries)
+  pub refused : RunRefused (Some []) below.refused steps driven.entries driven.stop driven.handed

@@ -1,0 +1,179 @@
+//! A run: the steps of the input through a session, and its report.
+
+ghost use Rattle.std.specs.Prelude.{◌≡◌, ◌++◌, ◌<◌, ◌⊎◌, [], length, None, Some, Ok, IfSome, IfOk, IsNone, Result, List};
+ghost use Rattle.amqp_below.specs.Recording.{IsFresh, is_unused};
+ghost use Rattle.amqp_resource.specs.Drive.{RunRose};
+ghost use Rattle.amqp_resource.specs.Listed.{listed};
+ghost use Rattle.txn_program.specs.Lines.{steps_of};
+ghost use Rattle.txn_program.specs.Running.{IsRun, IsRunOf, driven_status, line_text, report_text, status_of, stop_status, taken_of, text_by, written_text};
+ghost use Rattle.txn_program.specs.declared.words.Command.TheVariants as commands;
+
+use crate::lines::{SpellError, spells};
+use crate::reporting::report;
+use crate::status;
+use crate::streaming::{read_all, write_all};
+use crate::words::TransactionIds;
+use amqp_below::{ByteSink, LayerBelow, Recorder, SessionInnerError, SureSink, SureSource};
+use amqp_record::{Driven, Entries, Steps, Stop};
+use amqp_resource::{ListIds, TxnSession, drive};
+use amqp_txn_types::{NoMemory, Text};
+use std::alloc::Global;
+
+/// What a call of the program left.
+#[derive(Drop)]
+pub struct Ran<S> {
+    /// The status that the program ends with.
+    pub status: u8,
+    /// What was driven; none where no step was.
+    pub driven: Option<Driven>,
+    /// The entries of a run that isn't one list of steps; none so far.
+    pub entries: Option<Entries>,
+    /// The recorder that was handed in, with what it took.
+    pub below: Recorder<S>,
+}
+
+/// The end of a call for want of memory.
+pub(crate) fn out_of_memory<S: LayerBelow>(driven: Option<Driven>, below: Recorder<S>) -> Ran<S>
+    ensures { result ≡ record { status = 6; driven = driven; entries = None; below = below } }
+{
+    Ran {
+        status: status::NO_MEMORY,
+        driven,
+        entries: None,
+        below,
+    }
+}
+
+/// The end of a call with that status, once the text is written. Room for the text is made first.
+pub(crate) fn answered<S: LayerBelow>(
+    status: u8,
+    driven: Option<Driven>,
+    text: &[u8],
+    below: Recorder<S>,
+    output: &mut SureSink,
+) -> Ran<S>
+    ensures status { (result.status ≡ 6) ⊎ (result.status ≡ status) }
+    ensures driven { result.driven ≡ driven }
+    ensures entries { result.entries ≡ None }
+    ensures below { result.below ≡ below }
+    ensures written { output.new.octets ≡ output.old.octets ++ text_by result.status text.now }
+{
+    if status == status::NO_MEMORY || output.reserve(text.len()).is_err() {
+        return out_of_memory(driven, below);
+    }
+    write_all(output, text);
+    Ran {
+        status,
+        driven,
+        entries: None,
+        below,
+    }
+}
+
+/// The status of a stop.
+fn status_of_stop(stop: &Stop) -> u8
+    ensures { result ≡ stop_status stop.now }
+{
+    match stop {
+        Stop::Done => status::EVERY_STEP,
+        Stop::Fault(SessionInnerError::NoMemory) => status::NO_MEMORY_BELOW,
+        Stop::Fault(_) | Stop::Ended(_) => status::STOPPED,
+        Stop::NoMemory => status::NO_MEMORY,
+    }
+}
+
+/// The line of the input that isn't a step, as a text.
+fn line_text(alloc: Global, number: usize) -> Result<Text, NoMemory>
+    ensures { IfOk result (λ text. text ≡ line_text number) }
+{
+    let text = format!(in alloc; "not a step: line {number}\n")?;
+    Text::from_str(alloc, text.as_str())
+}
+
+/// A run of the steps of the input, of which declares draw these ids.
+pub(crate) fn run_input<S: LayerBelow>(
+    alloc: Global,
+    ids: TransactionIds,
+    below: Recorder<S>,
+    input: &mut SureSource,
+    output: &mut SureSink,
+) -> Ran<S>
+    requires some { 0 < length ids }
+    requires fresh { IsFresh (is_unused below) (⟦<Recorder<S> as LayerBelow>⟧.told below) }
+    ensures status { (result.status ≡ 6) ⊎ (result.status ≡ status_of (Some (commands.Run ids)) (steps_of input.old) result.driven) }
+    ensures record { IfSome result.driven (λ driven. IsRunOf (Some (commands.Run ids)) (steps_of input.old) (λ these steps. IsRun (listed these) steps (⟦<Recorder<S> as LayerBelow>⟧.told result.below) driven)) }
+    ensures rose { IfSome result.driven (λ driven. RunRose (⟦<Recorder<S> as LayerBelow>⟧.told below).refusals (⟦<Recorder<S> as LayerBelow>⟧.told result.below).refusals driven.entries driven.stop) }
+    ensures read { IfSome result.driven (λ driven. input.new ≡ []) }
+    ensures untouched { IsNone result.driven → ⟦<Recorder<S> as LayerBelow>⟧.told result.below ≡ ⟦<Recorder<S> as LayerBelow>⟧.told below }
+    ensures written { output.new.octets ≡ output.old.octets ++ text_by result.status (written_text (⟦<Recorder<S> as LayerBelow>⟧.told result.below) (Some (commands.Run ids)) (steps_of input.old) result.driven) }
+    ensures entries { result.entries ≡ None }
+{
+    let Ok(octets) = read_all(alloc, input) else {
+        return out_of_memory(None, below);
+    };
+    match spells(alloc, octets.as_slice()) {
+        Ok(steps) => run_steps(alloc, ids, steps, below, output),
+        Err(SpellError::Line(number)) => match line_text(alloc, number) {
+            Ok(text) => answered(
+                status::NOT_A_STEP,
+                None,
+                text.as_str().as_bytes(),
+                below,
+                output,
+            ),
+            Err(_) => out_of_memory(None, below),
+        },
+        Err(SpellError::NoMemory) => out_of_memory(None, below),
+    }
+}
+
+/// A run of these steps, of which declares draw these ids.
+fn run_steps<S: LayerBelow>(
+    alloc: Global,
+    ids: TransactionIds,
+    steps: Steps,
+    below: Recorder<S>,
+    output: &mut SureSink,
+) -> Ran<S>
+    requires some { 0 < length ids }
+    requires fresh { IsFresh (is_unused below) (⟦<Recorder<S> as LayerBelow>⟧.told below) }
+    ensures status { (result.status ≡ 6) ⊎ (result.status ≡ driven_status result.driven) }
+    ensures record { IfSome result.driven (λ driven. IsRun (listed ids) steps (⟦<Recorder<S> as LayerBelow>⟧.told result.below) driven) }
+    ensures rose { IfSome result.driven (λ driven. RunRose (⟦<Recorder<S> as LayerBelow>⟧.told below).refusals (⟦<Recorder<S> as LayerBelow>⟧.told result.below).refusals driven.entries driven.stop) }
+    ensures untouched { IsNone result.driven → ⟦<Recorder<S> as LayerBelow>⟧.told result.below ≡ ⟦<Recorder<S> as LayerBelow>⟧.told below }
+    ensures written { output.new.octets ≡ output.old.octets ++ text_by result.status (report_text (⟦<Recorder<S> as LayerBelow>⟧.told result.below) result.driven) }
+    ensures entries { result.entries ≡ None }
+{
+    let Ok(mut source) = ListIds::new(alloc, ids.as_slice()) else {
+        return out_of_memory(None, below);
+    };
+    let mut session = TxnSession::new(alloc, below);
+    let driven = drive(&mut session, steps, &mut source);
+    reported(alloc, driven, session.into_below(), output)
+}
+
+/// The end of a run: its report, with the status of its stop.
+fn reported<S: LayerBelow>(
+    alloc: Global,
+    driven: Driven,
+    below: Recorder<S>,
+    output: &mut SureSink,
+) -> Ran<S>
+    ensures status { (result.status ≡ 6) ⊎ (result.status ≡ stop_status driven.stop) }
+    ensures driven { result.driven ≡ Some driven }
+    ensures below { result.below ≡ below }
+    ensures written { output.new.octets ≡ output.old.octets ++ text_by result.status (report_text (⟦<Recorder<S> as LayerBelow>⟧.told below) (Some driven)) }
+    ensures entries { result.entries ≡ None }
+{
+    let status = status_of_stop(&driven.stop);
+    let Ok(text) = report(alloc, &driven, below.exchanges()) else {
+        return out_of_memory(Some(driven), below);
+    };
+    answered(
+        status,
+        Some(driven),
+        text.as_str().as_bytes(),
+        below,
+        output,
+    )
+}
