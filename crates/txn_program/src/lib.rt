@@ -26,6 +26,8 @@ mod line_words;
 mod lines;
 mod report_words;
 mod reporting;
+#[cfg(test)]
+mod run_tests;
 mod running;
 pub mod status;
 mod step_lines;
