@@ -40,9 +40,13 @@ fn control_step<S: LayerBelow, G: IdSource>(
     }
     match decode(payload.as_slice()) {
         Err(_) => close_step(held, alloc, link, payload),
-        Ok(ControlMessageBody::Declare(Declare {
-            global_id: Some(global),
-        })) => global_step(held, alloc, link, payload, global),
+        Ok(
+            ControlMessageBody::Declare(
+                Declare {
+                    global_id: Some(global),
+                },
+            ),
+        ) => global_step(held, alloc, link, payload, global),
         Ok(ControlMessageBody::Declare(Declare { global_id: None })) => {
             declare_step(held, alloc, link, payload, ids)
         }

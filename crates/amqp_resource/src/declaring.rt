@@ -40,11 +40,7 @@ pub fn global_step(
 }
 
 /// Draws up to 16 ids, to the first that isn't live.
-fn draw_unused<G: IdSource>(
-    live: &[Live],
-    ids: &mut G,
-    drawn: &mut Drawn,
-) -> Option<TransactionId>
+fn draw_unused<G: IdSource>(live: &[Live], ids: &mut G, drawn: &mut Drawn) -> Option<TransactionId>
     requires none { drawn.old.ids ≡ [] }
     requires room { 16 ≤ drawn.old.spare }
     ensures unused { MatchOption result (DrewLive live.now drawn.new.ids) (λ id. DrewUnused live.now drawn.new.ids id) }

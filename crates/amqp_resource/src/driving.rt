@@ -61,26 +61,20 @@ pub fn drive<S: LayerBelow, G: IdSource>(
     // The stop: Done exactly where every step has its entry, and each other one by the next step.
     ensures done { (result.stop ≡ stops.Done) ↔ (steps_of result.entries ≡ steps) }
     ensures cause { StopCause steps result.entries result.stop }
-    ensures unknown {
-        NextStep steps result.entries (λ s. UnderDead result.entries s) →
-            StopsWith result.stop (stops.Fault faults.UnknownTxnId) }
-    ensures ended {
-        (reason : SessionStopReason) → NextStep steps result.entries (λ s. ended_by s ≡ Some reason) →
-            StopsWith result.stop (stops.Ended reason) }
+    ensures unknown { NextStep steps result.entries (λ s. UnderDead result.entries s) →
+        StopsWith result.stop (stops.Fault faults.UnknownTxnId) }
+    ensures ended { (reason : SessionStopReason) → NextStep steps result.entries (λ s. ended_by s ≡ Some reason) →
+        StopsWith result.stop (stops.Ended reason) }
     // What below took, opened and refused, after what it had before.
-    ensures taken {
-        RunTook (told_of S.told session.old).taken (told_of S.told session.new).taken
-            steps result.entries result.stop result.handed }
-    ensures opened {
-        (told_of S.told session.new).opened
-            ≡ grown (told_of S.told session.old).opened (opens result.entries) }
-    ensures refused {
-        RunRefused (told_of S.told session.old).refused (told_of S.told session.new).refused
-            steps result.entries result.stop result.handed }
+    ensures taken { RunTook (told_of S.told session.old).taken (told_of S.told session.new).taken
+        steps result.entries result.stop result.handed }
+    ensures opened { (told_of S.told session.new).opened
+        ≡ grown (told_of S.told session.old).opened (opens result.entries) }
+    ensures refused { RunRefused (told_of S.told session.old).refused (told_of S.told session.new).refused
+        steps result.entries result.stop result.handed }
     // Each refusal that was answered was counted, as long as the count can rise.
-    ensures rose {
-        RunRose (told_of S.told session.old).refusals (told_of S.told session.new).refusals
-            result.entries result.stop }
+    ensures rose { RunRose (told_of S.told session.old).refusals (told_of S.told session.new).refusals
+        result.entries result.stop }
     ensures later { (told_of S.told session.old).refusals ≤ (told_of S.told session.new).refusals }
     ensures state { (told_of S.told session.new).state ≡ (told_of S.told session.old).state }
     // The session stands for the record, or keeps the code of its stop.

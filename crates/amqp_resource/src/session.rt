@@ -141,65 +141,49 @@ impl<S: LayerBelow> TxnSession<S> {
     ) -> Result<(Drawn16, Reply), StepError>
         requires room { stop_of self.old ≡ None → opened_of self.old < 2 ^ 64 - 1 }
         // A stopped session answers with the code of its first stop, and nothing changes.
-        ensures stopped {
-            IfSome (stop_of self.old) (λ code.
-                (result ≡ Err (errors.Stopped code)) × (self.new ≡ self.old) × (ids.new ≡ ids.old)) }
+        ensures stopped { IfSome (stop_of self.old) (λ code.
+            (result ≡ Err (errors.Stopped code)) × (self.new ≡ self.old) × (ids.new ≡ ids.old)) }
         ensures runs { stop_of self.old ≡ None → IfErr result IsFirstStop }
         // The reply is an answer of the record to the step with the ids drawn, and the session then
         // stands for the record with this entry.
-        ensures answer {
-            ForEachRecord self.old (λ r. IfOk result (λ out. Answer r step.now out.0.ids out.1)) }
-        ensures stands {
-            ForEachRecord self.old (λ r. IfOk result (λ out.
-                StandsFor self.new (r ++ entry_of step.now out.0 out.1 ∷ []))) }
+        ensures answer { ForEachRecord self.old (λ r. IfOk result (λ out. Answer r step.now out.0.ids out.1)) }
+        ensures stands { ForEachRecord self.old (λ r. IfOk result (λ out.
+            StandsFor self.new (r ++ entry_of step.now out.0 out.1 ∷ []))) }
         // Below took exactly what the step hands, each frame with what the reply says was given back;
         // where it refused, the first of them.
-        ensures taken {
-            ForEachRecord self.old (λ r. IfOk result (λ out.
-                TookHands (told_of S.told self.old) (told_of S.told self.new) r step.now out.1)) }
-        ensures handed {
-            ForEachRecord self.old (λ r. IfRefused result (λ error handed.
-                TookFirst (told_of S.told self.old) (told_of S.told self.new) r step.now handed)) }
+        ensures taken { ForEachRecord self.old (λ r. IfOk result (λ out.
+            TookHands (told_of S.told self.old) (told_of S.told self.new) r step.now out.1)) }
+        ensures handed { ForEachRecord self.old (λ r. IfRefused result (λ error handed.
+            TookFirst (told_of S.told self.old) (told_of S.told self.new) r step.now handed)) }
         // What below opened and refused.
-        ensures opened {
-            ForEachRecord self.old (λ r. IfOk result (λ out.
-                OpenedBy (told_of S.told self.old) (told_of S.told self.new) step.now out.1)) }
-        ensures opened_none {
-            ForEachRecord self.old (λ r. OnErr result
-                ((told_of S.told self.new).opened ≡ (told_of S.told self.old).opened)) }
-        ensures refused {
-            ForEachRecord self.old (λ r. IfOk result (λ out.
-                RefusedBy (told_of S.told self.old) (told_of S.told self.new) step.now out.1)) }
-        ensures refused_last {
-            ForEachRecord self.old (λ r. IfRefused result (λ error handed.
-                RefusedAdds (told_of S.told self.old) (told_of S.told self.new) r step.now error handed)) }
+        ensures opened { ForEachRecord self.old (λ r. IfOk result (λ out.
+            OpenedBy (told_of S.told self.old) (told_of S.told self.new) step.now out.1)) }
+        ensures opened_none { ForEachRecord self.old (λ r. OnErr result
+            ((told_of S.told self.new).opened ≡ (told_of S.told self.old).opened)) }
+        ensures refused { ForEachRecord self.old (λ r. IfOk result (λ out.
+            RefusedBy (told_of S.told self.old) (told_of S.told self.new) step.now out.1)) }
+        ensures refused_last { ForEachRecord self.old (λ r. IfRefused result (λ error handed.
+            RefusedAdds (told_of S.told self.old) (told_of S.told self.new) r step.now error handed)) }
         // An unknown id is the fault of work under an id that isn't live, and of nothing else.
-        ensures unknown {
-            ForEachRecord self.old (λ r.
-                UnderDead r step.now → result ≡ Err (errors.Fault faults.UnknownTxnId 0)) }
-        ensures unknown_only {
-            ForEachRecord self.old (λ r. IfUnknown result (λ handed.
-                UnderDead r step.now × (handed ≡ 0))) }
+        ensures unknown { ForEachRecord self.old (λ r.
+            UnderDead r step.now → result ≡ Err (errors.Fault faults.UnknownTxnId 0)) }
+        ensures unknown_only { ForEachRecord self.old (λ r. IfUnknown result (λ handed.
+            UnderDead r step.now × (handed ≡ 0))) }
         // Every other fault is a refusal below, of a step that makes a call there.
-        ensures refusal {
-            ForEachRecord self.old (λ r. IfRefused result (λ error handed. MayFault r step.now)) }
-        ensures refusal_rose {
-            IfRefused result (λ error handed.
-                Rose (told_of S.told self.old).refusals (told_of S.told self.new).refusals) }
-        ensures attach_refused {
-            ForEachRecord self.old (λ r. OnAttachRefused result
-                (Rose (told_of S.told self.old).refusals (told_of S.told self.new).refusals
-                    × IsControlAttach step.now)) }
+        ensures refusal { ForEachRecord self.old (λ r. IfRefused result (λ error handed. MayFault r step.now)) }
+        ensures refusal_rose { IfRefused result (λ error handed.
+            Rose (told_of S.told self.old).refusals (told_of S.told self.new).refusals) }
+        ensures attach_refused { ForEachRecord self.old (λ r. OnAttachRefused result
+            (Rose (told_of S.told self.old).refusals (told_of S.told self.new).refusals
+            × IsControlAttach step.now)) }
         // An end is answered with its own value; a copy of its error may want memory.
-        ensures ended {
-            ForEachRecord self.old (λ r. (reason : SessionStopReason) → ended_by step.now ≡ Some reason →
-                (result ≡ Err (errors.Ended reason)) ⊎ (result ≡ Err errors.NoMemory)) }
+        ensures ended { ForEachRecord self.old (λ r. (reason : SessionStopReason) → ended_by step.now ≡ Some reason →
+            (result ≡ Err (errors.Ended reason)) ⊎ (result ≡ Err errors.NoMemory)) }
         ensures ended_only { IfEnded result (λ reason. ended_by step.now ≡ Some reason) }
         // Want of memory leaves the session standing for what it stood for, and comes of no step that
         // takes none.
-        ensures memory {
-            ForEachRecord self.old (λ r. OnNoMemory result
-                (StandsFor self.new r × (takes_memory r step.now ≡ true))) }
+        ensures memory { ForEachRecord self.old (λ r. OnNoMemory result
+            (StandsFor self.new r × (takes_memory r step.now ≡ true))) }
         // An error that isn't a refusal below makes no call there. The count of refusals never falls.
         ensures untouched { OnOwnError result (below_of self.new ≡ below_of self.old) }
         ensures later { (told_of S.told self.old).refusals ≤ (told_of S.told self.new).refusals }
@@ -211,10 +195,9 @@ impl<S: LayerBelow> TxnSession<S> {
         ensures source { OnErr result (ids.new ≡ ids.old) }
         ensures start { G.start ids.new ≡ G.start ids.old }
         // A valid step during which no refusal is counted does what was asked, or wants memory.
-        ensures complete {
-            ForEachRecord self.old (λ r. (n : List Id) →
-                InOrder (told_of S.told self.old).refusals (told_of S.told self.new).refusals
-                    (G.next ids.old) r step.now n → Completed result) }
+        ensures complete { ForEachRecord self.old (λ r. (n : List Id) →
+            InOrder (told_of S.told self.old).refusals (told_of S.told self.new).refusals
+            (G.next ids.old) r step.now n → Completed result) }
     {
         if let Some(code) = self.stop {
             return Err(StepError::Stopped(code));
