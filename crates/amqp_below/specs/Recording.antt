@@ -36,7 +36,7 @@ own_of r = r.refusals
 -- a recorder that is Mapped and had no incoming frame call and no attach of a control link
 pub record IsFresh (unused : Bool) (told : Told) : Type 0 where
   pub no_call : unused ≡ true
-  pub mapped : told.state ≡ session_states.Mapped
+  pub mapped : told.fixed.state ≡ session_states.Mapped
   pub taken : told.taken ≡ Some []
   pub opened : told.opened ≡ Some []
   pub refused : told.refused ≡ Some []

@@ -9,13 +9,28 @@ use Rattle.amqp_below.specs.Faults.{is_no_memory}
 use Rattle.amqp_below.specs.declared.refusal.Refusal.{Refusal}
 use Rattle.amqp_txn_types.specs.declared.small.SessionState.{SessionState}
 
+-- what no call of a layer changes: the state of its session, and the numbers of the incoming frame calls that it is planned to refuse, none but in a recorder
+pub record Fixed : Type 0 where
+  pub state : SessionState
+  pub plan : List ℕ
+
 -- what a layer tells: the three lists are none where it doesn't tell them
 pub record Told : Type 0 where
   pub taken : Option (List (Frame × List Frame))
   pub opened : Option (List (Attach × List Frame))
   pub refused : Option (List Refusal)
   pub refusals : ℕ
-  pub state : SessionState
+  pub fixed : Fixed
+
+-- the same told, with another plan
+abbrev pub planned : List ℕ → Told → Told
+planned numbers told = record {
+  taken = told.taken;
+  opened = told.opened;
+  refused = told.refused;
+  refusals = told.refusals;
+  fixed = record { state = told.fixed.state; plan = numbers };
+}
 
 -- a list that is told grows at its end
 abbrev pub grown : {A : Type 0} → Option (List A) → List A → Option (List A)
@@ -46,7 +61,7 @@ pub record Takes (old new : Told) (frame : Frame) (result : Result (List Frame) 
   pub taken : new.taken ≡ taken_after old.taken frame result
   pub opened : new.opened ≡ old.opened
   pub refused : new.refused ≡ refused_after old.refused frame result
-  pub state : new.state ≡ old.state
+  pub fixed : new.fixed ≡ old.fixed
   pub later : old.refusals ≤ new.refusals
   pub cause : OnErr result (Rose old.refusals new.refusals)
 
@@ -55,7 +70,7 @@ pub record Opens (old new : Told) (attach : Attach) (result : Result (List Frame
   pub taken : new.taken ≡ old.taken
   pub opened : new.opened ≡ opened_after old.opened attach result
   pub refused : new.refused ≡ refused_after old.refused (frames.Attach attach) result
-  pub state : new.state ≡ old.state
+  pub fixed : new.fixed ≡ old.fixed
   pub later : old.refusals ≤ new.refusals
   pub cause : OnErr result (Rose old.refusals new.refusals)
 
@@ -64,7 +79,7 @@ pub record Steady (old new : Told) : Type 0 where
   pub taken : new.taken ≡ old.taken
   pub opened : new.opened ≡ old.opened
   pub refused : new.refused ≡ old.refused
-  pub state : new.state ≡ old.state
+  pub fixed : new.fixed ≡ old.fixed
   pub later : old.refusals ≤ new.refusals
 
 -- a call that adds to no list

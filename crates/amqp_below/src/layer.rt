@@ -14,12 +14,12 @@ pub trait LayerBelow {
     ghost use Rattle.amqp_txn_types.specs.declared.performatives.Frame.TheVariants as frames;
 
     /// What the layer tells: what it took, opened and refused, where it tells these, how often it
-    /// refused, and its state.
+    /// refused, and what no call changes: its state and the calls that it is planned to refuse.
     ghost told: { Self → Told };
 
     /// The state of the session (part 2 of the standard, section 2.5.5).
     fn local_state(&self) -> SessionState
-        ensures { result ≡ (told self.now).state };
+        ensures { result ≡ (told self.now).fixed.state };
 
     /// An attach of a link that isn't a control link (section 2.7.3).
     fn on_incoming_attach(&mut self, attach: Attach) -> Result<Frames, SessionInnerError>

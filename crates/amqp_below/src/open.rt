@@ -25,10 +25,10 @@ impl OpenSession {
 }
 
 impl LayerBelow for OpenSession {
-    ghost use Rattle.std.specs.Prelude.{None, zero};
+    ghost use Rattle.std.specs.Prelude.{None, zero, []};
     ghost use Rattle.amqp_txn_types.specs.declared.small.SessionState.TheVariants.{Mapped};
 
-    ghost told = { λ s. record { taken = None; opened = None; refused = None; refusals = 0; state = Mapped } };
+    ghost told = { λ s. record { taken = None; opened = None; refused = None; refusals = 0; fixed = record { state = Mapped; plan = [] } } };
 
     fn local_state(&self) -> SessionState {
         SessionState::Mapped

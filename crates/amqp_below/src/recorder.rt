@@ -2,7 +2,7 @@
 
 ghost use Rattle.std.specs.Prelude.{◌≡◌, ◌≢◌, ◌↔◌, ◌+◌, ◌^◌, ◌-◌, [], Some, IsTrue, IfOk, OnErr, min, false};
 ghost use Rattle.amqp_txn_types.specs.declared.performatives.Frame.TheVariants as frames;
-ghost use Rattle.amqp_below.specs.Told.{Checks, Opens, Takes};
+ghost use Rattle.amqp_below.specs.Told.{Checks, Opens, Takes, planned};
 ghost use Rattle.amqp_below.specs.Recording.{IsFresh, PassesOn, RecordsCall, RecordsOpen, calls_of, inner_of, is_unused, own_of, plan_of};
 
 use crate::call_numbers::{CallNumbers, is_among};
@@ -46,7 +46,7 @@ impl<S: LayerBelow> Recorder<S> {
         ensures opened { (⟦<Recorder<S> as LayerBelow>⟧.told result).opened ≡ Some [] }
         ensures refused { (⟦<Recorder<S> as LayerBelow>⟧.told result).refused ≡ Some [] }
         ensures refusals { (⟦<Recorder<S> as LayerBelow>⟧.told result).refusals ≡ (S.told session).refusals }
-        ensures state { (⟦<Recorder<S> as LayerBelow>⟧.told result).state ≡ (S.told session).state }
+        ensures fixed { (⟦<Recorder<S> as LayerBelow>⟧.told result).fixed ≡ record { state = (S.told session).fixed.state; plan = [] } }
     {
         Recorder {
             session,
@@ -63,7 +63,8 @@ impl<S: LayerBelow> Recorder<S> {
 
     /// The numbers of the incoming frame calls that are refused.
     pub fn plan(&self) -> &CallNumbers
-        ensures { result.now ≡ plan_of self.now }
+        ensures kept { result.now ≡ plan_of self.now }
+        ensures told { result.now ≡ (⟦<Recorder<S> as LayerBelow>⟧.told self.now).fixed.plan }
     {
         &self.plan
     }
@@ -76,7 +77,7 @@ impl<S: LayerBelow> Recorder<S> {
         ensures calls { calls_of self.new ≡ calls_of self.old }
         ensures own { own_of self.new ≡ own_of self.old }
         ensures unused { is_unused self.new ≡ is_unused self.old }
-        ensures told { ⟦<Recorder<S> as LayerBelow>⟧.told self.new ≡ ⟦<Recorder<S> as LayerBelow>⟧.told self.old }
+        ensures told { ⟦<Recorder<S> as LayerBelow>⟧.told self.new ≡ planned plan (⟦<Recorder<S> as LayerBelow>⟧.told self.old) }
     {
         self.plan = plan;
     }
@@ -187,7 +188,7 @@ impl<S: LayerBelow> LayerBelow for Recorder<S> {
       opened = Some r.opened;
       refused = Some r.refused;
       refusals = (S.told r.session).refusals + r.refusals;
-      state = (S.told r.session).state;
+      fixed = record { state = (S.told r.session).fixed.state; plan = r.plan };
     } };
 
     fn local_state(&self) -> SessionState {

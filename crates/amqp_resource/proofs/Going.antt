@@ -56,7 +56,7 @@ use Rattle.amqp_resource.proofs.Standing.{Quiet, stands-quiet, stands-post, stan
 -- ---- nothing more below
 
 pub steady-same : (told : Told) → Steady told told
-steady-same told = record { taken = refl; opened = refl; refused = refl; state = refl; later = omega arith }
+steady-same told = record { taken = refl; opened = refl; refused = refl; fixed = refl; later = omega arith }
 
 adds_nothing : {A : Type 0} (old new : Option (List A)) (more : List A) → more ≡ [] → new ≡ old → new ≡ grown old more
 adds_nothing old new more m t = t ∙ sym (ap (grown old) m ∙ grown-nil old)

@@ -1,8 +1,9 @@
 -- The parts of what a step leaves, as its public clauses say them.
 use Rattle.std.proofs.Common.{◌≡◌, ℕ, Bool, true, false, Option, Some, None, Result, Ok, Err, List, [], ◌∷◌, ◌++◌, length, take, refl, sym, ◌∙◌, ap, subst, inl, inr, ◌≤◌}
-use Rattle.std.specs.Prelude.{◌⊎◌, ⊤, MatchBool, IfOk, IfErr, OnErr}
+use Rattle.std.specs.Prelude.{◌⊎◌, ⊤, is_some, MatchBool, IfOk, IfErr, OnErr}
 use Rattle.std.specs.List.{zip}
 use Rattle.amqp_txn_types.specs.declared.id.TransactionId.{TransactionId}
+use Rattle.amqp_txn_types.specs.declared.delivery.Error.{Error}
 use Rattle.amqp_txn_types.specs.declared.delivery.SessionStopReason.{SessionStopReason}
 use Rattle.amqp_txn_types.specs.declared.performatives.Frame.{Frame}
 use Rattle.amqp_txn_types.specs.Frames.{txn}
@@ -28,9 +29,11 @@ use Rattle.amqp_record.specs.Work.{given_by}
 use Rattle.amqp_record.specs.Answers.{Answer, AnswerFrame, AnswerControl, AnswerDeclare, AnswerMessage, AnswerLinkEnd}
 use Rattle.amqp_record.specs.Opened.{opened_by, refused_by}
 use Rattle.amqp_resource.specs.declared.held.Held.{Held}
-use Rattle.amqp_resource.specs.Held.{Stands}
+use Rattle.amqp_resource.specs.Held.{SameHeld, Stands}
+use Rattle.amqp_resource.specs.declared.session.TxnSession.{TxnSession}
+use Rattle.amqp_resource.specs.Session.{SameSession, StopAfter, below_of, held_of, stop_of}
 use Rattle.amqp_resource.specs.Taking.{TookFrames}
-use Rattle.amqp_resource.specs.Steps.{FrameMayFault, IfAttachRefused, IfEnded, IfRefused, IfUnknown, IsControlAttach, IsDead, IsFirstStop, MayFault, OnAttachRefused, OnNoMemory, OnOwnError, OpenedBy, Refused, RefusedAdds, RefusedBy, StepCause, StepGave, TookFirst, TookHands, UnderDead, ended_by, entry_of, is_live_under, is_unknown, takes_memory}
+use Rattle.amqp_resource.specs.Steps.{AnswersEnd, EndGave, FrameMayFault, IfAttachRefused, IfEnded, IfRefused, IfUnknown, IsControlAttach, IsDead, IsFirstStop, MayFault, OnAttachRefused, OnNoMemory, OnOwnError, OpenedBy, Refused, RefusedAdds, RefusedBy, StepCause, StepGave, TookFirst, TookHands, UnderDead, ended_by, entry_of, is_live_under, is_unknown, has_error, local_end, remote_end, takes_memory}
 
 -- ---- choices
 
@@ -45,10 +48,6 @@ on_true B false f x = tt
 in_both : (A : Type 0) {B C : Type 0} (b : Bool) → (B → C) → MatchBool b A B → MatchBool b C ⊤ → C
 in_both A true f x y = y
 in_both A false f x y = f x
-
-in_none : {A B : Type 0} (b : Bool) → (A → ⊥) → (B → ⊥) → MatchBool b A B → ⊥
-in_none true f h x = f x
-in_none false f h x = h x
 
 pub own_weaker : (result : Result (DrawnIds × Reply) StepError) (P Q : Type 0) → (P → Q) → OnOwnError result P → OnOwnError result Q
 own_weaker (Ok out) P Q f x = tt
@@ -152,28 +151,27 @@ gave_unknown_only h old new r s (Err errors.NoMemory) g = tt
 
 -- ---- ends
 
-end_unanswered : (r : List Entry) (s : Step) (reason : SessionStopReason) (d : List TransactionId) (reply : Reply) → ended_by s ≡ Some reason → Answer r s d reply → ⊥
-end_unanswered r (steps.Frame frame) reason d reply e a = cc e
-end_unanswered r (steps.Control k payload) reason d reply e a = cc e
-end_unanswered r (steps.LinkEnd k) reason d reply e a = cc e
-end_unanswered r (steps.LocalEnd error) reason d reply e a = a
-end_unanswered r (steps.RemoteEnd error) reason d reply e a = a
-end_unanswered r (steps.ConnectionStop stop) reason d reply e a = a
+pub local_error : (o : Option Error) → is_some o ≡ has_error (local_end o)
+local_error None = refl
+local_error (Some error) = refl
 
-end_no_fault : (r : List Entry) (s : Step) (reason : SessionStopReason) → ended_by s ≡ Some reason → MayFault r s → ⊥
-end_no_fault r (steps.Frame frame) reason e f = cc e
-end_no_fault r (steps.Control k payload) reason e f = cc e
-end_no_fault r (steps.LinkEnd k) reason e f = cc e
-end_no_fault r (steps.LocalEnd error) reason e f = f
-end_no_fault r (steps.RemoteEnd error) reason e f = f
-end_no_fault r (steps.ConnectionStop stop) reason e f = f
+pub remote_error : (o : Option Error) → is_some o ≡ has_error (remote_end o)
+remote_error None = refl
+remote_error (Some error) = refl
 
-pub gave_ended : (h : Held) (old new : Told) (r : List Entry) (s : Step) (result : Result (DrawnIds × Reply) StepError) → StepGave h old new r s result → (reason : SessionStopReason) → ended_by s ≡ Some reason → (result ≡ Err (errors.Ended reason)) ⊎ (result ≡ Err errors.NoMemory)
-gave_ended h old new r s (Ok out) g reason e = absurd (end_unanswered r s reason out.0.ids out.1 e g.answer)
-gave_ended h old new r s (Err (errors.Fault error handed)) g reason e = absurd (in_none (is_unknown error) (λ x. dead_no_end r s reason x.0 e) (λ x. end_no_fault r s reason e x.fits) g)
-gave_ended h old new r s (Err (errors.Ended got)) g reason e = let same : got ≡ reason = cc (g, e) in inl (ap (λ x. Err (errors.Ended x)) same)
-gave_ended h old new r s (Err (errors.Stopped code)) g reason e = absurd g
-gave_ended h old new r s (Err errors.NoMemory) g reason e = inr refl
+pub answers_end : (own : SessionStopReason) (takes : Bool) (error : StepError) → takes ≡ has_error own → EndGave own takes error → AnswersEnd (Some own) (Err error)
+answers_end own takes (errors.Fault error handed) has g = g
+answers_end own takes (errors.Ended got) has g = g
+answers_end own takes (errors.Stopped code) has g = g
+answers_end own takes errors.NoMemory has g = sym has ∙ g
+
+pub end_is : (o : Option SessionStopReason) (result : Result (DrawnIds × Reply) StepError) (reason : SessionStopReason) → AnswersEnd o result → o ≡ Some reason → (result ≡ Err (errors.Ended reason)) ⊎ (result ≡ Err errors.NoMemory)
+end_is None result reason a e = absurd (cc e)
+end_is (Some own) (Ok out) reason a e = absurd a
+end_is (Some own) (Err (errors.Fault error handed)) reason a e = absurd a
+end_is (Some own) (Err (errors.Ended got)) reason a e = let same : got ≡ reason = cc (a, e) in inl (ap (λ x. Err (errors.Ended x)) same)
+end_is (Some own) (Err (errors.Stopped code)) reason a e = absurd a
+end_is (Some own) (Err errors.NoMemory) reason a e = inr refl
 
 -- ---- want of memory
 
@@ -183,6 +181,13 @@ gave_memory h old new r s (Err (errors.Fault error handed)) g = tt
 gave_memory h old new r s (Err (errors.Ended reason)) g = tt
 gave_memory h old new r s (Err (errors.Stopped code)) g = tt
 gave_memory h old new r s (Err errors.NoMemory) g = (g.stands, g.takes)
+
+pub same_session : {S : Type 0} (old new : TxnSession S) (result : Result (DrawnIds × Reply) StepError) → OnNoMemory result (SameHeld (held_of old) (held_of new)) → OnOwnError result (below_of new ≡ below_of old) → StopAfter result (stop_of new) → stop_of old ≡ None → OnNoMemory result (SameSession old new)
+same_session old new (Ok out) held below stop runs = tt
+same_session old new (Err (errors.Fault error handed)) held below stop runs = tt
+same_session old new (Err (errors.Ended reason)) held below stop runs = tt
+same_session old new (Err (errors.Stopped code)) held below stop runs = tt
+same_session old new (Err errors.NoMemory) held below stop runs = record { held = held; below = below; stop = stop ∙ sym runs }
 
 -- ---- causes
 

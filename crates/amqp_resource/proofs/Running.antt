@@ -48,7 +48,7 @@ pub record Ran (old new : Told) (before after : ℕ → TransactionId) (h : Held
   pub refused : new.refused ≡ grown old.refused (refuses r)
   pub rose : min (old.refusals + attach_refused_count r) (2 ^ 64 - 1) ≤ new.refusals
   pub later : old.refusals ≤ new.refusals
-  pub state : new.state ≡ old.state
+  pub fixed : new.fixed ≡ old.fixed
   pub drew : Drew before after (drawn_of r)
 
 pairs-nil : pairs [] ≡ []
@@ -63,7 +63,7 @@ ran-nil old f h s = record {
   refused = sym (grown-nil old.refused);
   rose = omega arith;
   later = omega arith;
-  state = refl;
+  fixed = refl;
   drew = Drew-none f f (λ n. refl);
 }
 
@@ -82,7 +82,7 @@ pub record Stepped (g : Held) (old new : Told) (r : List Entry) (s : Step) (d : 
   pub refused : RefusedBy old new s reply
   pub attach : IfAttachRefused reply (Rose old.refusals new.refusals × IsControlAttach s)
   pub later : old.refusals ≤ new.refusals
-  pub state : new.state ≡ old.state
+  pub fixed : new.fixed ≡ old.fixed
 
 joined-more : {A : Type 0} (old mid new : Option (List A)) (f : Entry → List A) (r : List Entry) (e : Entry) → mid ≡ grown old (flat_map f r) → new ≡ grown mid (f e) → new ≡ grown old (flat_map f (r ++ e ∷ []))
 joined-more old mid new f r e a b =
@@ -101,7 +101,7 @@ ran-more old mid new f g k h h2 r s d reply ran w drew = record {
       subst (λ (n : ℕ). min (old.refusals + n) (2 ^ 64 - 1) ≤ new.refusals) (sym (refused_count-snoc r (entry_of s d reply)))
       (rose-more old.refusals mid.refusals new.refusals (attach_refused_count r) s reply ran.rose w.later w.attach);
   later = let a = ran.later in let b = w.later in omega (arith, a, b);
-  state = w.state ∙ ran.state;
+  fixed = w.fixed ∙ ran.fixed;
   drew =
       subst (λ (ds : List TransactionId). Drew f k ds) (sym (flat_map-append (λ (e : Entry). e.drawn.ids) r (entry_of s d reply ∷ []) ∙ ap (λ l. drawn_of r ++ l) (append-nil d.ids)))
       (Drew-append f g k (drawn_of r) d.ids ran.drew drew);
@@ -174,7 +174,7 @@ pub record Broke (g : Held) (old new : Told) (r : List Entry) (s : Step) (error 
   pub memory : OnNoMemory (failed error) (Stands g r × (takes_memory r s ≡ true))
   pub own : OnOwnError (failed error) (new ≡ old)
   pub later : old.refusals ≤ new.refusals
-  pub state : new.state ≡ old.state
+  pub fixed : new.fixed ≡ old.fixed
   pub stops : StopAfter (failed error) kept
 
 pick : {P Q X Y : Type 0} (b : Bool) → (Y → P) → (X → Q) → MatchBool b Y ⊤ → MatchBool b ⊤ X → MatchBool b P Q

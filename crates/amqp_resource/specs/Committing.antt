@@ -43,6 +43,6 @@ HandedAll old new kept (Err e) = HandedPart old new kept e.error e.handed
 -- the frames of a commit through the layer below
 pub record HandsAll (old new : Told) (kept : List Frame) (result : Result (List Answers) HandError) : Type 0 where
   pub handed : HandedAll old new kept result
-  pub state : new.state ≡ old.state
+  pub fixed : new.fixed ≡ old.fixed
   pub later : old.refusals ≤ new.refusals
   pub cause : OnErr result (Rose old.refusals new.refusals)

@@ -46,6 +46,12 @@ unless_on k (Some kept) = cond (kept.0 == k) None (Some kept)
 abbrev pub is_in : List ℕ → ℕ → Bool
 is_in ks k = list_any (λ j. j == k) ks
 
+-- what is kept is as it was
+pub record SameHeld (old new : Held) : Type 0 where
+  pub live : new.live.items ≡ old.live.items
+  pub links : new.links.items ≡ old.links.items
+  pub opened : new.opened ≡ old.opened
+
 -- what the record says that is kept for an id: the link that declared it and its frames since
 abbrev pub kept_by : List Entry → TransactionId → Option (ℕ × List Frame)
 kept_by r t = cond (is_live r t) (Some (home r t, frames_of r t)) None

@@ -7,3 +7,4 @@ pub mod Complete
 pub mod Session
 pub mod Drive
 pub mod Listed
+pub mod Counted

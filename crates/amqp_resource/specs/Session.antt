@@ -12,7 +12,7 @@ use Rattle.amqp_record.specs.declared.stop.StepError.TheVariants as errors
 use Rattle.amqp_record.specs.Stops.{fault_code, ended_code}
 use Rattle.amqp_resource.specs.declared.held.Held.{Held}
 use Rattle.amqp_resource.specs.declared.session.TxnSession.{TxnSession}
-use Rattle.amqp_resource.specs.Held.{Stands}
+use Rattle.amqp_resource.specs.Held.{Stands, SameHeld}
 use Rattle.amqp_resource.specs.Draws.{is_kept}
 
 -- what a session keeps
@@ -43,11 +43,17 @@ is_live_on x t = is_kept x.held.live.items t
 abbrev pub StandsFor : {S : Type 0} → TxnSession S → List Entry → Type 0
 StandsFor x r = Stands (held_of x) r
 
+-- a session is as it was: its live ids with their links and frames, its open links and their count, the layer below and the stop
+pub record SameSession {S : Type 0} (old new : TxnSession S) : Type 0 where
+  pub held : SameHeld (held_of old) (held_of new)
+  pub below : below_of new ≡ below_of old
+  pub stop : stop_of new ≡ stop_of old
+
 -- a fresh session: no live id, no link opened so far, not stopped, and mapped below
 pub record IsFresh {S : Type 0} (told : S → Told) (x : TxnSession S) : Type 0 where
   pub stands : StandsFor x []
   pub runs : stop_of x ≡ None
-  pub mapped : (told (below_of x)).state ≡ Mapped
+  pub mapped : (told (below_of x)).fixed.state ≡ Mapped
 
 -- the code that is kept after an answer
 abbrev pub StopAfter : Result (DrawnIds × Reply) StepError → Option StopCode → Type 0

@@ -114,6 +114,14 @@ stop_takes_memory stop_reasons.Closed = false
 stop_takes_memory stop_reasons.RemoteClosed = false
 stop_takes_memory _ = true
 
+-- an end with an error, of which a copy is made
+abbrev pub has_error : SessionStopReason → Bool
+has_error reasons.Ended = false
+has_error (reasons.EndedWithError error) = true
+has_error reasons.RemoteEnded = false
+has_error (reasons.RemoteEndedWithError error) = true
+has_error (reasons.ConnectionStopped reason) = stop_takes_memory reason
+
 -- the steps that take memory; all others never want it
 abbrev pub takes_memory : List Entry → Step → Bool
 takes_memory r (steps.Frame frame) = is_live_under r (txn frame)
@@ -249,6 +257,15 @@ OnAttachRefused (Err error) P = ⊤
 abbrev pub IsFirstStop : StepError → Type 0
 IsFirstStop (errors.Stopped code) = ⊥
 IsFirstStop _ = Unit {0}
+
+-- an end is answered with its own value, or with want of memory where it has an error
+abbrev pub AnswersEnd : Option SessionStopReason → Result (DrawnIds × Reply) StepError → Type 0
+AnswersEnd None result = ⊤
+AnswersEnd (Some reason) (Ok out) = ⊥
+AnswersEnd (Some reason) (Err (errors.Fault error handed)) = ⊥
+AnswersEnd (Some reason) (Err (errors.Ended got)) = got ≡ reason
+AnswersEnd (Some reason) (Err (errors.Stopped code)) = ⊥
+AnswersEnd (Some reason) (Err errors.NoMemory) = has_error reason ≡ true
 
 -- a step is answered with its own end, or with want of memory where the end has an error
 abbrev pub EndGave : SessionStopReason → Bool → StepError → Type 0

@@ -33,6 +33,6 @@ pub record TakesFrame (old new : Told) (frame : Frame) (result : Result Answers 
   pub taken : TookAnswer old.taken new.taken frame result
   pub opened : new.opened ≡ old.opened
   pub refused : new.refused ≡ grown old.refused (refused_frame frame result)
-  pub state : new.state ≡ old.state
+  pub fixed : new.fixed ≡ old.fixed
   pub later : old.refusals ≤ new.refusals
   pub cause : OnErr result (Rose old.refusals new.refusals)

@@ -3,7 +3,8 @@
 ghost use Rattle.std.specs.Prelude.{◌≡◌, ◌≤◌, ◌<◌, ◌-◌, ◌^◌, IfOk, OnErr};
 ghost use Rattle.amqp_below.specs.Ids.{Drew};
 ghost use Rattle.amqp_record.specs.declared.step.Step.TheVariants as steps;
-ghost use Rattle.amqp_resource.specs.Steps.{Steps, StepCause, OnOwnError};
+ghost use Rattle.amqp_resource.specs.Held.{SameHeld};
+ghost use Rattle.amqp_resource.specs.Steps.{Steps, StepCause, AnswersEnd, OnNoMemory, OnOwnError, ended_by};
 
 use crate::declaring::{declare_step, global_step};
 use crate::discharging::discharge_step;
@@ -28,8 +29,9 @@ fn control_step<S: LayerBelow, G: IdSource>(
 ) -> Result<(Drawn, Reply), StepError>
     ensures goes { Steps held.old held.new (S.told below.old) (S.told below.new) (steps.Control link payload.now) result }
     ensures cause { StepCause (S.told below.old).refusals (S.told below.new).refusals (steps.Control link payload.now) result }
+    ensures same { OnNoMemory result (SameHeld held.old held.new) }
     ensures untouched { OnOwnError result (below.new ≡ below.old) }
-    ensures state { (S.told below.new).state ≡ (S.told below.old).state }
+    ensures fixed { (S.told below.new).fixed ≡ (S.told below.old).fixed }
     ensures later { (S.told below.old).refusals ≤ (S.told below.new).refusals }
     ensures drew { IfOk result (λ out. Drew (G.next ids.old) (G.next ids.new) out.0.ids) }
     ensures source { OnErr result (ids.new ≡ ids.old) }
@@ -67,8 +69,10 @@ pub fn act<S: LayerBelow, G: IdSource>(
     requires room { held.old.opened < 2 ^ 64 - 1 }
     ensures goes { Steps held.old held.new (S.told below.old) (S.told below.new) step.now result }
     ensures cause { StepCause (S.told below.old).refusals (S.told below.new).refusals step.now result }
+    ensures ended { AnswersEnd (ended_by step.now) result }
+    ensures same { OnNoMemory result (SameHeld held.old held.new) }
     ensures untouched { OnOwnError result (below.new ≡ below.old) }
-    ensures state { (S.told below.new).state ≡ (S.told below.old).state }
+    ensures fixed { (S.told below.new).fixed ≡ (S.told below.old).fixed }
     ensures later { (S.told below.old).refusals ≤ (S.told below.new).refusals }
     ensures drew { IfOk result (λ out. Drew (G.next ids.old) (G.next ids.new) out.0.ids) }
     ensures source { OnErr result (ids.new ≡ ids.old) }

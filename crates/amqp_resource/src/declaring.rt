@@ -5,9 +5,9 @@ ghost use Rattle.amqp_txn_codec.specs.Reading.{message_of};
 ghost use Rattle.amqp_txn_codec.specs.declared.message.ControlMessageBody.TheVariants as messages;
 ghost use Rattle.amqp_below.specs.Ids.{Drew};
 ghost use Rattle.amqp_record.specs.declared.step.Step.TheVariants as steps;
-ghost use Rattle.amqp_resource.specs.Held.{is_in};
+ghost use Rattle.amqp_resource.specs.Held.{SameHeld, is_in};
 ghost use Rattle.amqp_resource.specs.Draws.{DrewUnused, DrewLive};
-ghost use Rattle.amqp_resource.specs.Steps.{StepsHere, StepCause, nothing_drawn};
+ghost use Rattle.amqp_resource.specs.Steps.{StepsHere, StepCause, OnNoMemory, nothing_drawn};
 
 use crate::held::{Held, Live, place_of};
 use crate::outcomes::no_draws;
@@ -28,6 +28,7 @@ pub fn global_step(
     requires opened { is_in held.now.links.items link ≡ true }
     ensures goes { StepsHere held.now held.now (steps.Control link payload.now) result }
     ensures cause { (n : ℕ) → StepCause n n (steps.Control link payload.now) result }
+    ensures same { OnNoMemory result (SameHeld held.now held.now) }
     ensures draws { IfOk result (λ out. out.0 ≡ nothing_drawn) }
 {
     Ok((
@@ -70,6 +71,7 @@ pub fn declare_step<G: IdSource>(
     requires opened { is_in held.old.links.items link ≡ true }
     ensures goes { StepsHere held.old held.new (steps.Control link payload.now) result }
     ensures cause { (n : ℕ) → StepCause n n (steps.Control link payload.now) result }
+    ensures same { OnNoMemory result (SameHeld held.old held.new) }
     ensures drew { IfOk result (λ out. Drew (G.next ids.old) (G.next ids.new) out.0.ids) }
     ensures source { OnErr result (ids.new ≡ ids.old) }
     ensures start { G.start ids.new ≡ G.start ids.old }

@@ -7,24 +7,17 @@ ghost use Rattle.amqp_txn_types.specs.declared.small.TransactionError.TheVariant
 ghost use Rattle.amqp_record.specs.declared.step.Step.TheVariants as steps;
 ghost use Rattle.amqp_record.specs.declared.reply.Reply.TheVariants as replies;
 ghost use Rattle.amqp_record.specs.declared.reply.RejectText.TheVariants as texts;
-ghost use Rattle.amqp_record.specs.Hands.{is_rollback};
-ghost use Rattle.amqp_resource.specs.Held.{is_in};
-ghost use Rattle.amqp_resource.specs.Steps.{Steps, StepCause, OnOwnError, nothing_drawn};
+ghost use Rattle.amqp_resource.specs.Held.{SameHeld, is_in};
+ghost use Rattle.amqp_resource.specs.Steps.{Steps, StepCause, OnNoMemory, OnOwnError, nothing_drawn};
 
 use crate::committing::hand_all;
 use crate::held::{Held, Live, place_of, take_at};
 use crate::outcomes::{fault_of, no_draws};
 use amqp_below::{Drawn, Echoes, LayerBelow};
-use amqp_record::{RejectText, Reply, StepError};
+use amqp_record::{RejectText, Reply, StepError, rolls_back};
 use amqp_txn_codec::Discharge;
 use amqp_txn_types::{Payload, TransactionError};
 use std::alloc::Global;
-
-fn is_rollback(fail: Option<bool>) -> bool
-    ensures { result ≡ is_rollback fail }
-{
-    matches!(fail, Some(true))
-}
 
 /// The reply to a discharge of an id that isn't both live and declared on the link.
 fn absent() -> Reply
@@ -49,8 +42,9 @@ pub fn discharge_step<S: LayerBelow>(
     requires opened { is_in held.old.links.items link ≡ true }
     ensures goes { Steps held.old held.new (S.told below.old) (S.told below.new) (steps.Control link payload.now) result }
     ensures cause { StepCause (S.told below.old).refusals (S.told below.new).refusals (steps.Control link payload.now) result }
+    ensures same { OnNoMemory result (SameHeld held.old held.new) }
     ensures untouched { OnOwnError result (below.new ≡ below.old) }
-    ensures state { (S.told below.new).state ≡ (S.told below.old).state }
+    ensures fixed { (S.told below.new).fixed ≡ (S.told below.old).fixed }
     ensures later { (S.told below.old).refusals ≤ (S.told below.new).refusals }
     ensures draws { IfOk result (λ out. out.0 ≡ nothing_drawn) }
 {
@@ -60,7 +54,7 @@ pub fn discharge_step<S: LayerBelow>(
     if held.live[at].holder != link {
         return Ok((no_draws(alloc), absent()));
     }
-    if is_rollback(discharge.fail) {
+    if rolls_back(discharge.fail) {
         let _dropped = take_at(&mut held.live, at, discharge.txn_id);
         return Ok((no_draws(alloc), Reply::Accepted(Echoes::new(alloc))));
     }

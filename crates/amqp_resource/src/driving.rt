@@ -76,7 +76,7 @@ pub fn drive<S: LayerBelow, G: IdSource>(
     ensures rose { RunRose (told_of S.told session.old).refusals (told_of S.told session.new).refusals
         result.entries result.stop }
     ensures later { (told_of S.told session.old).refusals ≤ (told_of S.told session.new).refusals }
-    ensures state { (told_of S.told session.new).state ≡ (told_of S.told session.old).state }
+    ensures fixed { (told_of S.told session.new).fixed ≡ (told_of S.told session.old).fixed }
     // The session stands for the record, or keeps the code of its stop.
     ensures leaves { RunLeaves session.new result.entries result.stop }
 {

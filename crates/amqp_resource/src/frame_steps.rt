@@ -5,7 +5,8 @@ ghost use Rattle.amqp_txn_types.specs.declared.performatives.Frame.TheVariants a
 ghost use Rattle.amqp_txn_types.specs.Frames.{txn, coord, plain, attaches_coordinator};
 ghost use Rattle.amqp_record.specs.declared.step.Step.TheVariants as steps;
 ghost use Rattle.amqp_record.specs.Answers.{answered_under, presumed};
-ghost use Rattle.amqp_resource.specs.Steps.{Steps, StepCause, OnOwnError, nothing_drawn};
+ghost use Rattle.amqp_resource.specs.Held.{SameHeld};
+ghost use Rattle.amqp_resource.specs.Steps.{Steps, StepCause, OnNoMemory, OnOwnError, nothing_drawn};
 
 use crate::held::{Held, keep_at, place_of, push_frame};
 use crate::outcomes::{fault_of, no_draws};
@@ -34,8 +35,9 @@ fn plain_step<S: LayerBelow>(
     requires { plain frame.now ≡ true }
     ensures goes { Steps held.now held.now (S.told below.old) (S.told below.new) (steps.Frame frame.now) result }
     ensures cause { StepCause (S.told below.old).refusals (S.told below.new).refusals (steps.Frame frame.now) result }
+    ensures same { OnNoMemory result (SameHeld held.now held.now) }
     ensures untouched { OnOwnError result (below.new ≡ below.old) }
-    ensures state { (S.told below.new).state ≡ (S.told below.old).state }
+    ensures fixed { (S.told below.new).fixed ≡ (S.told below.old).fixed }
     ensures later { (S.told below.old).refusals ≤ (S.told below.new).refusals }
     ensures draws { IfOk result (λ out. out.0 ≡ nothing_drawn) }
 {
@@ -97,8 +99,9 @@ fn post_step<S: LayerBelow>(
     requires { txn frame.now ≡ Some id }
     ensures goes { Steps held.old held.new (S.told below.old) (S.told below.new) (steps.Frame frame.now) result }
     ensures cause { StepCause (S.told below.old).refusals (S.told below.new).refusals (steps.Frame frame.now) result }
+    ensures same { OnNoMemory result (SameHeld held.old held.new) }
     ensures untouched { OnOwnError result (below.new ≡ below.old) }
-    ensures state { (S.told below.new).state ≡ (S.told below.old).state }
+    ensures fixed { (S.told below.new).fixed ≡ (S.told below.old).fixed }
     ensures later { (S.told below.old).refusals ≤ (S.told below.new).refusals }
     ensures draws { IfOk result (λ out. out.0 ≡ nothing_drawn) }
 {
@@ -143,8 +146,9 @@ fn attach_step<S: LayerBelow>(
     requires room { held.old.opened < 2 ^ 64 - 1 }
     ensures goes { Steps held.old held.new (S.told below.old) (S.told below.new) (steps.Frame (frames.Attach attach.now)) result }
     ensures cause { StepCause (S.told below.old).refusals (S.told below.new).refusals (steps.Frame (frames.Attach attach.now)) result }
+    ensures same { OnNoMemory result (SameHeld held.old held.new) }
     ensures untouched { OnOwnError result (below.new ≡ below.old) }
-    ensures state { (S.told below.new).state ≡ (S.told below.old).state }
+    ensures fixed { (S.told below.new).fixed ≡ (S.told below.old).fixed }
     ensures later { (S.told below.old).refusals ≤ (S.told below.new).refusals }
     ensures draws { IfOk result (λ out. out.0 ≡ nothing_drawn) }
 {
@@ -189,8 +193,9 @@ pub fn frame_step<S: LayerBelow>(
     requires room { held.old.opened < 2 ^ 64 - 1 }
     ensures goes { Steps held.old held.new (S.told below.old) (S.told below.new) (steps.Frame frame.now) result }
     ensures cause { StepCause (S.told below.old).refusals (S.told below.new).refusals (steps.Frame frame.now) result }
+    ensures same { OnNoMemory result (SameHeld held.old held.new) }
     ensures untouched { OnOwnError result (below.new ≡ below.old) }
-    ensures state { (S.told below.new).state ≡ (S.told below.old).state }
+    ensures fixed { (S.told below.new).fixed ≡ (S.told below.old).fixed }
     ensures later { (S.told below.old).refusals ≤ (S.told below.new).refusals }
     ensures draws { IfOk result (λ out. out.0 ≡ nothing_drawn) }
 {

@@ -23,6 +23,7 @@
 
 mod acting;
 mod committing;
+mod counting;
 mod declaring;
 mod discharging;
 mod driving;
@@ -35,6 +36,7 @@ mod outcomes;
 mod session;
 mod taking;
 
+pub use counting::{CountIds, numbered_id};
 pub use driving::drive;
 pub use ids::ListIds;
 pub use session::TxnSession;

@@ -3,8 +3,8 @@
 ghost use Rattle.std.specs.Prelude.{◌≡◌, ℕ, true, false, None, IfOk};
 ghost use Rattle.amqp_txn_codec.specs.Reading.{message_of};
 ghost use Rattle.amqp_record.specs.declared.step.Step.TheVariants as steps;
-ghost use Rattle.amqp_resource.specs.Held.{is_in};
-ghost use Rattle.amqp_resource.specs.Steps.{StepsHere, StepCause, nothing_drawn};
+ghost use Rattle.amqp_resource.specs.Held.{SameHeld, is_in};
+ghost use Rattle.amqp_resource.specs.Steps.{StepsHere, StepCause, OnNoMemory, nothing_drawn};
 
 use crate::held::{Held, drop_held_on, drop_link, has_link};
 use crate::outcomes::no_draws;
@@ -17,6 +17,7 @@ use std::alloc::Global;
 pub fn link_end_step(held: &mut Held, alloc: Global, link: u64) -> Result<(Drawn, Reply), StepError>
     ensures goes { StepsHere held.old held.new (steps.LinkEnd link) result }
     ensures cause { (n : ℕ) → StepCause n n (steps.LinkEnd link) result }
+    ensures same { OnNoMemory result (SameHeld held.old held.new) }
     ensures draws { IfOk result (λ out. out.0 ≡ nothing_drawn) }
 {
     if !has_link(held.links.as_slice(), link) {
@@ -38,6 +39,7 @@ pub fn close_step(
     requires opened { is_in held.old.links.items link ≡ true }
     ensures goes { StepsHere held.old held.new (steps.Control link payload.now) result }
     ensures cause { (n : ℕ) → StepCause n n (steps.Control link payload.now) result }
+    ensures same { OnNoMemory result (SameHeld held.old held.new) }
     ensures draws { IfOk result (λ out. out.0 ≡ nothing_drawn) }
 {
     drop_held_on(&mut held.live, link);
@@ -55,6 +57,7 @@ pub fn no_link_step(
     requires { is_in held.now.links.items link ≡ false }
     ensures goes { StepsHere held.now held.now (steps.Control link payload.now) result }
     ensures cause { (n : ℕ) → StepCause n n (steps.Control link payload.now) result }
+    ensures same { OnNoMemory result (SameHeld held.now held.now) }
     ensures draws { IfOk result (λ out. out.0 ≡ nothing_drawn) }
 {
     Ok((no_draws(alloc), Reply::NoLink))

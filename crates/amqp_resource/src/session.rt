@@ -1,8 +1,7 @@
 //! A session: what it keeps, the layer below, and whether it stopped.
 
-ghost use Rattle.std.specs.Prelude.{◌≡◌, ◌≤◌, ◌<◌, ◌-◌, ◌^◌, ◌↔◌, ◌∷◌, ◌++◌, ◌⊎◌, [], List, None, Some, Err, IfSome, IfOk, IfErr, OnErr, IsTrue, true};
+ghost use Rattle.std.specs.Prelude.{◌≡◌, ◌≤◌, ◌<◌, ◌-◌, ◌^◌, ◌↔◌, ◌∷◌, ◌++◌, [], List, None, Some, Err, IfSome, IfOk, IfErr, OnErr, IsTrue, true};
 ghost use Rattle.amqp_txn_types.specs.declared.id.TransactionId.{TransactionId as Id};
-ghost use Rattle.amqp_txn_types.specs.declared.delivery.SessionStopReason.{SessionStopReason};
 ghost use Rattle.amqp_below.specs.declared.inner_error.SessionInnerError.TheVariants as faults;
 ghost use Rattle.amqp_below.specs.Told.{Rose};
 ghost use Rattle.amqp_below.specs.Ids.{Drew};
@@ -11,9 +10,9 @@ ghost use Rattle.amqp_record.specs.declared.stop.StepError.TheVariants as errors
 ghost use Rattle.amqp_record.specs.Links.{attached_count};
 ghost use Rattle.amqp_record.specs.Live.{is_live};
 ghost use Rattle.amqp_record.specs.Answers.{Answer};
-ghost use Rattle.amqp_resource.specs.Steps.{entry_of, ended_by, takes_memory, IfEnded, IfRefused, IfUnknown, IsControlAttach, IsFirstStop, MayFault, OnAttachRefused, OnNoMemory, OnOwnError, OpenedBy, RefusedAdds, RefusedBy, TookFirst, TookHands, UnderDead};
+ghost use Rattle.amqp_resource.specs.Steps.{entry_of, ended_by, takes_memory, AnswersEnd, IfEnded, IfRefused, IfUnknown, IsControlAttach, IsFirstStop, MayFault, OnAttachRefused, OnNoMemory, OnOwnError, OpenedBy, RefusedAdds, RefusedBy, TookFirst, TookHands, UnderDead};
 ghost use Rattle.amqp_resource.specs.Complete.{InOrder, Completed};
-ghost use Rattle.amqp_resource.specs.Session.{ForEachRecord, IsFresh, StandsFor, StopAfter, below_of, is_live_on, opened_of, stop_of, told_of};
+ghost use Rattle.amqp_resource.specs.Session.{ForEachRecord, IsFresh, SameSession, StandsFor, StopAfter, below_of, is_live_on, opened_of, stop_of, told_of};
 
 use crate::acting::act;
 use crate::held::{Held, has_id, keeps_nothing};
@@ -177,17 +176,17 @@ impl<S: LayerBelow> TxnSession<S> {
             (Rose (told_of S.told self.old).refusals (told_of S.told self.new).refusals
             × IsControlAttach step.now)) }
         // An end is answered with its own value; a copy of its error may want memory.
-        ensures ended { ForEachRecord self.old (λ r. (reason : SessionStopReason) → ended_by step.now ≡ Some reason →
-            (result ≡ Err (errors.Ended reason)) ⊎ (result ≡ Err errors.NoMemory)) }
+        ensures ended { stop_of self.old ≡ None → AnswersEnd (ended_by step.now) result }
         ensures ended_only { IfEnded result (λ reason. ended_by step.now ≡ Some reason) }
-        // Want of memory leaves the session standing for what it stood for, and comes of no step that
-        // takes none.
+        // Want of memory leaves the session as it was, standing for what it stood for, and comes of no
+        // step that takes none.
+        ensures same { OnNoMemory result (SameSession self.old self.new) }
         ensures memory { ForEachRecord self.old (λ r. OnNoMemory result
             (StandsFor self.new r × (takes_memory r step.now ≡ true))) }
         // An error that isn't a refusal below makes no call there. The count of refusals never falls.
         ensures untouched { OnOwnError result (below_of self.new ≡ below_of self.old) }
         ensures later { (told_of S.told self.old).refusals ≤ (told_of S.told self.new).refusals }
-        ensures state { (told_of S.told self.new).state ≡ (told_of S.told self.old).state }
+        ensures fixed { (told_of S.told self.new).fixed ≡ (told_of S.told self.old).fixed }
         // The stop that is kept.
         ensures stops { stop_of self.old ≡ None → StopAfter result (stop_of self.new) }
         // The ids drawn are the source's next ones, and every error leaves the source.

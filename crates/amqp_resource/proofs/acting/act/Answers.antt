@@ -1,4 +1,5 @@
 use Rattle.std.proofs.Common.{rules, ap, sym, ◌∙◌, refl}
+use Rattle.amqp_resource.proofs.Parts.{answers_end, local_error, remote_error}
 use Rattle.amqp_resource.proofs.acting.act.Goals as goal
 
 pub returns-in-LinkEnd-clause-goes : goal.returns-in-LinkEnd-clause-goes
@@ -6,3 +7,12 @@ returns-in-LinkEnd-clause-goes g c r s = rw c.in-LinkEnd.is (c.link_end_step.ens
 
 pub returns-in-LinkEnd-clause-cause : goal.returns-in-LinkEnd-clause-cause
 returns-in-LinkEnd-clause-cause g c = rw c.in-LinkEnd.is (c.link_end_step.ensures.cause _)
+
+pub returns-in-LocalEnd-clause-ended : goal.returns-in-LocalEnd-clause-ended
+returns-in-LocalEnd-clause-ended g c = rw c.in-LocalEnd.is (answers_end _ _ _ (local_error _) c.end_locally.ensures)
+
+pub returns-in-RemoteEnd-clause-ended : goal.returns-in-RemoteEnd-clause-ended
+returns-in-RemoteEnd-clause-ended g c = rw c.in-RemoteEnd.is (answers_end _ _ _ (remote_error _) c.end_remotely.ensures)
+
+pub returns-in-ConnectionStop-clause-ended : goal.returns-in-ConnectionStop-clause-ended
+returns-in-ConnectionStop-clause-ended g c = rw c.in-ConnectionStop.is (answers_end _ _ _ refl c.end_with_connection.ensures)

@@ -35,7 +35,7 @@ loop-frame-preserved g c =
       handed = subst (λ (n : ℕ). HandedSome old new (take n all) c.push_reserved.new.self.items) (sym count) (subst (λ (es : List Answers). HandedSome old new (take (length echoes + 1) all) es) (sym pushed) next);
       rest = sym (ap (λ n. drop n all) count ∙ more.0);
       count = omega (arith, more.1);
-      state = c.in-Ok.ensures.state ∙ c.loop-frame.invariant.state;
+      fixed = c.in-Ok.ensures.fixed ∙ c.loop-frame.invariant.fixed;
       later = omega (arith, c.loop-frame.invariant.later, c.in-Ok.ensures.later);
       room = omega (arith, c.loop-frame.invariant.room, c.push_reserved.ensures.capacity);
     }
@@ -61,7 +61,7 @@ returns-in-Err g c =
     (took.refused ∙ ap (λ f. grown mid.refused (cond b [] (refusal_of f e))) c.stripped.ensures) in
     record {
       handed = subst (λ (k : SessionInnerError). HandedPart old new all k c.handed_with.result.handed) (sym c.handed_with.ensures.error) (subst (λ (n : ℕ). HandedPart old new all e n) (sym count) part);
-      state = took.state ∙ c.loop-frame.invariant.state;
+      fixed = took.fixed ∙ c.loop-frame.invariant.fixed;
       later = omega (arith, c.loop-frame.invariant.later, took.later);
       cause = omega (arith, c.loop-frame.invariant.later, took.cause);
     }

@@ -7,7 +7,7 @@ invariant-loop-frame g l = record {
   handed : HandedSome (g.S.LayerBelow.told l.fn.below) (g.S.LayerBelow.told l.below) (take (length l.echoes.items) l.fn.frames.items) l.echoes.items;
   rest : l.rest.items ≡ drop (length l.echoes.items) l.fn.frames.items;
   count : length l.echoes.items ≤ length l.fn.frames.items;
-  state : (g.S.LayerBelow.told l.below).state ≡ (g.S.LayerBelow.told l.fn.below).state;
+  fixed : (g.S.LayerBelow.told l.below).fixed ≡ (g.S.LayerBelow.told l.fn.below).fixed;
   later : (g.S.LayerBelow.told l.fn.below).refusals ≤ (g.S.LayerBelow.told l.below).refusals;
   room : length l.fn.frames.items ≤ vec_capacity l.echoes;
 }

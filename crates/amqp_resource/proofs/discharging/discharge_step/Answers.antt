@@ -21,15 +21,15 @@ returns-then-index-link-clause-goes g c r s =
     rw (c.no_draws-then-index-link.ensures, c.absent-then-index-link.ensures) (went-absent c.args.held.now r c.args.link c.args.payload.now c.args.discharge (g.S.LayerBelow.told c.args.below.now) c.requires.message c.requires.opened s
     (held_elsewhere c.args.held.now r c.args.link c.args.discharge.txn_id _ _ s here (λ e. c.if-index-link.true (ap (λ l. l.holder) c.index.ensures ∙ e))))
 
-pub returns-then-is_rollback-clause-goes : goal.returns-then-is_rollback-clause-goes
-returns-then-is_rollback-clause-goes g c r s =
+pub returns-then-rolls_back-clause-goes : goal.returns-then-rolls_back-clause-goes
+returns-then-rolls_back-clause-goes g c r s =
     let at : StandsAt c.args.held.now.live.items c.in-Some.at c.args.discharge.txn_id =
     subst (λ (ls : List Live). StandsAt ls c.in-Some.at c.args.discharge.txn_id) c.as_slice.ensures.value c.in-Some.ensures.1 in
     let here = look_at c.args.held.now.live.items c.in-Some.at c.args.discharge.txn_id c.index.result.now at s.distinct in
     let kept = c.take_at-dropped.ensures in
-    rw (c.no_draws-then-is_rollback.ensures, c.new.ensures)
+    rw (c.no_draws-then-rolls_back.ensures, c.new.ensures)
     (went-rollback c.args.held.now _ r c.args.link c.args.payload.now c.args.discharge c.take_at-dropped.result.frames (g.S.LayerBelow.told c.args.below.now) c.requires.message
-    (sym c.is_rollback.ensures ∙ c.if-is_rollback.true) c.requires.opened s
+    (sym c.rolls_back.ensures ∙ c.if-rolls_back.true) c.requires.opened s
     (held_here c.args.held.now c.args.discharge.txn_id _ _ _ _ c.args.link (kept.taken s.distinct) here (ap (λ l. l.holder) (sym c.index.ensures) ∙ c.if-index-link.false))
     (kept.distinct s.distinct) (kept.rest s.distinct) refl refl)
 
@@ -39,7 +39,7 @@ returns-in_default-with_capacity-clause-goes g c r s =
     subst (λ (ls : List Live). StandsAt ls c.in-Some.at c.args.discharge.txn_id) c.as_slice.ensures.value c.in-Some.ensures.1 in
     let here = look_at c.args.held.now.live.items c.in-Some.at c.args.discharge.txn_id c.index.result.now at s.distinct in
     stayed-commit c.args.held.now r c.args.link c.args.payload.now c.args.discharge _ c.requires.message
-    (sym c.is_rollback.ensures ∙ c.if-is_rollback.false) c.requires.opened s
+    (sym c.rolls_back.ensures ∙ c.if-rolls_back.false) c.requires.opened s
     (held_here c.args.held.now c.args.discharge.txn_id _ _ _ _ c.args.link here here (ap (λ l. l.holder) (sym c.index.ensures) ∙ c.if-index-link.false))
 
 pub returns-in-Ok-hand_all-clause-goes : goal.returns-in-Ok-hand_all-clause-goes
@@ -54,7 +54,7 @@ returns-in-Ok-hand_all-clause-goes g c r s =
     let handed : P c.into_vec.result.items = c.in-Ok-hand_all.ensures.handed in
     rw c.no_draws-in-Ok-hand_all.ensures
     (went-commit c.args.held.now _ r c.args.link c.args.payload.now c.args.discharge c.take_at-frames.result.frames c.in-Ok-hand_all.echoes old new c.requires.message
-    (sym c.is_rollback.ensures ∙ c.if-is_rollback.false) c.requires.opened s
+    (sym c.rolls_back.ensures ∙ c.if-rolls_back.false) c.requires.opened s
     (held_here c.args.held.now c.args.discharge.txn_id _ _ _ _ c.args.link (kept.taken s.distinct) here (ap (λ l. l.holder) (sym c.index.ensures) ∙ c.if-index-link.false))
     (kept.distinct s.distinct) (kept.rest s.distinct) refl refl (subst P c.into_vec.ensures handed))
 
@@ -71,6 +71,6 @@ returns-in-Err-clause-goes g c r s =
     let handed : P c.into_vec.result.items = c.in-Err.ensures.handed in
     refused_gives c.args.held.now old new r (steps.Control c.args.link c.args.payload.now) c.fault_of.result own c.in-Err.refusal.handed c.fault_of.ensures.known c.fault_of.ensures.fault
     (refused-commit c.args.held.now r c.args.link c.args.payload.now c.args.discharge c.take_at-frames.result.frames own c.in-Err.refusal.handed old new c.requires.message
-    (sym c.is_rollback.ensures ∙ c.if-is_rollback.false) c.requires.opened s
+    (sym c.rolls_back.ensures ∙ c.if-rolls_back.false) c.requires.opened s
     (held_here c.args.held.now c.args.discharge.txn_id _ _ _ _ c.args.link (kept.taken s.distinct) here (ap (λ l. l.holder) (sym c.index.ensures) ∙ c.if-index-link.false))
     (subst P c.into_vec.ensures handed))

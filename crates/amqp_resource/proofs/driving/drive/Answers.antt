@@ -5,7 +5,7 @@ use Rattle.amqp_record.specs.declared.step.Step.{Step}
 use Rattle.amqp_resource.specs.Steps.{entry_of}
 use Rattle.amqp_resource.specs.Session.{held_of, below_of, stop_of}
 use Rattle.amqp_resource.specs.Drive.{Left}
-use Rattle.amqp_resource.proofs.Parts.{own_weaker}
+use Rattle.amqp_resource.proofs.Parts.{end_is, own_weaker}
 use Rattle.amqp_resource.proofs.Running.{Ran, Broke, broke_cause, broke_done, broke_ended, broke_leaves, broke_refused, broke_rose, broke_took, broke_unknown, failed, left-more, ran-more, ran-nil, some_step, stops_by}
 use Rattle.amqp_resource.proofs.driving.drive.Given.{Over}
 use Rattle.amqp_resource.proofs.driving.drive.Goals as goal
@@ -42,7 +42,7 @@ loop-step-preserved g c =
             refused = said.refused runs r stands;
             attach = said.attach_refused runs r stands;
             later = said.later;
-            state = said.state;
+            fixed = said.fixed;
           })
           said.drew);
       start = said.start ∙ c.loop-step.invariant.start;
@@ -67,12 +67,12 @@ broke g c =
       unknown_only = said.unknown_only runs r stands;
       refusal = said.refusal runs r stands;
       rose = said.refusal_rose;
-      ended = said.ended runs r stands;
+      ended = λ reason is. end_is _ _ reason (said.ended runs) is;
       ended_only = said.ended_only;
       memory = said.memory runs r stands;
       own = own_weaker (failed c.in-Err.error) (below_of c.step.new.self ≡ below_of c.loop-step.session) _ (ap g.S.LayerBelow.told) said.untouched;
       later = said.later;
-      state = said.state;
+      fixed = said.fixed;
       stops = said.stops runs;
     }
 

@@ -11,7 +11,7 @@ returns-in-Err-check_given g c =
       taken = (c.in-Ok.given ∷ [], refl, checked.steady.taken ∙ called.taken);
       opened = checked.steady.opened ∙ called.opened;
       refused = checked.steady.refused ∙ called.refused ∙ sym (grown-nil _);
-      state = checked.steady.state ∙ called.state;
+      fixed = checked.steady.fixed ∙ called.fixed;
       later = omega (arith, called.later, checked.steady.later);
       cause = omega (arith, checked.cause, called.later);
     }

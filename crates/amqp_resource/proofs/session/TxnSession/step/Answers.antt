@@ -1,5 +1,5 @@
 use Rattle.std.proofs.Common.{rules, refl, ap}
-use Rattle.amqp_resource.proofs.Parts.{gave_answer, gave_stands, gave_taken, gave_part, gave_opened, opened_none, gave_refused, gave_last, gave_unknown, gave_unknown_only, gave_cause, gave_attach, gave_ended, gave_memory, cause_rose, cause_ended, cause_first, own_weaker}
+use Rattle.amqp_resource.proofs.Parts.{gave_answer, gave_stands, gave_taken, gave_part, gave_opened, opened_none, gave_refused, gave_last, gave_unknown, gave_unknown_only, gave_cause, gave_attach, gave_memory, cause_rose, cause_ended, cause_first, own_weaker, same_session}
 use Rattle.amqp_resource.proofs.Complete.{complete, drew_next}
 use Rattle.amqp_resource.proofs.session.TxnSession.step.Goals as goal
 
@@ -32,9 +32,6 @@ returns-clause-unknown_only g c e r s = gave_unknown_only _ _ _ r _ _ (c.act-res
 
 pub returns-clause-refusal : goal.returns-clause-refusal
 returns-clause-refusal g c e r s = gave_cause _ _ _ r _ _ (c.act-result.ensures.goes r s)
-
-pub returns-clause-ended : goal.returns-clause-ended
-returns-clause-ended g c e r s = gave_ended _ _ _ r _ _ (c.act-result.ensures.goes r s)
 
 pub returns-clause-memory : goal.returns-clause-memory
 returns-clause-memory g c e r s = gave_memory _ _ _ r _ _ (c.act-result.ensures.goes r s)
