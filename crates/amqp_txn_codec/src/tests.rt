@@ -3,6 +3,7 @@
 
 use crate::{ControlMessageBody, Declare, Discharge, NotControl, decode, skip_value};
 use amqp_txn_types::{IdTooLong, TransactionId};
+use std::alloc::{Alloc, Global};
 use std::process::Abort;
 use std::test::Fail;
 
@@ -185,18 +186,40 @@ fn the_canonical_spelling_is_written(rt: HostRuntime) -> Result<(), Fail> {
     Ok(())
 }
 
-fn no_prefix_is_read(rt: &impl Abort, spelling: &[u8]) {
+fn only_the_whole_is_read(
+    rt: &(impl Abort + Alloc<A = Global>),
+    message: ControlMessageBody,
+) -> Result<(), Fail> {
+    let payload = message.encode(rt.alloc())?;
+    let spelling = payload.as_slice();
+    assert_eq!(rt; decode(spelling), Ok(message));
     for end in 0..spelling.len() {
-        assert_eq!(rt; decode(&spelling[..end]), Err(NotControl), "at {end}");
+        assert_eq!(rt;
+            decode(&spelling[..end]),
+            Err(NotControl),
+            "at {end} of {spelling:?}"
+        );
     }
+    let mut longer = Vec::new(rt.alloc());
+    longer.extend_from_slice(spelling)?;
+    longer.push(0x40)?;
+    assert_eq!(rt; decode(longer.as_slice()), Err(NotControl));
+    Ok(())
 }
 
 #[test]
-fn no_prefix_of_a_canonical_spelling_is_read(rt: HostRuntime) {
-    no_prefix_is_read(&rt, b"\x00Sw\x00S\x31E");
-    no_prefix_is_read(&rt, b"\x00Sw\x00S\x31\xc0\x06\x01\xa0\x03\x01\x02\x03");
-    no_prefix_is_read(&rt, b"\x00Sw\x00S\x32\xc0\x06\x01\xa0\x03\x01\x02\x03");
-    no_prefix_is_read(&rt, b"\x00Sw\x00S\x32\xc0\x07\x02\xa0\x03\x01\x02\x03A");
+fn only_the_whole_canonical_spelling_is_read(rt: HostRuntime) -> Result<(), Fail> {
+    only_the_whole_is_read(&rt, declare())?;
+    let octets = [0x45; 32];
+    for len in [0usize, 1, 16, 32] {
+        let id = &octets[..len];
+        let global_id = Some(TransactionId::new(id)?);
+        only_the_whole_is_read(&rt, ControlMessageBody::Declare(Declare { global_id }))?;
+        for fail in [None, Some(true), Some(false)] {
+            only_the_whole_is_read(&rt, discharge(id, fail)?)?;
+        }
+    }
+    Ok(())
 }
 
 #[test]
@@ -213,6 +236,10 @@ fn values_within_values_are_read_at_once(rt: HostRuntime) -> Result<(), Fail> {
     // Each of 400,000 constructors 0 wants two values, and 400,001 nulls are all of them.
     let mut value = vec![in rt.alloc(); 0; 400_000]?;
     assert_eq!(rt; skip_value(value.as_slice(), 0), None);
+    let mut header = Vec::new(rt.alloc());
+    header.extend_from_slice(b"\x00Sp")?;
+    header.extend_from_slice(value.as_slice())?;
+    assert_eq!(rt; decode(header.as_slice()), Err(NotControl));
     let nulls = vec![in rt.alloc(); 0x40; 400_001]?;
     value.extend_from_slice(nulls.as_slice())?;
     assert_eq!(rt; skip_value(value.as_slice(), 0), Some(800_001));
