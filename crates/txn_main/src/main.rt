@@ -10,7 +10,7 @@ use std::alloc::{Alloc, Global};
 use std::env::{self, Env};
 use std::io::{self, Input, Print, Read};
 use std::process::ExitCode;
-use txn_program::{command_of, run, status};
+use txn_program::{Command, command_of, run, status};
 
 /// Why a call has no answer of its own.
 enum Fault {
@@ -60,10 +60,10 @@ fn octets(rt: &(impl Input + Alloc<A = Global>)) -> Result<Binary, Fault> {
 fn serve(rt: &(impl Env + Input + Print + Alloc<A = Global>)) -> Result<u8, Fault> {
     let alloc = rt.alloc();
     let words = words(rt)?;
-    // Outside the table of words nothing is read.
+    // Only a run of the input reads.
     let octets = match command_of(alloc, words.as_slice())? {
-        Some(_) => octets(rt)?,
-        None => Binary::new(alloc),
+        Some(Command::Run { .. }) => octets(rt)?,
+        Some(Command::Make(_)) | None => Binary::new(alloc),
     };
     let mut input = SureSource::new(octets);
     let mut output = SureSink::new(alloc);

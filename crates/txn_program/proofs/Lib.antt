@@ -4,4 +4,5 @@ pub mod Pieces
 pub mod Putting
 pub mod Spelling
 pub mod WordLemmas
+pub mod Makes
 pub mod Runs

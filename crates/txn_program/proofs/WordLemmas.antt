@@ -1,31 +1,36 @@
--- Ids read one after another.
+-- Words read one after another.
 use Rattle.std.proofs.Common.{◌≡◌, ℕ, zero, suc, ◌+◌, Option, Some, None, List, [], ◌∷◌, ◌++◌, refl, sym, ◌∙◌, ap, drop, append_assoc, append-nil}
-use Rattle.std.specs.Prelude.{slice_get}
-use Rattle.amqp_txn_types.specs.declared.id.TransactionId.{TransactionId}
+use Rattle.std.specs.Borrow.{Bor}
+use Rattle.std.specs.Prelude.{length, slice_get}
 use Rattle.txn_program.specs.LineWords.{◌>>=◌}
-use Rattle.txn_program.specs.Words.{id_of, ids_of}
+use Rattle.txn_program.specs.Words.{each}
 
--- these ids, and then those of the words that are left
-abbrev pub with_ids : List TransactionId → Option (List TransactionId) → Option (List TransactionId)
-with_ids ids None = None
-with_ids ids (Some more) = Some (ids ++ more)
+-- these, and then those of the words that are left
+abbrev pub with_more : {A : Type 0} → List A → Option (List A) → Option (List A)
+with_more xs None = None
+with_more xs (Some more) = Some (xs ++ more)
 
--- no ids before them
-pub with_ids-none : (o : Option (List TransactionId)) → with_ids [] o ≡ o
-with_ids-none None = refl
-with_ids-none (Some more) = refl
+-- none before them
+pub with_more-none : {A : Type 0} (o : Option (List A)) → with_more [] o ≡ o
+with_more-none None = refl
+with_more-none (Some more) = refl
 
--- an id before those that are read, where there are any
-abbrev pub before_ids : TransactionId → Option (List TransactionId) → Option (List TransactionId)
-before_ids id o = o >>= λ more. Some (id ∷ more)
+-- one before those that are read, where there are any
+abbrev pub before : {A : Type 0} → A → Option (List A) → Option (List A)
+before x o = o >>= λ more. Some (x ∷ more)
 
--- one id more
-pub with_ids-more : (ids : List TransactionId) (id : TransactionId) (o : Option (List TransactionId)) → with_ids ids (before_ids id o) ≡ with_ids (ids ++ id ∷ []) o
-with_ids-more ids id None = refl
-with_ids-more ids id (Some more) = ap Some (sym (append_assoc ids (id ∷ []) more))
+-- one more
+pub with_more-one : {A : Type 0} (xs : List A) (x : A) (o : Option (List A)) → with_more xs (before x o) ≡ with_more (xs ++ x ∷ []) o
+with_more-one xs x None = refl
+with_more-one xs x (Some more) = ap Some (sym (append_assoc xs (x ∷ []) more))
 
--- the ids of the words from a place on, by the word there
-pub ids_of-at : (words : List (List ℕ)) (i : ℕ) (word : List ℕ) → slice_get words i ≡ Some word → ids_of (drop i words) ≡ (id_of word >>= λ id. before_ids id (ids_of (drop (suc i) words)))
-ids_of-at [] i word found = cc
-ids_of-at (w ∷ words) zero word found = let same : w ≡ word = cc in ap (λ v. id_of v >>= λ id. before_ids id (ids_of words)) same
-ids_of-at (w ∷ words) (suc i) word found = ids_of-at words i word found
+-- the words from a place on, by the word there
+pub each-at : {A : Type 0} (kind : List ℕ → Option A) (words : List (List ℕ)) (i : ℕ) (word : List ℕ) → slice_get words i ≡ Some word → each kind (drop i words) ≡ (kind word >>= λ x. before x (each kind (drop (suc i) words)))
+each-at kind [] i word found = cc
+each-at kind (w ∷ words) zero word found = let same : w ≡ word = cc in ap (λ v. kind v >>= λ x. before x (each kind words)) same
+each-at kind (w ∷ words) (suc i) word found = each-at kind words i word found
+
+-- how many octets are left, one more where a piece is left
+abbrev pub octets_left : Option (Bor (List ℕ)) → ℕ
+octets_left None = 0
+octets_left (Some octets) = length octets.now + 1

@@ -5,3 +5,4 @@ pub mod Reads
 pub mod Report
 pub mod Running
 pub mod Words
+pub mod Made

@@ -1,5 +1,5 @@
 -- What a run of the program answers: its statuses, its record, what was taken, and what is written.
-use Rattle.std.specs.Prelude.{ℕ, ◌≡◌, ◌==◌, ◌↔◌, ◌++◌, Option, Some, None, Result, Ok, Err, List, [], length, take, codes, if◌then◌else◌}
+use Rattle.std.specs.Prelude.{ℕ, ◌≡◌, ◌==◌, ◌↔◌, ◌++◌, Option, Some, None, Result, Ok, Err, List, [], length, take, codes, ◌⊎◌, IsNone, IfSome, IsOkAnd, if◌then◌else◌}
 use Rattle.std.specs.Fmt.{decimal}
 use Rattle.amqp_txn_types.specs.declared.id.TransactionId.{TransactionId}
 use Rattle.amqp_txn_types.specs.declared.performatives.Frame.{Frame}
@@ -15,6 +15,9 @@ use Rattle.amqp_record.specs.Entries.{drawn_of, steps_of}
 use Rattle.amqp_record.specs.Legal.{IsLegal}
 use Rattle.amqp_record.specs.Opened.{opens}
 use Rattle.amqp_resource.specs.Drive.{RunTook, RunRefused, RunRose, StopCause}
+use Rattle.amqp_resource.specs.Counted.{counted}
+use Rattle.amqp_resource.specs.Listed.{listed}
+use Rattle.txn_program.specs.Made.{made, made_text}
 use Rattle.txn_program.specs.Report.{text_of}
 use Rattle.txn_program.specs.declared.words.Command.{Command}
 use Rattle.txn_program.specs.declared.words.Command.TheVariants as commands
@@ -36,11 +39,16 @@ abbrev pub driven_status : Option Driven → ℕ
 driven_status None = 6
 driven_status (Some driven) = stop_status driven.stop
 
--- the status: 2 for words outside the table, 3 for a line outside the line table, else by the run; want of memory apart
+-- the status of a run of the input: 3 for a line outside the line table
+abbrev pub input_status : Result (List Step) ℕ → Option Driven → ℕ
+input_status (Err line) driven = 3
+input_status (Ok steps) driven = driven_status driven
+
+-- the status: 2 for words outside the table, else by the run; want of memory apart
 abbrev pub status_of : Option Command → Result (List Step) ℕ → Option Driven → ℕ
 status_of None spelled driven = 2
-status_of (Some (commands.Run ids)) (Err line) driven = 3
-status_of (Some (commands.Run ids)) (Ok steps) driven = driven_status driven
+status_of (Some (commands.Run plan ids)) spelled driven = input_status spelled driven
+status_of (Some (commands.Make count)) spelled driven = driven_status driven
 
 -- a list, where it is told
 abbrev pub list_of : Option (List (Frame × List Frame)) → List (Frame × List Frame)
@@ -56,20 +64,60 @@ abbrev pub report_text : Told → Option Driven → List ℕ
 report_text below None = []
 report_text below (Some driven) = text_of driven (taken_of below)
 
--- the text that is written: of the words, of the line, or the report
+-- the text of a run of the input: of the line that isn't a step, or the report
+abbrev pub input_text : Told → Result (List Step) ℕ → Option Driven → List ℕ
+input_text below (Err line) driven = line_text line
+input_text below (Ok steps) driven = report_text below driven
+
+-- the text of a made run, where steps were driven
+abbrev pub summary_text : Told → Option Driven → List ℕ
+summary_text below None = []
+summary_text below (Some driven) = made_text driven.entries (length (taken_of below))
+
+-- the text that is written, by the words
 abbrev pub written_text : Told → Option Command → Result (List Step) ℕ → Option Driven → List ℕ
 written_text below None spelled driven = codes "usage\n"
-written_text below (Some (commands.Run ids)) (Err line) driven = line_text line
-written_text below (Some (commands.Run ids)) (Ok steps) driven = report_text below driven
+written_text below (Some (commands.Run plan ids)) spelled driven = input_text below spelled driven
+written_text below (Some (commands.Make count)) spelled driven = summary_text below driven
 
 -- the text of a status: none for want of memory
 abbrev pub text_by : ℕ → List ℕ → List ℕ
 text_by status text = if status == 6 then [] else text
 
--- the words ask for a run with these ids, every line of the input is a step, and this holds of the ids and the steps
-abbrev pub IsRunOf : Option Command → Result (List Step) ℕ → (List TransactionId → List Step → Type 0) → Type 0
-IsRunOf (Some (commands.Run ids)) (Ok steps) P = P ids steps
-IsRunOf command spelled P = ⊥
+-- the steps that the words ask for, with the ids that declares draw: a run of the input, of which every line is a step, with the ids of the words, or a made run with the numbers from 1
+abbrev pub IsRunOf : Option Command → Result (List Step) ℕ → ((ℕ → TransactionId) → List Step → Type 0) → Type 0
+IsRunOf None spelled P = ⊥
+IsRunOf (Some (commands.Run plan ids)) spelled P = IsOkAnd spelled (P (listed ids))
+IsRunOf (Some (commands.Make count)) spelled P = P (counted 1) (made count)
+
+-- what is left of the input: a run reads it to its end before it drives a step, and nothing else reads it
+abbrev pub LeftUnread : Option Command → Option Driven → List ℕ → List ℕ → Type 0
+LeftUnread None driven before after = after ≡ before
+LeftUnread (Some (commands.Run plan ids)) driven before after = IfSome driven (λ d. after ≡ [])
+LeftUnread (Some (commands.Make count)) driven before after = after ≡ before
+
+-- the plan of the words, or the one that was there
+abbrev pub plan_or : List ℕ → Option (List ℕ) → List ℕ
+plan_or before None = before
+plan_or before (Some plan) = plan
+
+-- the plan that the words leave to the recorder
+abbrev pub plan_left : List ℕ → Option Command → List ℕ
+plan_left before None = before
+plan_left before (Some (commands.Run plan ids)) = plan_or before plan
+plan_left before (Some (commands.Make count)) = before
+
+-- the plan at the end is the LIST of the words, or as it was without one; for want of memory before the drive it may be as it was
+abbrev pub PlanLeft : Option Command → ℕ → Option Driven → List ℕ → List ℕ → Type 0
+PlanLeft command status driven before after =
+    (after ≡ plan_left before command) ⊎ ((status ≡ 6) × IsNone driven × (after ≡ before))
+
+-- nothing was taken, opened or refused
+pub record Untouched (before after : Told) : Type 0 where
+  pub taken : after.taken ≡ before.taken
+  pub opened : after.opened ≡ before.opened
+  pub refused : after.refused ≡ before.refused
+  pub refusals : after.refusals ≡ before.refusals
 
 -- a legal run over a front of the steps, with the ids of that source, and what the layer below has then taken, opened and refused of it
 pub record IsRun (ids : ℕ → TransactionId) (steps : List Step) (below : Told) (driven : Driven) : Type 0 where

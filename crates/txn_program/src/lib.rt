@@ -24,6 +24,7 @@ mod cutting;
 mod frame_text;
 mod line_words;
 mod lines;
+mod making;
 mod report_words;
 mod reporting;
 #[cfg(test)]
@@ -32,6 +33,7 @@ mod running;
 pub mod status;
 mod step_lines;
 mod streaming;
+mod summing;
 #[cfg(test)]
 mod tests;
 mod unread;

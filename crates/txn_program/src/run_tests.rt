@@ -8,12 +8,12 @@ use std::alloc::{Alloc, Global};
 use std::process::Abort;
 use std::test::Fail;
 
-const A: &str = "00000000000000000000000000000001";
+pub(crate) const A: &str = "00000000000000000000000000000001";
 
-const B: &str = "00000000000000000000000000000002";
+pub(crate) const B: &str = "00000000000000000000000000000002";
 
 /// Runs the program over a recorder that takes everything.
-fn ran(
+pub(crate) fn ran(
     alloc: Global,
     words: &[&str],
     input: &str,
@@ -29,7 +29,7 @@ fn ran(
 }
 
 /// Runs the program, compares its status and its text, and its record with the plain program's answer.
-fn assert_run(
+pub(crate) fn assert_run(
     rt: &(impl Abort + Alloc<A = Global>),
     words: &[&str],
     input: &str,

@@ -1,21 +1,26 @@
-//! A run: the steps of the input through a session, and its report.
+//! A run: steps through a session, and what is written of them.
 
-ghost use Rattle.std.specs.Prelude.{◌≡◌, ◌++◌, ◌<◌, ◌⊎◌, [], length, None, Some, Ok, IfSome, IfOk, IsNone, Result, List};
+ghost use Rattle.std.specs.Prelude.{◌≡◌, ◌++◌, ◌<◌, ◌≤◌, ◌⊎◌, [], length, None, Some, Ok, IfSome, IfOk, IsNone, IsOkAnd, OnErr};
 ghost use Rattle.amqp_below.specs.Recording.{IsFresh, is_unused};
+ghost use Rattle.amqp_resource.specs.Counted.{counted};
 ghost use Rattle.amqp_resource.specs.Drive.{RunRose};
 ghost use Rattle.amqp_resource.specs.Listed.{listed};
 ghost use Rattle.txn_program.specs.Lines.{steps_of};
-ghost use Rattle.txn_program.specs.Running.{IsRun, IsRunOf, driven_status, line_text, report_text, status_of, stop_status, taken_of, text_by, written_text};
-ghost use Rattle.txn_program.specs.declared.words.Command.TheVariants as commands;
+ghost use Rattle.txn_program.specs.Made.{made};
+ghost use Rattle.txn_program.specs.Running.{IsRun, Untouched, driven_status, input_status, input_text, line_text, report_text, stop_status, summary_text, text_by};
 
 use crate::lines::{SpellError, spells};
+use crate::making::made;
 use crate::reporting::report;
 use crate::status;
 use crate::streaming::{read_all, write_all};
+use crate::summing::summary;
 use crate::words::TransactionIds;
-use amqp_below::{ByteSink, LayerBelow, Recorder, SessionInnerError, SureSink, SureSource};
+use amqp_below::{
+    ByteSink, IdSource, LayerBelow, Recorder, SessionInnerError, SureSink, SureSource,
+};
 use amqp_record::{Driven, Entries, Steps, Stop};
-use amqp_resource::{ListIds, TxnSession, drive};
+use amqp_resource::{CountIds, ListIds, TxnSession, drive};
 use amqp_txn_types::{NoMemory, Text};
 use std::alloc::Global;
 
@@ -100,19 +105,20 @@ pub(crate) fn run_input<S: LayerBelow>(
 ) -> Ran<S>
     requires some { 0 < length ids }
     requires fresh { IsFresh (is_unused below) (⟦<Recorder<S> as LayerBelow>⟧.told below) }
-    ensures status { (result.status ≡ 6) ⊎ (result.status ≡ status_of (Some (commands.Run ids)) (steps_of input.old) result.driven) }
-    ensures record { IfSome result.driven (λ driven. IsRunOf (Some (commands.Run ids)) (steps_of input.old) (λ these steps. IsRun (listed these) steps (⟦<Recorder<S> as LayerBelow>⟧.told result.below) driven)) }
+    ensures status { (result.status ≡ 6) ⊎ (result.status ≡ input_status (steps_of input.old) result.driven) }
+    ensures record { IfSome result.driven (λ driven. IsOkAnd (steps_of input.old) (λ steps. IsRun (listed ids) steps (⟦<Recorder<S> as LayerBelow>⟧.told result.below) driven)) }
     ensures rose { IfSome result.driven (λ driven. RunRose (⟦<Recorder<S> as LayerBelow>⟧.told below).refusals (⟦<Recorder<S> as LayerBelow>⟧.told result.below).refusals driven.entries driven.stop) }
-    ensures read { IfSome result.driven (λ driven. input.new ≡ []) }
-    ensures untouched { IsNone result.driven → ⟦<Recorder<S> as LayerBelow>⟧.told result.below ≡ ⟦<Recorder<S> as LayerBelow>⟧.told below }
-    ensures written { output.new.octets ≡ output.old.octets ++ text_by result.status (written_text (⟦<Recorder<S> as LayerBelow>⟧.told result.below) (Some (commands.Run ids)) (steps_of input.old) result.driven) }
+    ensures fixed { (⟦<Recorder<S> as LayerBelow>⟧.told result.below).fixed ≡ (⟦<Recorder<S> as LayerBelow>⟧.told below).fixed }
+    ensures untouched { IsNone result.driven → Untouched (⟦<Recorder<S> as LayerBelow>⟧.told below) (⟦<Recorder<S> as LayerBelow>⟧.told result.below) }
+    ensures written { output.new.octets ≡ output.old.octets ++ text_by result.status (input_text (⟦<Recorder<S> as LayerBelow>⟧.told result.below) (steps_of input.old) result.driven) }
     ensures entries { result.entries ≡ None }
+    ensures read { IfSome result.driven (λ driven. input.new ≡ []) }
 {
     let Ok(octets) = read_all(alloc, input) else {
         return out_of_memory(None, below);
     };
     match spells(alloc, octets.as_slice()) {
-        Ok(steps) => run_steps(alloc, ids, steps, below, output),
+        Ok(steps) => run_listed(alloc, ids, steps, below, output),
         Err(SpellError::Line(number)) => match line_text(alloc, number) {
             Ok(text) => answered(
                 status::NOT_A_STEP,
@@ -127,8 +133,8 @@ pub(crate) fn run_input<S: LayerBelow>(
     }
 }
 
-/// A run of these steps, of which declares draw these ids.
-fn run_steps<S: LayerBelow>(
+/// A run of these steps, of which declares draw these ids, and its report.
+fn run_listed<S: LayerBelow>(
     alloc: Global,
     ids: TransactionIds,
     steps: Steps,
@@ -140,33 +146,99 @@ fn run_steps<S: LayerBelow>(
     ensures status { (result.status ≡ 6) ⊎ (result.status ≡ driven_status result.driven) }
     ensures record { IfSome result.driven (λ driven. IsRun (listed ids) steps (⟦<Recorder<S> as LayerBelow>⟧.told result.below) driven) }
     ensures rose { IfSome result.driven (λ driven. RunRose (⟦<Recorder<S> as LayerBelow>⟧.told below).refusals (⟦<Recorder<S> as LayerBelow>⟧.told result.below).refusals driven.entries driven.stop) }
-    ensures untouched { IsNone result.driven → ⟦<Recorder<S> as LayerBelow>⟧.told result.below ≡ ⟦<Recorder<S> as LayerBelow>⟧.told below }
+    ensures fixed { (⟦<Recorder<S> as LayerBelow>⟧.told result.below).fixed ≡ (⟦<Recorder<S> as LayerBelow>⟧.told below).fixed }
+    ensures untouched { IsNone result.driven → Untouched (⟦<Recorder<S> as LayerBelow>⟧.told below) (⟦<Recorder<S> as LayerBelow>⟧.told result.below) }
     ensures written { output.new.octets ≡ output.old.octets ++ text_by result.status (report_text (⟦<Recorder<S> as LayerBelow>⟧.told result.below) result.driven) }
     ensures entries { result.entries ≡ None }
 {
     let Ok(mut source) = ListIds::new(alloc, ids.as_slice()) else {
         return out_of_memory(None, below);
     };
-    let mut session = TxnSession::new(alloc, below);
-    let driven = drive(&mut session, steps, &mut source);
-    reported(alloc, driven, session.into_below(), output)
+    let Run { driven, below } = run_steps(alloc, steps, &mut source, below);
+    let text = report(alloc, &driven, below.exchanges());
+    finished(driven, text, below, output)
 }
 
-/// The end of a run: its report, with the status of its stop.
-fn reported<S: LayerBelow>(
+/// A run of that many made transactions, and its summary.
+pub(crate) fn run_made<S: LayerBelow>(
     alloc: Global,
+    count: u32,
+    below: Recorder<S>,
+    output: &mut SureSink,
+) -> Ran<S>
+    requires few { count ≤ 20000 }
+    requires fresh { IsFresh (is_unused below) (⟦<Recorder<S> as LayerBelow>⟧.told below) }
+    ensures status { (result.status ≡ 6) ⊎ (result.status ≡ driven_status result.driven) }
+    ensures record { IfSome result.driven (λ driven. IsRun (counted 1) (made count) (⟦<Recorder<S> as LayerBelow>⟧.told result.below) driven) }
+    ensures rose { IfSome result.driven (λ driven. RunRose (⟦<Recorder<S> as LayerBelow>⟧.told below).refusals (⟦<Recorder<S> as LayerBelow>⟧.told result.below).refusals driven.entries driven.stop) }
+    ensures fixed { (⟦<Recorder<S> as LayerBelow>⟧.told result.below).fixed ≡ (⟦<Recorder<S> as LayerBelow>⟧.told below).fixed }
+    ensures untouched { IsNone result.driven → Untouched (⟦<Recorder<S> as LayerBelow>⟧.told below) (⟦<Recorder<S> as LayerBelow>⟧.told result.below) }
+    ensures written { output.new.octets ≡ output.old.octets ++ text_by result.status (summary_text (⟦<Recorder<S> as LayerBelow>⟧.told result.below) result.driven) }
+    ensures entries { result.entries ≡ None }
+{
+    let Ok(steps) = made(alloc, count) else {
+        return out_of_memory(None, below);
+    };
+    let mut source = CountIds::new();
+    let Run { driven, below } = run_steps(alloc, steps, &mut source, below);
+    let text = summed(alloc, &driven, &below);
+    finished(driven, text, below, output)
+}
+
+/// The summary of a made run.
+fn summed<S: LayerBelow>(
+    alloc: Global,
+    driven: &Driven,
+    below: &Recorder<S>,
+) -> Result<Text, NoMemory>
+    ensures { IfOk result (λ text. text ≡ summary_text (⟦<Recorder<S> as LayerBelow>⟧.told below.now) (Some driven.now)) }
+{
+    let taken = below.exchanges().len();
+    summary(alloc, driven.entries.as_slice(), taken)
+}
+
+/// Steps that were driven, and the recorder that they were driven over.
+struct Run<S> {
     driven: Driven,
+    below: Recorder<S>,
+}
+
+/// Drives the steps through a session over the recorder.
+fn run_steps<S: LayerBelow, G: IdSource>(
+    alloc: Global,
+    steps: Steps,
+    ids: &mut G,
+    below: Recorder<S>,
+) -> Run<S>
+    requires fresh { IsFresh (is_unused below) (⟦<Recorder<S> as LayerBelow>⟧.told below) }
+    ensures record { IsRun (G.next ids.old) steps (⟦<Recorder<S> as LayerBelow>⟧.told result.below) result.driven }
+    ensures rose { RunRose (⟦<Recorder<S> as LayerBelow>⟧.told below).refusals (⟦<Recorder<S> as LayerBelow>⟧.told result.below).refusals result.driven.entries result.driven.stop }
+    ensures fixed { (⟦<Recorder<S> as LayerBelow>⟧.told result.below).fixed ≡ (⟦<Recorder<S> as LayerBelow>⟧.told below).fixed }
+{
+    let mut session = TxnSession::new(alloc, below);
+    let driven = drive(&mut session, steps, ids);
+    Run {
+        driven,
+        below: session.into_below(),
+    }
+}
+
+/// The end of a run: its text, where there was memory for it, with the status of its stop.
+fn finished<S: LayerBelow>(
+    driven: Driven,
+    text: Result<Text, NoMemory>,
     below: Recorder<S>,
     output: &mut SureSink,
 ) -> Ran<S>
     ensures status { (result.status ≡ 6) ⊎ (result.status ≡ stop_status driven.stop) }
     ensures driven { result.driven ≡ Some driven }
     ensures below { result.below ≡ below }
-    ensures written { output.new.octets ≡ output.old.octets ++ text_by result.status (report_text (⟦<Recorder<S> as LayerBelow>⟧.told below) (Some driven)) }
+    ensures written { IfOk text (λ text. output.new.octets ≡ output.old.octets ++ text_by result.status text) }
+    ensures none { OnErr text ((result.status ≡ 6) × (output.new ≡ output.old)) }
     ensures entries { result.entries ≡ None }
 {
     let status = status_of_stop(&driven.stop);
-    let Ok(text) = report(alloc, &driven, below.exchanges()) else {
+    let Ok(text) = text else {
         return out_of_memory(Some(driven), below);
     };
     answered(

@@ -239,7 +239,7 @@ fn connection_stop_line(words: Option<&[u8]>) -> Result<Step, Unread>
 }
 
 /// The attach of a link of which a line names name, handle, role and target.
-fn attach_of(
+pub(crate) fn attach_of(
     alloc: Global,
     name: &str,
     handle: u32,
@@ -316,7 +316,7 @@ fn flow_of(link: Option<(u32, u32)>) -> Flow
 }
 
 /// The transfer of a delivery.
-fn transfer_of(
+pub(crate) fn transfer_of(
     alloc: Global,
     delivery: Delivery,
     state: Option<DeliveryState>,
@@ -373,7 +373,7 @@ fn disposition_of(deliveries: Deliveries, state: Option<DeliveryState>) -> Dispo
 }
 
 /// The state of a delivery under a transaction.
-fn under(txn_id: TransactionId, outcome: Option<Outcome>) -> Option<DeliveryState>
+pub(crate) fn under(txn_id: TransactionId, outcome: Option<Outcome>) -> Option<DeliveryState>
     ensures { result ≡ under txn_id outcome }
 {
     Some(DeliveryState::TransactionalState(TransactionalState { txn_id, outcome }))
