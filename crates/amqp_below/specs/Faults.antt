@@ -7,3 +7,8 @@ use Rattle.amqp_below.specs.declared.inner_error.SessionInnerError.TheVariants a
 abbrev pub is_no_memory : SessionInnerError → Bool
 is_no_memory faults.NoMemory = true
 is_no_memory _ = false
+
+-- the error is that a handle isn't attached
+abbrev pub is_unattached : SessionInnerError → Bool
+is_unattached faults.UnattachedHandle = true
+is_unattached _ = false

@@ -5,3 +5,11 @@ pub mod Told
 pub mod Recording
 pub mod Streams
 pub mod Sinks
+pub mod Links
+pub mod Agreement
+pub mod Transacting
+pub mod SessionStates
+pub mod Sessions
+pub mod Plain
+pub mod Numbers
+pub mod PlainSessions

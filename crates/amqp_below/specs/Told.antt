@@ -83,6 +83,6 @@ pub record Steady (old new : Told) : Type 0 where
   pub later : old.refusals ≤ new.refusals
 
 -- a call that adds to no list
-pub record Checks {T : Type 0} (old new : Told) (result : Result T SessionInnerError) : Type 0 where
+pub record Checks {T E : Type 0} (old new : Told) (result : Result T E) : Type 0 where
   pub steady : Steady old new
   pub cause : OnErr result (Rose old.refusals new.refusals)

@@ -1,7 +1,7 @@
 //! Why a layer below refuses.
 
 ghost use Rattle.std.specs.Prelude.{◌≡◌};
-ghost use Rattle.amqp_below.specs.Faults.{is_no_memory};
+ghost use Rattle.amqp_below.specs.Faults.{is_no_memory, is_unattached};
 
 use amqp_txn_types::{ConnectionStopReason, Error, NoMemory, TryClone};
 use thiserror::Error as ThisError;
@@ -47,6 +47,13 @@ impl SessionInnerError {
         ensures { result ≡ is_no_memory self.now }
     {
         matches!(self, SessionInnerError::NoMemory)
+    }
+
+    /// Whether it is that a handle isn't attached.
+    pub fn is_unattached(&self) -> bool
+        ensures { result ≡ is_unattached self.now }
+    {
+        matches!(self, SessionInnerError::UnattachedHandle)
     }
 }
 
