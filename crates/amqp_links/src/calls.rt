@@ -1,0 +1,58 @@
+//! The fallible calls of a wire.
+
+ghost use Rattle.std.specs.Prelude.{◌≡◌, ◌≤◌, []};
+ghost use Rattle.amqp_links.specs.Calls.{is_failing, begun, faulted};
+
+use amqp_txn_types::Items;
+use std::alloc::Global;
+
+/// Numbers of calls, which count from 1.
+pub type CallNumbers = Items<u64>;
+
+/// The fallible calls of a wire, whichever they are: how many there were, how many failed, and the
+/// numbers of those that are to fail.
+#[derive(Debug, Drop)]
+pub struct Calls {
+    pub(crate) failing: CallNumbers,
+    made: u64,
+    faults: u64,
+}
+
+impl Calls {
+    /// No calls yet, of which none is to fail.
+    pub(crate) fn new(alloc: Global) -> Calls
+        ensures failing { result.failing ≡ [] }
+        ensures made { result.made ≡ 0 }
+        ensures faults { result.faults ≡ 0 }
+    {
+        Calls {
+            failing: CallNumbers::new(alloc),
+            made: 0,
+            faults: 0,
+        }
+    }
+
+    /// Counts a call, and a fault where the call's number is one of those that are to fail. Answers
+    /// whether it is.
+    #[tactic(auto, unfolding(crate::specs::Calls::is_failing))]
+    pub(crate) fn begin(&mut self) -> bool
+        ensures fails { result ≡ is_failing self.old }
+        ensures counted { self.new ≡ begun result self.old }
+        ensures later { self.old.faults ≤ self.new.faults }
+    {
+        self.made = self.made.saturating_add(1);
+        let fails = self.failing.as_slice().contains(&self.made);
+        if fails {
+            self.fault();
+        }
+        fails
+    }
+
+    /// Counts a fault.
+    pub(crate) fn fault(&mut self)
+        ensures counted { self.new ≡ faulted self.old }
+        ensures later { self.old.faults ≤ self.new.faults }
+    {
+        self.faults = self.faults.saturating_add(1);
+    }
+}

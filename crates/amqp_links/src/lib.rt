@@ -1,0 +1,51 @@
+//! The ends of attached links, as traits that everything above is generic over, and plain bodies.
+//!
+//! | trait | is | body here |
+//! |---|---|---|
+//! | [`SenderLink`] | the end that sends messages and hears what became of them | [`WireSender`] |
+//! | [`ReceiverLink`] | the end that receives messages and disposes of them | [`WireReceiver`] |
+//!
+//! A link tells, in contracts, what was put on it, what stands ready to be heard, and a count of its
+//! faults; each call says what it does to them. A wire keeps what was put for its owner to read,
+//! and hears what its owner fills in:
+//!
+//! ```text
+//! let mut wire = WireSender::new(alloc, end);
+//! let Sent::Unsettled(token) = wire.send(sendable, None, false)? else { .. };
+//! wire.answer(token, Ok(Some(DeliveryState::Accepted)));
+//! let Poll::Ready(Ok(state)) = wire.outcome(&token) else { .. };
+//! ```
+//!
+//! Below stand the types of `amqp_txn_types`. The promise that this crate carries: on both wires an
+//! Ok adds exactly its message to what was put and an Err nothing, an answer goes to its own token,
+//! and every Err but the want of memory of a property comes with a fault that is counted. 'The
+//! standard' is OASIS AMQP 1.0.
+#![tactic(auto)]
+
+mod answer_slot;
+mod calls;
+mod delivery;
+mod errors;
+mod messages;
+mod poll;
+mod receiver;
+mod sendable;
+mod sender;
+#[cfg(test)]
+mod tests;
+mod wire_receiver;
+mod wire_sender;
+
+pub use calls::CallNumbers;
+pub use delivery::{Delivery, DeliveryInfo};
+pub use errors::{
+    DetachError, DispositionError, FlowError, IllegalLinkStateError, LinkStateError,
+    MessageSizeExceeded, RecvError, SendError,
+};
+pub use messages::{Closes, ReceiverMessage, ReceiverMessages, SentMessage, SentMessages};
+pub use poll::Poll;
+pub use receiver::ReceiverLink;
+pub use sendable::{Sendable, Sent};
+pub use sender::{Answer, SenderLink};
+pub use wire_receiver::WireReceiver;
+pub use wire_sender::WireSender;

@@ -1,0 +1,41 @@
+//! The end of a link that sends.
+
+use crate::errors::{DetachError, LinkStateError, SendError};
+use crate::poll::Poll;
+use crate::sendable::{Sendable, Sent};
+use amqp_txn_types::{DeliveryState, Error, Token};
+
+/// What the peer answered to an unsettled send: the state of the delivery, where it says one, or
+/// that the answer was lost with the link.
+pub type Answer = Result<Option<DeliveryState>, LinkStateError>;
+
+/// The end of an attached link that sends messages. Part 2 of the standard, section 2.6 (links).
+///
+/// Only an Ok of `send` adds to what was put. Every Err counts as a fault: it comes only where the
+/// count of faults rose in the call, or stands at its last value, 2^64 - 1.
+pub trait SenderLink {
+    ghost use Rattle.amqp_links.specs.Sending.{SenderTold, Sends, Looks, Closes};
+
+    /// What the link tells: what was put, which answers stand ready, and how often it failed.
+    ghost told: { Self → SenderTold };
+
+    /// Sends a message, with the state that its transfer says.
+    ///
+    /// It is sent settled exactly where the sendable's `settled` is `Some(true)`. Else its token is
+    /// the number of the messages that were sent unsettled before it.
+    fn send(
+        &mut self,
+        sendable: Sendable,
+        state: Option<DeliveryState>,
+        batchable: bool,
+    ) -> Result<Sent, SendError>
+        ensures { Sends (told self.old) (told self.new) sendable state batchable result };
+
+    /// Looks for the answer to an unsettled send. It is `Pending` exactly where none stands ready.
+    fn outcome(&mut self, token: &Token) -> Poll<Result<Option<DeliveryState>, LinkStateError>>
+        ensures { Looks (told self.old) (told self.new) token.now result };
+
+    /// Closes the link, with an error where there is one. Section 2.6.6 (closing a link).
+    fn close(&mut self, error: Option<Error>) -> Result<(), DetachError>
+        ensures { Closes (told self.old) (told self.new) result };
+}
