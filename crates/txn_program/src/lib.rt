@@ -24,7 +24,11 @@ mod cutting;
 mod frame_text;
 mod line_words;
 mod lines;
+#[cfg(test)]
+mod long_run_tests;
 mod making;
+#[cfg(test)]
+mod refusing_tests;
 mod report_words;
 mod reporting;
 #[cfg(test)]
@@ -38,6 +42,8 @@ mod summing;
 mod tests;
 mod unread;
 mod words;
+#[cfg(test)]
+mod worked_tests;
 
 pub use commands::{run, run_commands};
 pub use lines::{SpellError, spells};
