@@ -1,65 +1,65 @@
 #!/usr/bin/env bash
 # Makes each allocation of a run fail in turn, and counts how the runs end.
-# Words: a file of step lines, and the ids that its declares draw. Each run takes about half a minute
-# of a processor; JOBS of them go side by side, 4 where the environment has no JOBS.
+# Words: a file of step lines, and the words of the program, as in
+#   scripts/want_of_memory.sh examples/one-commit.steps run 00000000000000000000000000000001
 # A run may end with status 6 and nothing written, with status 8 and the stop below-no-memory, or with
 # a report in which an attach is refused as below-no-memory. Any other end is a failure.
+# Needs gcc, and the built program: one run of txn_program builds it.
 top=$(cd "$(dirname "$(readlink -f "$0")")/.." && pwd) || exit 1
-[ $# -ge 2 ] || { echo "usage: want_of_memory.sh FILE ID.." >&2; exit 2; }
-file=$(readlink -f "$1") || exit 1
+[ $# -ge 2 ] || { echo "usage: want_of_memory.sh FILE WORD.." >&2; exit 2; }
+file=$1
 shift
-ids=("$@")
-jobs=${JOBS:-4}
-ends=$(mktemp -d) || exit 1
-trap 'rm -r "$ends"' EXIT
-cd "$top/crates/txn_main" || exit 1
+program=${PROGRAM:-$top/crates/txn_main/out/txn_main}
+[ -x "$program" ] || { echo "run $top/txn_program make 1 first: it builds the program" >&2; exit 1; }
+work=$(mktemp -d) || exit 1
+trap 'rm -r "$work"' EXIT
 
-# run_to END FLAG..: runs the program, with its text and status under the name END.
-run_to() {
-  local end=$ends/$1
-  shift
-  rt try "$@" -- run "${ids[@]}" <"$file" >"$end.text" 2>"$end.told"
-  sed -n 's/.*run=ended status=\([0-9]*\).*/\1/p' "$end.told" >"$end.status"
+# An allocator whose call number FAIL_AT finds no memory.
+cat >"$work/failing.c" <<'END'
+#define _GNU_SOURCE
+#include <dlfcn.h>
+#include <stdlib.h>
+void *malloc(size_t size) {
+  static void *(*next)(size_t);
+  static long calls, failing;
+  if (!next) {
+    const char *number = getenv("FAIL_AT");
+    next = (void *(*)(size_t))dlsym(RTLD_NEXT, "malloc");
+    failing = number ? atol(number) : 0;
+  }
+  return ++calls == failing ? NULL : next(size);
+}
+END
+gcc -O1 -shared -fPIC -o "$work/failing.so" "$work/failing.c" -ldl || exit 1
+
+# The text of the run in which that allocation fails, and its status.
+run_with() {
+  FAIL_AT=$1 LD_PRELOAD=$work/failing.so "$program" "${words[@]}" <"$file" 2>/dev/null
+  echo "status $?"
 }
 
-# The kind of the end of that name.
-kind_of() {
-  local text=$ends/$1.text status
-  status=$(cat "$ends/$1.status")
-  if cmp -s "$text" "$ends/whole.text" && cmp -s "$ends/$1.status" "$ends/whole.status"; then
-    echo whole
-  elif [ "$status" = 6 ] && [ ! -s "$text" ]; then
-    echo nothing-written
-  elif [ "$status" = 8 ] && grep -qx 'stop below-no-memory' "$text"; then
-    echo below
-  elif grep -qx 'attach-refused below-no-memory' "$text"; then
-    echo attach-refused
-  else
-    echo other
+words=("$@")
+whole=$(run_with 0)
+declare -A count=([nothing-written]=0 [below]=0 [attach-refused]=0 [other]=0)
+same=0
+# It is over once eight runs one after another were as the run in which nothing fails.
+for ((number = 1; same < 8; number++)); do
+  end=$(run_with "$number")
+  if [ "$end" = "$whole" ]; then
+    same=$((same + 1))
+    continue
   fi
-}
-
-run_to whole
-[ -s "$ends/whole.status" ] || { cat "$ends/whole.told" >&2; exit 1; }
-declare -A count=([whole]=0 [nothing-written]=0 [below]=0 [attach-refused]=0 [other]=0)
-first=1
-# It is over once as many runs as go side by side were as a run in which no allocation fails.
-while [ "${count[whole]}" -lt "$jobs" ]; do
-  for ((n = first; n < first + jobs; n++)); do
-    run_to "$n" --fail-alloc "$n" &
-  done
-  wait
-  for ((n = first; n < first + jobs; n++)); do
-    kind=$(kind_of "$n")
-    count[$kind]=$((count[$kind] + 1))
-    if [ "$kind" = other ]; then
-      echo "allocation $n: status $(cat "$ends/$n.status")"
-      cat "$ends/$n.text"
-    fi
-  done
-  first=$((first + jobs))
+  same=0
+  case $end in
+    "status 6") kind=nothing-written ;;
+    *"stop below-no-memory"*"status 8") kind=below ;;
+    *"attach-refused below-no-memory"*) kind=attach-refused ;;
+    *) kind=other; printf 'allocation %s:\n%s\n' "$number" "$end" ;;
+  esac
+  count[$kind]=$((count[$kind] + 1))
 done
 
+echo "allocations: $((number - 1 - same))"
 echo "status 6, nothing written: ${count[nothing-written]}"
 echo "status 8, stop below-no-memory: ${count[below]}"
 echo "a report with attach-refused below-no-memory: ${count[attach-refused]}"
