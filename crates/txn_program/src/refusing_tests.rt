@@ -1,7 +1,9 @@
 //! Runs that are refused below or ended, and made runs.
 
 use crate::run_tests::{A, B, assert_run, ran};
-use amqp_below::SureSink;
+use crate::{run_commands, status};
+use amqp_below::{PlainSession, Recorder, SureSink, SureSource};
+use amqp_txn_types::{Begin, Binary, Handle, Items, OutgoingChannel, SessionState, Text};
 use std::alloc::{Alloc, Global};
 use std::process::Abort;
 use std::test::Fail;
@@ -218,5 +220,49 @@ fn twenty_thousand_made_transactions_are_summed_up(rt: HostRuntime) -> Result<()
     assert!(rt;
         sink.as_slice() == "steps 100001\ncommits 13334\nrollbacks 6666\ntaken 40002\n".as_bytes()
     );
+    Ok(())
+}
+
+/// A session with no link, of which every handle may be used.
+fn plain_session(alloc: Global) -> PlainSession {
+    let begin = Begin {
+        remote_channel: None,
+        next_outgoing_id: 0,
+        incoming_window: 2048,
+        outgoing_window: 2048,
+        handle_max: Handle(u32::MAX),
+        offered_capabilities: None,
+        desired_capabilities: None,
+        properties: None,
+    };
+    PlainSession::new(alloc, OutgoingChannel(0), SessionState::Mapped, begin)
+}
+
+/// The status of a run over a plain session.
+fn plain_status(alloc: Global, words: &[Text], source: &mut SureSource, sink: &mut SureSink) -> u8 {
+    let below = Recorder::new(alloc, plain_session(alloc));
+    if !below.is_fresh() {
+        drop(below);
+        return status::USAGE;
+    }
+    let ran = run_commands(alloc, words, below, source, sink);
+    let ended = ran.status;
+    drop(ran);
+    ended
+}
+
+#[test]
+fn a_plain_session_refuses_an_unattached_handle(rt: HostRuntime) -> Result<(), Fail> {
+    let alloc = rt.alloc();
+    let mut words = Items::new(alloc);
+    words.push(Text::from_str(alloc, "run")?)?;
+    words.push(Text::from_str(alloc, A)?)?;
+    let lines = "attach c 0\nflow -\ntransfer 4 7 true 61\n";
+    let mut source = SureSource::new(Binary::from_slice(alloc, lines.as_bytes())?);
+    let mut sink = SureSink::new(alloc);
+    let status = plain_status(alloc, words.as_slice(), &mut source, &mut sink);
+    assert_eq!(rt; status, 1);
+    let text = "attached 0\nok\nstop unattached-handle\nhanded 0\ntaken flow - -\n";
+    assert!(rt; sink.as_slice() == text.as_bytes());
     Ok(())
 }
