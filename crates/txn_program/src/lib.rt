@@ -19,6 +19,8 @@
 //! input spells, written as its report, and the layer below has taken exactly the work of that run.
 #![tactic(auto)]
 
+#[cfg(test)]
+mod changed_tests;
 mod commands;
 mod cutting;
 mod frame_text;
