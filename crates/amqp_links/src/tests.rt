@@ -2,8 +2,8 @@
 
 use crate::*;
 use amqp_txn_types::{
-    AmqpError, Binary, DeliveryState, Error, ErrorCondition, LinkEnd, OutputHandle, Payload,
-    ReceiverSettleMode, Role, SenderSettleMode, Text, Token, TryClone,
+    AmqpError, Binary, DeliveryState, Error, ErrorCondition, Fields, LinkEnd, OutputHandle,
+    Payload, ReceiverSettleMode, Role, SenderSettleMode, Symbol, Text, Token, TryClone, Value,
 };
 use std::alloc::Global;
 use std::test::Fail;
@@ -59,6 +59,40 @@ fn finds<L: SenderLink>(link: &mut L, token: Token, want: Poll<Answer>) -> bool 
     same(link.outcome(&token), want)
 }
 
+/// Whether the next look for a delivery finds that.
+fn receives<L: ReceiverLink>(link: &mut L, want: Poll<Result<Delivery, RecvError>>) -> bool {
+    same(link.recv(), want)
+}
+
+/// Whether a disposition of that state is put.
+fn disposes<L: ReceiverLink>(link: &mut L, info: &DeliveryInfo, state: DeliveryState) -> bool {
+    same(link.dispose(info, Some(true), state), Ok(()))
+}
+
+/// Whether a flow with that credit is put.
+fn flows<L: ReceiverLink>(link: &mut L, credit: u32, include_properties: bool) -> bool {
+    same(
+        link.send_flow(Some(credit), None, true, include_properties),
+        Ok(()),
+    )
+}
+
+/// Puts the value under the key.
+fn insert<L: ReceiverLink>(
+    link: &mut L,
+    alloc: Global,
+    key: &str,
+    value: Value,
+) -> Result<(), Fail> {
+    match Symbol::from_str(alloc, key) {
+        Ok(key) => Ok(link.insert_property(key, value)?),
+        Err(error) => {
+            drop(value);
+            Err(Fail::from(error))
+        }
+    }
+}
+
 fn delivery(alloc: Global, delivery_id: u32) -> Result<Delivery, Fail> {
     Ok(Delivery {
         info: DeliveryInfo {
@@ -90,16 +124,42 @@ fn numbers(alloc: Global, listed: &[u64]) -> Result<CallNumbers, Fail> {
 fn an_answer_is_given_once(rt: HostRuntime) -> Result<(), Fail> {
     let alloc = rt.alloc();
     let mut wire = sender(alloc)?;
-    let sent = wire.send(sendable(alloc, b"a", None)?, None, false)?;
     let token = Token(0);
-    assert_eq!(rt; sent, Sent::Unsettled(token));
-    assert!(rt; same(wire.outcome(&token), Poll::Pending));
+    assert_eq!(rt; send(&mut wire, alloc, None)?, Sent::Unsettled(token));
+    assert!(rt; finds(&mut wire, token, Poll::Pending));
     assert!(rt; wire.answer(token, Ok(Some(DeliveryState::Accepted))));
-    assert!(rt; !wire.answer(token, Ok(Some(DeliveryState::Released))));
-    let accepted = Poll::Ready(Ok(Some(DeliveryState::Accepted)));
-    assert!(rt; same(wire.outcome(&token), accepted));
-    assert!(rt; same(wire.outcome(&token), Poll::Pending));
     assert!(rt; !wire.answer(token, Ok(None)));
+    let accepted = Poll::Ready(Ok(Some(DeliveryState::Accepted)));
+    assert!(rt; finds(&mut wire, token, accepted));
+    assert!(rt; finds(&mut wire, token, Poll::Pending));
+    assert!(rt; !wire.answer(token, Ok(None)));
+    Ok(())
+}
+
+fn message(alloc: Global, settled: Option<bool>, sent: Sent) -> Result<SentMessage, Fail> {
+    Ok(SentMessage {
+        sendable: sendable(alloc, b"a", settled)?,
+        state: None,
+        batchable: true,
+        sent,
+    })
+}
+
+#[test]
+fn what_was_sent_is_put(rt: HostRuntime) -> Result<(), Fail> {
+    let alloc = rt.alloc();
+    let mut wire = sender(alloc)?;
+    assert_eq!(rt; send(&mut wire, alloc, None)?, Sent::Unsettled(Token(0)));
+    assert_eq!(rt; send(&mut wire, alloc, Some(true))?, Sent::Settled);
+    assert_eq!(rt;
+        send(&mut wire, alloc, Some(false))?,
+        Sent::Unsettled(Token(1))
+    );
+    let mut want = SentMessages::new(alloc);
+    want.push(message(alloc, None, Sent::Unsettled(Token(0)))?)?;
+    want.push(message(alloc, Some(true), Sent::Settled)?)?;
+    want.push(message(alloc, Some(false), Sent::Unsettled(Token(1)))?)?;
+    assert!(rt; *wire.put() == want);
     Ok(())
 }
 
@@ -107,15 +167,20 @@ fn an_answer_is_given_once(rt: HostRuntime) -> Result<(), Fail> {
 fn an_answer_goes_to_its_token(rt: HostRuntime) -> Result<(), Fail> {
     let alloc = rt.alloc();
     let mut wire = sender(alloc)?;
-    wire.send(sendable(alloc, b"a", None)?, None, false)?;
-    wire.send(sendable(alloc, b"b", None)?, None, false)?;
+    send(&mut wire, alloc, None)?;
+    send(&mut wire, alloc, None)?;
     assert!(rt; !wire.answer(Token(2), Ok(None)));
     assert!(rt; wire.answer(Token(1), Err(LinkStateError::RemoteClosed)));
-    assert!(rt; same(wire.outcome(&Token(0)), Poll::Pending));
-    let lost = Poll::Ready(Err(LinkStateError::RemoteClosed));
-    assert!(rt; same(wire.outcome(&Token(1)), lost));
+    assert!(rt; finds(&mut wire, Token(0), Poll::Pending));
+    assert!(rt;
+        finds(
+            &mut wire,
+            Token(1),
+            Poll::Ready(Err(LinkStateError::RemoteClosed))
+        )
+    );
     assert!(rt; wire.answer(Token(0), Ok(None)));
-    assert!(rt; same(wire.outcome(&Token(0)), Poll::Ready(Ok(None))));
+    assert!(rt; finds(&mut wire, Token(0), Poll::Ready(Ok(None))));
     Ok(())
 }
 
@@ -144,19 +209,6 @@ fn listed_calls_of_a_sender_fail(rt: HostRuntime) -> Result<(), Fail> {
 }
 
 #[test]
-fn listed_looks_fail(rt: HostRuntime) -> Result<(), Fail> {
-    let alloc = rt.alloc();
-    let mut wire = sender(alloc)?;
-    wire.set_failing(numbers(alloc, &[2])?);
-    wire.send(sendable(alloc, b"a", None)?, None, false)?;
-    assert!(rt; wire.answer(Token(0), Ok(None)));
-    let failed = Poll::Ready(Err(LinkStateError::IllegalState));
-    assert!(rt; same(wire.outcome(&Token(0)), failed));
-    assert!(rt; same(wire.outcome(&Token(0)), Poll::Ready(Ok(None))));
-    Ok(())
-}
-
-#[test]
 fn a_close_keeps_its_error(rt: HostRuntime) -> Result<(), Fail> {
     let alloc = rt.alloc();
     let mut wire = sender(alloc)?;
@@ -171,17 +223,110 @@ fn a_close_keeps_its_error(rt: HostRuntime) -> Result<(), Fail> {
 }
 
 #[test]
+fn dispositions_are_put(rt: HostRuntime) -> Result<(), Fail> {
+    let alloc = rt.alloc();
+    let mut wire = receiver(alloc)?;
+    let disposed = delivery(alloc, 4)?;
+    assert!(rt; disposes(&mut wire, &disposed.info, DeliveryState::Released));
+    let info = disposed.info.try_clone()?;
+    let mut want = ReceiverMessages::new(alloc);
+    want.push(ReceiverMessage::Disposition {
+        delivery: info,
+        settled: Some(true),
+        state: DeliveryState::Released,
+    })?;
+    assert!(rt; *wire.put() == want);
+    assert!(rt; *wire.end() == end(alloc, Role::Receiver)?);
+    Ok(())
+}
+
+/// The property `a`, null.
+fn property(alloc: Global) -> Result<Fields, Fail> {
+    let mut fields = Fields::new(alloc);
+    fields.insert(Symbol::from_str(alloc, "a")?, Value::Null)?;
+    Ok(fields)
+}
+
+fn flow(credit: u32, properties: Option<Fields>) -> ReceiverMessage {
+    ReceiverMessage::Flow {
+        credit: Some(credit),
+        drain: None,
+        echo: true,
+        properties,
+    }
+}
+
+#[test]
+fn flows_are_put(rt: HostRuntime) -> Result<(), Fail> {
+    let alloc = rt.alloc();
+    let mut wire = receiver(alloc)?;
+    assert!(rt; flows(&mut wire, 5, true));
+    insert(&mut wire, alloc, "a", Value::Null)?;
+    assert!(rt; flows(&mut wire, 6, true));
+    assert!(rt; flows(&mut wire, 7, false));
+    let mut want = ReceiverMessages::new(alloc);
+    want.push(flow(5, None))?;
+    let properties = property(alloc)?;
+    want.push(flow(6, Some(properties)))?;
+    want.push(flow(7, None))?;
+    assert!(rt; *wire.put() == want);
+    Ok(())
+}
+
+#[test]
 fn deliveries_come_in_order(rt: HostRuntime) -> Result<(), Fail> {
     let alloc = rt.alloc();
     let mut wire = receiver(alloc)?;
-    assert!(rt; same(wire.recv(), Poll::Pending));
+    assert!(rt; receives(&mut wire, Poll::Pending));
     wire.deliver(delivery(alloc, 1)?)?;
     wire.deliver(delivery(alloc, 2)?)?;
     let first = delivery(alloc, 1)?;
     let second = delivery(alloc, 2)?.try_clone()?;
-    assert!(rt; same(wire.recv(), Poll::Ready(Ok(first))));
-    assert!(rt; same(wire.recv(), Poll::Ready(Ok(second))));
-    assert!(rt; same(wire.recv(), Poll::Pending));
+    assert!(rt; receives(&mut wire, Poll::Ready(Ok(first))));
+    assert!(rt; receives(&mut wire, Poll::Ready(Ok(second))));
+    assert!(rt; receives(&mut wire, Poll::Pending));
+    Ok(())
+}
+
+fn failed_receive() -> Poll<Result<Delivery, RecvError>> {
+    Poll::Ready(Err(RecvError::LinkStateError(LinkStateError::IllegalState)))
+}
+
+#[test]
+fn listed_calls_of_a_receiver_fail(rt: HostRuntime) -> Result<(), Fail> {
+    let alloc = rt.alloc();
+    let mut wire = receiver(alloc)?;
+    wire.set_failing(numbers(alloc, &[1, 2, 3])?);
+    let disposed = delivery(alloc, 4)?;
+    assert!(rt; !disposes(&mut wire, &disposed.info, DeliveryState::Accepted));
+    assert!(rt; receives(&mut wire, failed_receive()));
+    assert!(rt; !flows(&mut wire, 5, false));
+    assert_eq!(rt; wire.put().len(), 0);
+    wire.set_credit(7)?;
+    assert_eq!(rt; wire.credit(), 7);
+    Ok(())
+}
+
+/// Whether the link has these properties.
+fn has<L: ReceiverLink>(link: &L, want: &Fields) -> bool {
+    match link.properties() {
+        Some(properties) => *properties == *want,
+        None => false,
+    }
+}
+
+#[test]
+fn properties_change_by_their_two_calls(rt: HostRuntime) -> Result<(), Fail> {
+    let alloc = rt.alloc();
+    let mut wire = receiver(alloc)?;
+    assert!(rt; wire.properties().is_none());
+    insert(&mut wire, alloc, "a", Value::Uint(1))?;
+    insert(&mut wire, alloc, "b", Value::Uint(2))?;
+    insert(&mut wire, alloc, "a", Value::Null)?;
+    let gone = Symbol::from_str(alloc, "b")?;
+    wire.remove_property(&gone);
+    let want = property(alloc)?;
+    assert!(rt; has(&wire, &want));
     Ok(())
 }
 
