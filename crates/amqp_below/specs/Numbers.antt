@@ -10,6 +10,17 @@ abbrev pub following : Option ℕ → Option ℕ
 following None = None
 following (Some id) = Some ((id + 1) % 2 ^ 32)
 
+-- the numbers of a session that begins so: its first transfer has the id that its begin says, its first delivery the number 0, and the peer told nothing
+abbrev pub at_first : Begin → SessionNumbers
+at_first begin = record {
+  first_outgoing_id = begin.next_outgoing_id;
+  next_outgoing_id = begin.next_outgoing_id;
+  next_incoming_id = None;
+  peer_incoming_window = 0;
+  peer_outgoing_window = 0;
+  next_delivery_id = 0;
+}
+
 -- the numbers after the peer's begin
 abbrev pub after_begin : SessionNumbers → Begin → SessionNumbers
 after_begin numbers begin = record numbers {

@@ -1,7 +1,7 @@
 //! The numbers of a session: the ids and windows of its transfers.
 
 ghost use Rattle.std.specs.Prelude.{◌≡◌, ◌+◌, ◌%◌, ◌^◌};
-ghost use Rattle.amqp_below.specs.Numbers.{after_begin, after_flow, counted_in, counted_out, flow_with, following, window_flow};
+ghost use Rattle.amqp_below.specs.Numbers.{at_first, after_begin, after_flow, counted_in, counted_out, flow_with, following, window_flow};
 
 use amqp_txn_types::{Begin, Flow, Handle, LinkFlow};
 
@@ -24,8 +24,10 @@ pub struct SessionNumbers {
 }
 
 impl SessionNumbers {
-    /// Those of a session that begins so.
-    pub fn new(begin: &Begin) -> SessionNumbers {
+    /// Those of a session that begins so: nothing was sent, and the peer told nothing.
+    pub fn new(begin: &Begin) -> SessionNumbers
+        ensures { result ≡ at_first begin.now }
+    {
         SessionNumbers {
             first_outgoing_id: begin.next_outgoing_id,
             next_outgoing_id: begin.next_outgoing_id,

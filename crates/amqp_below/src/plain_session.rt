@@ -5,7 +5,7 @@ ghost use Rattle.amqp_txn_types.specs.declared.performatives.Frame.TheVariants a
 ghost use Rattle.amqp_below.specs.declared.relay.NameState.TheVariants.{Taken};
 ghost use Rattle.amqp_below.specs.Told.{Checks, Opens, Takes};
 ghost use Rattle.amqp_below.specs.Links.{Sets, attached, link_mapped, name_state_of, output_mapped, output_named, with_transfer};
-ghost use Rattle.amqp_below.specs.Numbers.{window_flow};
+ghost use Rattle.amqp_below.specs.Numbers.{at_first, window_flow};
 ghost use Rattle.amqp_below.specs.Plain.{Changes, Detaches, FlowsTo, RefusedBy, RefusedOnlyBy, attach_fault, control_fault, control_link, flow_fault, handle_fault, input_of, is_due, mapped_fault, place_mapped_fault, transfer_fault};
 ghost use Rattle.amqp_below.specs.PlainSessions.{ChangesLinks, ChangesNothing, Flowed, GivesNone, Transferred};
 
@@ -59,6 +59,7 @@ impl PlainSession {
         ensures channel { result.channel ≡ channel }
         ensures incoming { result.incoming ≡ None }
         ensures begin { result.begin ≡ begin }
+        ensures numbers { result.numbers ≡ at_first begin }
         ensures slots { result.links.slots ≡ [] }
         ensures next { result.links.next ≡ 0 }
         ensures counted { result.counted ≡ 0 }

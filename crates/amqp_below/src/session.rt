@@ -69,7 +69,7 @@ pub trait Session: LayerBelow {
     fn name_state(&self, name: &Text) -> NameState
         ensures { result ≡ names self.now name.now };
 
-    /// Gives a link an output handle, before the peer attaches it (section 2.6.1).
+    /// Gives a link an output handle, before the peer attaches it (section 2.6.2).
     fn allocate_link(&mut self, name: Text, relay: Relay) -> Result<OutputHandle, AllocLinkError>
         ensures { AllocatesLink (Self.told self.old) (Self.told self.new) (kept self.old) (kept self.new) (names self.new name) Waiting result };
 

@@ -37,7 +37,7 @@ pub enum CommitFault {
     },
 }
 
-/// A session that allocates transaction ids. Part 4 of the standard, section 4.3 (declaring).
+/// A session that allocates transaction ids. Part 4 of the standard, section 4.2 (declaring).
 ///
 /// Every Err counts as a refusal: it comes only where the count of refusals rose in the call, or
 /// stands at its last value, 2^64 - 1. In a session it is the session's count.
