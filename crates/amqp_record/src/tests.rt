@@ -3,14 +3,14 @@
 use crate::*;
 use amqp_below::{Answers, Drawn};
 use amqp_txn_types::{
-    AmqpError, Attach, Coordinator, Detach, Frame, Frames, Handle, Payload, ReceiverSettleMode,
-    Role, SenderSettleMode, TargetArchetype, Text, TransactionId, TryClone,
+    AmqpError, Attach, Coordinator, Detach, Frame, Frames, Handle, NoMemory, Payload,
+    ReceiverSettleMode, Role, SenderSettleMode, TargetArchetype, Text, TransactionId, TryClone,
 };
 use std::alloc::Global;
 use std::process::Abort;
 use std::test::Fail;
 
-fn control_attach(alloc: Global) -> Result<Frame, Fail> {
+fn control_attach(alloc: Global) -> Result<Frame, NoMemory> {
     Ok(Frame::Attach(Attach {
         name: Text::from_str(alloc, "c")?,
         handle: Handle(0),
@@ -35,16 +35,13 @@ fn entry(alloc: Global, step: Step, reply: Reply) -> Entry {
     }
 }
 
-fn attached(alloc: Global, link: u64) -> Result<Entry, Fail> {
+fn attached(alloc: Global, link: u64) -> Result<Entry, NoMemory> {
+    let frame = control_attach(alloc)?;
     let frames = Frames::new(alloc);
-    Ok(entry(
-        alloc,
-        Step::Frame(control_attach(alloc)?),
-        Reply::Attached { link, frames },
-    ))
+    Ok(entry(alloc, Step::Frame(frame), Reply::Attached { link, frames }))
 }
 
-fn closed(alloc: Global, link: u64) -> Result<Entry, Fail> {
+fn closed(alloc: Global, link: u64) -> Result<Entry, NoMemory> {
     let payload = Payload::from_slice(alloc, b"no message")?;
     let reply = Reply::LinkClosed(AmqpError::NotAllowed);
     Ok(entry(alloc, Step::Control { link, payload }, reply))
@@ -67,46 +64,110 @@ fn plain(alloc: Global) -> Entry {
     )
 }
 
-fn add(entries: &mut Entries, entry: Entry) -> Result<(), Fail> {
+fn add(entries: &mut Entries, entry: Entry) -> Result<(), NoMemory> {
     match entries.push(entry) {
         Ok(()) => Ok(()),
-        Err((_, error)) => Err(error.into()),
+        Err((unkept, error)) => {
+            drop(unkept);
+            Err(error)
+        }
     }
 }
 
+fn add_attached(alloc: Global, entries: &mut Entries, link: u64) -> Result<(), NoMemory> {
+    let entry = attached(alloc, link)?;
+    add(entries, entry)
+}
+
+fn add_closed(alloc: Global, entries: &mut Entries, link: u64) -> Result<(), NoMemory> {
+    let entry = closed(alloc, link)?;
+    add(entries, entry)
+}
+
 /// Link 0 is attached, a plain frame is taken, link 0 is closed, and link 1 is attached.
-fn record(alloc: Global) -> Result<Entries, Fail> {
-    let mut entries = Entries::new(alloc);
-    add(&mut entries, attached(alloc, 0)?)?;
-    add(&mut entries, plain(alloc))?;
-    add(&mut entries, closed(alloc, 0)?)?;
-    add(&mut entries, attached(alloc, 1)?)?;
-    Ok(entries)
+fn add_all(alloc: Global, entries: &mut Entries) -> Result<(), NoMemory> {
+    add_attached(alloc, entries, 0)?;
+    add(entries, plain(alloc))?;
+    add_closed(alloc, entries, 0)?;
+    add_attached(alloc, entries, 1)
+}
+
+/// Whether the entries are legal, link 0 is open after them, link 1 is, and an id is live.
+fn facts_of(entries: &[Entry]) -> [bool; 4] {
+    let id = TransactionId::from([1; 16]);
+    [
+        is_legal(entries),
+        is_open(entries, 0),
+        is_open(entries, 1),
+        is_live(entries, &id),
+    ]
+}
+
+fn work_count(alloc: Global, entries: &[Entry]) -> Result<usize, NoMemory> {
+    let frames = work(alloc, entries)?;
+    let count = frames.len();
+    drop(frames);
+    Ok(count)
+}
+
+fn hands_count(alloc: Global, step: &Step) -> Result<usize, NoMemory> {
+    let frames = hands(alloc, &[], step)?;
+    let count = frames.len();
+    drop(frames);
+    Ok(count)
+}
+
+fn is_step_copied(step: &Step) -> Result<bool, NoMemory> {
+    let copy = step.try_clone()?;
+    let same = copy == *step;
+    drop(copy);
+    Ok(same)
+}
+
+fn is_reply_copied(reply: &Reply) -> Result<bool, NoMemory> {
+    let copy = reply.try_clone()?;
+    let same = copy == *reply;
+    drop(copy);
+    Ok(same)
 }
 
 #[test]
 fn a_link_that_is_closed_is_not_opened_again(rt: HostRuntime) -> Result<(), Fail> {
-    let entries = record(rt.alloc())?;
-    let entries = entries.as_slice();
-    assert!(rt; is_legal(entries));
-    assert!(rt; !is_open(entries, 0));
-    assert!(rt; is_open(entries, 1));
-    assert!(rt; !is_live(entries, &TransactionId::from([1; 16])));
-    Ok(())
+    let mut entries = Entries::new(rt.alloc());
+    let added = add_all(rt.alloc(), &mut entries);
+    let facts = facts_of(entries.as_slice());
+    drop(entries);
+    assert!(rt; facts == [true, false, true, false]);
+    Ok(added?)
 }
 
 #[test]
 fn the_first_link_has_the_number_0(rt: HostRuntime) -> Result<(), Fail> {
-    let entries = [attached(rt.alloc(), 1)?];
-    assert!(rt; !is_legal(&entries));
-    Ok(())
+    let mut entries = Entries::new(rt.alloc());
+    let added = add_attached(rt.alloc(), &mut entries, 1);
+    let legal = is_legal(entries.as_slice());
+    drop(entries);
+    assert!(rt; !legal);
+    Ok(added?)
 }
 
 #[test]
 fn a_plain_frame_is_handed(rt: HostRuntime) -> Result<(), Fail> {
     let entry = plain(rt.alloc());
-    assert_eq!(rt; hands(rt.alloc(), &[], &entry.step)?.len(), 1);
-    assert_eq!(rt; work(rt.alloc(), record(rt.alloc())?.as_slice())?.len(), 1);
+    let count = hands_count(rt.alloc(), &entry.step);
+    drop(entry);
+    assert_eq!(rt; count?, 1);
+    Ok(())
+}
+
+#[test]
+fn the_work_of_a_record_is_its_plain_frame(rt: HostRuntime) -> Result<(), Fail> {
+    let mut entries = Entries::new(rt.alloc());
+    let added = add_all(rt.alloc(), &mut entries);
+    let count = work_count(rt.alloc(), entries.as_slice());
+    drop(entries);
+    added?;
+    assert_eq!(rt; count?, 1);
     Ok(())
 }
 
@@ -127,10 +188,21 @@ fn a_rejection_has_its_text(rt: HostRuntime) {
 #[test]
 fn steps_and_replies_are_copied(rt: HostRuntime) -> Result<(), Fail> {
     let entry = closed(rt.alloc(), 0)?;
-    assert!(rt; entry.step.try_clone()? == entry.step);
-    assert!(rt; entry.reply.try_clone()? == entry.reply);
+    let step = is_step_copied(&entry.step);
+    let reply = is_reply_copied(&entry.reply);
+    drop(entry);
+    assert!(rt; step?);
+    assert!(rt; reply?);
+    Ok(())
+}
+
+#[test]
+fn a_control_attach_is_not_plain(rt: HostRuntime) -> Result<(), Fail> {
     let frame = control_attach(rt.alloc())?;
-    assert!(rt; !is_plain(&frame));
-    assert!(rt; !is_under(&frame, &TransactionId::from([1; 16])));
+    let plain = is_plain(&frame);
+    let under = is_under(&frame, &TransactionId::from([1; 16]));
+    drop(frame);
+    assert!(rt; !plain);
+    assert!(rt; !under);
     Ok(())
 }
