@@ -56,6 +56,17 @@ own_weaker (Err (errors.Ended reason)) P Q f x = f x
 own_weaker (Err (errors.Stopped code)) P Q f x = f x
 own_weaker (Err errors.NoMemory) P Q f x = f x
 
+on_either : (P : Type 0) (b : Bool) → P → MatchBool b P ⊤
+on_either P true x = x
+on_either P false x = tt
+
+pub own_holds : (result : Result (DrawnIds × Reply) StepError) (P : Type 0) → P → OnOwnError result P
+own_holds (Ok out) P x = tt
+own_holds (Err (errors.Fault error handed)) P x = on_either P (is_unknown error) x
+own_holds (Err (errors.Ended reason)) P x = x
+own_holds (Err (errors.Stopped code)) P x = x
+own_holds (Err errors.NoMemory) P x = x
+
 -- ---- what is so of a reply
 
 pub gave_answer : (h : Held) (old new : Told) (r : List Entry) (s : Step) (result : Result (DrawnIds × Reply) StepError) → StepGave h old new r s result → IfOk result (λ out. Answer r s out.0.ids out.1)

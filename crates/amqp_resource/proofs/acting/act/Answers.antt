@@ -1,5 +1,5 @@
-use Rattle.std.proofs.Common.{rules, ap, sym, ◌∙◌, refl}
-use Rattle.amqp_resource.proofs.Parts.{answers_end, local_error, remote_error}
+use Rattle.std.proofs.Common.{rules, ap, sym, ◌∙◌, ◌≡◌, refl, Err}
+use Rattle.amqp_resource.proofs.Parts.{answers_end, local_error, own_holds, remote_error}
 use Rattle.amqp_resource.proofs.acting.act.Goals as goal
 
 pub returns-in-LinkEnd-clause-goes : goal.returns-in-LinkEnd-clause-goes
@@ -16,3 +16,6 @@ returns-in-RemoteEnd-clause-ended g c = rw c.in-RemoteEnd.is (answers_end _ _ _ 
 
 pub returns-in-ConnectionStop-clause-ended : goal.returns-in-ConnectionStop-clause-ended
 returns-in-ConnectionStop-clause-ended g c = rw c.in-ConnectionStop.is (answers_end _ _ _ refl c.end_with_connection.ensures)
+
+pub returns-in-RemoteEnd-clause-untouched : goal.returns-in-RemoteEnd-clause-untouched
+returns-in-RemoteEnd-clause-untouched g c = own_holds (Err c.end_remotely.result) (c.args.below.now ≡ c.args.below.now) refl
