@@ -1,0 +1,9 @@
+pub mod Posts
+pub mod Managing
+pub mod Lends
+pub mod Errors
+pub mod Outcomes
+pub mod Held
+pub mod Declaring
+pub mod Discharging
+pub mod Delivering

@@ -1,0 +1,247 @@
+//! What no clause says: that the calls succeed where there is memory, and printed texts.
+
+use crate::*;
+use amqp_below::{
+    AllocTxnIdError, Answers, CommitFault, Drawn, Echoes, HandleDeclare, HandleDischarge, IdSource,
+    SessionInnerError,
+};
+use amqp_txn_codec::{ControlMessageBody, Declare, Discharge};
+use amqp_txn_types::{
+    Accepted, Declared, DeliveryState, Disposition, Frames, Handle, NoMemory, Payload, Role,
+    TransactionError, TransactionId, Transfer,
+};
+use std::alloc::Global;
+use std::test::Fail;
+
+/// A session that allocates whatever is drawn first, and accepts each discharge: a commit with one
+/// answer, so that it shows which of the two was asked.
+#[derive(Drop)]
+struct Willing {
+    alloc: Global,
+    refusals: u64,
+}
+
+/// A source that gives one id again and again.
+#[derive(Drop)]
+struct One {
+    id: TransactionId,
+}
+
+impl IdSource for One {
+    ghost use Rattle.std.specs.Prelude.{None};
+
+    ghost next = { λ source n. source.id };
+
+    ghost start = { λ source. None };
+
+    fn draw(&mut self) -> TransactionId {
+        self.id
+    }
+}
+
+impl HandleDeclare for Willing {
+    ghost refusals = { λ session. session.refusals };
+
+    ghost allocate_gives = { λ old new before after result. Unit {0} };
+
+    fn allocate_transaction_id<G: IdSource>(
+        &mut self,
+        ids: &mut G,
+    ) -> Result<Drawn, AllocTxnIdError> {
+        let mut drawn = Drawn::new(self.alloc);
+        let Ok(()) = drawn.make_room() else {
+            self.refusals = self.refusals.saturating_add(1);
+            return Err(AllocTxnIdError::NoMemory);
+        };
+        drawn.push(ids.draw());
+        Ok(drawn)
+    }
+}
+
+impl HandleDischarge for Willing {
+    ghost refusals = { λ session. session.refusals };
+
+    ghost commit_gives = { λ old new id result. Unit {0} };
+
+    ghost rollback_gives = { λ old new id result. Unit {0} };
+
+    fn commit_transaction(
+        &mut self,
+        txn_id: &TransactionId,
+    ) -> Result<Result<Echoes, TransactionError>, CommitFault> {
+        let mut echoes = Echoes::new(self.alloc);
+        let answers = Answers {
+            given: Frames::new(self.alloc),
+            window: None,
+        };
+        match echoes.push(answers) {
+            Ok(()) => Ok(Ok(echoes)),
+            Err(unkept) => {
+                drop(unkept);
+                self.refusals = self.refusals.saturating_add(1);
+                Err(CommitFault::NoMemory)
+            }
+        }
+    }
+
+    fn rollback_transaction(
+        &mut self,
+        txn_id: &TransactionId,
+    ) -> Result<Accepted, TransactionError> {
+        Ok(Accepted)
+    }
+}
+
+/// How many ids were drawn, or how many echoes there are; 100 for an error.
+fn size(answer: Result<CoordinatorReply, CoordinatorError>) -> usize {
+    match answer {
+        Ok(CoordinatorReply::Declared(drawn)) => drawn.len(),
+        Ok(CoordinatorReply::Discharged(echoes)) => echoes.len(),
+        Err(_) => 100,
+    }
+}
+
+fn discharge(txn_id: TransactionId, fail: Option<bool>) -> ControlMessageBody {
+    ControlMessageBody::Discharge(Discharge { txn_id, fail })
+}
+
+fn declare(global_id: Option<TransactionId>) -> ControlMessageBody {
+    ControlMessageBody::Declare(Declare { global_id })
+}
+
+#[test]
+fn a_coordinator_holds_what_it_declared(rt: HostRuntime) -> Result<(), Fail> {
+    let alloc = rt.alloc();
+    let id = TransactionId::new(b"\x01")?;
+    let mut ids = One { id };
+    let mut session = Willing { alloc, refusals: 0 };
+    let mut coordinator = TxnCoordinator::new(alloc);
+    let unheld = size(coordinator.on_delivery(&discharge(id, None), &mut session, &mut ids));
+    assert_eq!(rt; unheld, 100);
+    let global = size(coordinator.on_delivery(&declare(Some(id)), &mut session, &mut ids));
+    assert_eq!(rt; global, 100);
+    assert!(rt; !coordinator.holds(&id));
+    let declared = size(coordinator.on_delivery(&declare(None), &mut session, &mut ids));
+    assert_eq!(rt; declared, 1);
+    assert!(rt; coordinator.holds(&id));
+    let committed = size(coordinator.on_delivery(&discharge(id, None), &mut session, &mut ids));
+    assert_eq!(rt; committed, 1);
+    assert!(rt; !coordinator.holds(&id));
+    Ok(())
+}
+
+#[test]
+fn a_rollback_has_no_echoes(rt: HostRuntime) -> Result<(), Fail> {
+    let alloc = rt.alloc();
+    let id = TransactionId::new(b"\x01")?;
+    let mut ids = One { id };
+    let mut session = Willing { alloc, refusals: 0 };
+    let mut coordinator = TxnCoordinator::new(alloc);
+    let declared = size(coordinator.on_delivery(&declare(None), &mut session, &mut ids));
+    assert_eq!(rt; declared, 1);
+    let rollback = discharge(id, Some(true));
+    let rolled_back = size(coordinator.on_delivery(&rollback, &mut session, &mut ids));
+    assert_eq!(rt; rolled_back, 0);
+    Ok(())
+}
+
+fn post(delivery_id: Option<u32>) -> Transfer {
+    Transfer {
+        handle: Handle(1),
+        delivery_id,
+        delivery_tag: None,
+        message_format: None,
+        settled: None,
+        more: false,
+        rcv_settle_mode: None,
+        state: None,
+        resume: false,
+        aborted: false,
+        batchable: false,
+    }
+}
+
+/// The delivery id of the disposition that answers a post; 100 for none, 101 for want of memory.
+fn answered(answer: Result<Option<Disposition>, NoMemory>) -> u32 {
+    match answer {
+        Ok(Some(disposition)) => disposition.first,
+        Ok(None) => 100,
+        Err(_) => 101,
+    }
+}
+
+/// What the post with that delivery id is answered under the id, which is held.
+fn answer_of(
+    manager: &mut TransactionManager,
+    alloc: Global,
+    id: TransactionId,
+    delivery_id: Option<u32>,
+) -> Result<u32, NoMemory> {
+    let payload = Payload::from_slice(alloc, b"m")?;
+    let Some(work) = manager.get_mut(&id) else {
+        return Ok(102);
+    };
+    Ok(answered(work.on_incoming_post(id, post(delivery_id), payload)))
+}
+
+/// How much work a transaction has.
+fn count_work(transaction: Option<ResourceTransaction>) -> usize {
+    let Some(mut transaction) = transaction else {
+        return 100;
+    };
+    for count in 0..10usize {
+        if transaction.take_first().is_none() {
+            return count;
+        }
+    }
+    10
+}
+
+#[test]
+fn a_manager_keeps_work(rt: HostRuntime) -> Result<(), Fail> {
+    let alloc = rt.alloc();
+    let id = TransactionId::new(b"\x01")?;
+    let mut manager = TransactionManager::new(alloc);
+    manager.insert(id)?;
+    assert_eq!(rt; answer_of(&mut manager, alloc, id, Some(7))?, 7);
+    assert_eq!(rt; answer_of(&mut manager, alloc, id, None)?, 100);
+    assert_eq!(rt; count_work(manager.remove(&id)), 2);
+    assert_eq!(rt; count_work(manager.remove(&id)), 100);
+    Ok(())
+}
+
+/// Whether the error's text is this.
+fn has_text(alloc: Global, error: CoordinatorError, text: &str) -> Result<bool, Fail> {
+    let found = format!(in alloc; "{error}")?;
+    Ok(found.as_str() == text)
+}
+
+fn refused_frame() -> CommitFault {
+    CommitFault::Refused {
+        error: SessionInnerError::IllegalState,
+        handed: 1,
+    }
+}
+
+#[test]
+fn errors_have_texts(rt: HostRuntime) -> Result<(), Fail> {
+    let alloc = rt.alloc();
+    let refused = CoordinatorError::from(DischargeError::Fault(refused_frame()));
+    let text = "the commit failed: a frame of the commit was refused: the state does not allow it";
+    assert!(rt; has_text(alloc, refused, text)?);
+    let unknown = CoordinatorError::from(DischargeError::from(TransactionError::UnknownId));
+    let text = "the transaction is not discharged: amqp:transaction:unknown-id";
+    assert!(rt; has_text(alloc, unknown, text)?);
+    let unable = CoordinatorError::from(AllocTxnIdError::NotImplemented);
+    let text = "the session allocates no transaction ids";
+    assert!(rt; has_text(alloc, unable, text)?);
+    Ok(())
+}
+
+#[test]
+fn a_declare_has_its_state(rt: HostRuntime) -> Result<(), Fail> {
+    let txn_id = TransactionId::new(b"\x01")?;
+    let state = DeliveryState::from(SuccessfulOutcome::Declared(Declared { txn_id }));
+    assert!(rt; state == DeliveryState::Declared(Declared { txn_id }));
+    Ok(())
+}
