@@ -14,7 +14,7 @@ pub fn on_incoming_frame<S: LayerBelow>(
     ensures { Takes (S.told below.old) (S.told below.new) frame result }
 {
     match frame {
-        Frame::Attach(attach) => below.on_incoming_attach(attach),
+        Frame::Attach(attach) => below.on_incoming_attach(attach.into_inner()),
         Frame::Flow(flow) => below.on_incoming_flow(flow),
         Frame::Transfer { transfer, payload } => below.on_incoming_transfer(transfer, payload),
         Frame::Disposition(disposition) => below.on_incoming_disposition(disposition),

@@ -11,8 +11,8 @@ use crate::inner_error::SessionInnerError;
 use crate::layer::LayerBelow;
 use crate::refusal::{Exchanges, Openings, Refusal, Refusals};
 use amqp_txn_types::{
-    Attach, Detach, Disposition, Flow, Frame, Frames, NoMemory, Payload, SessionState, Transfer,
-    TryClone,
+    Attach, Boxed, Detach, Disposition, Flow, Frame, Frames, NoMemory, Payload, SessionState,
+    Transfer, TryClone,
 };
 use std::alloc::Global;
 
@@ -180,6 +180,13 @@ fn copied(alloc: Global, frames: &Frames) -> Result<Frames, NoMemory>
     frames.try_clone()
 }
 
+/// A copy on the heap.
+fn boxed_copy(alloc: Global, attach: &Attach) -> Result<Boxed<Attach>, NoMemory>
+    ensures { IfOk result (λ copy. copy ≡ attach.now) }
+{
+    Boxed::new(alloc, attach.try_clone()?)
+}
+
 impl<S: LayerBelow> LayerBelow for Recorder<S> {
     ghost use Rattle.std.specs.Prelude.{Some, ◌+◌};
 
@@ -199,7 +206,15 @@ impl<S: LayerBelow> LayerBelow for Recorder<S> {
         ensures told { Takes (⟦<Recorder<S> as LayerBelow>⟧.told self.old) (⟦<Recorder<S> as LayerBelow>⟧.told self.new) (frames.Attach attach) result }
         ensures recorded { RecordsCall S.told self.old self.new (frames.Attach attach) result }
     {
-        self.take(Frame::Attach(attach))
+        match Boxed::new(self.alloc, attach) {
+            Ok(attach) => self.take(Frame::Attach(attach)),
+            Err(_) => {
+                self.unused = false;
+                self.calls = self.calls.saturating_add(1);
+                self.refusals = self.refusals.saturating_add(1);
+                Err(SessionInnerError::NoMemory)
+            }
+        }
     }
 
     fn on_incoming_flow(&mut self, flow: Flow) -> Result<Frames, SessionInnerError>
@@ -242,7 +257,7 @@ impl<S: LayerBelow> LayerBelow for Recorder<S> {
         ensures recorded { RecordsOpen S.told self.old self.new attach.now result }
     {
         self.unused = false;
-        let Ok(copy) = attach.try_clone() else {
+        let Ok(copy) = boxed_copy(self.alloc, attach) else {
             self.refusals = self.refusals.saturating_add(1);
             return Err(SessionInnerError::NoMemory);
         };
@@ -260,7 +275,7 @@ impl<S: LayerBelow> LayerBelow for Recorder<S> {
                     self.refusals = self.refusals.saturating_add(1);
                     return Err(SessionInnerError::NoMemory);
                 };
-                self.opened.items.push_reserved((copy, kept));
+                self.opened.items.push_reserved((copy.into_inner(), kept));
                 Ok(given)
             }
             Err(error) => {

@@ -157,7 +157,7 @@ pub fn is_coordinator_attach(frame: &Frame) -> bool
     ensures { result ≡ coord frame.now }
 {
     match frame {
-        Frame::Attach(attach) => is_coordinator(attach),
+        Frame::Attach(attach) => is_coordinator(attach.as_ref()),
         _ => false,
     }
 }

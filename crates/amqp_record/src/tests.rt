@@ -3,7 +3,7 @@
 use crate::*;
 use amqp_below::{Answers, Drawn};
 use amqp_txn_types::{
-    AmqpError, Attach, Coordinator, Detach, Frame, Frames, Handle, NoMemory, Payload,
+    AmqpError, Attach, Boxed, Coordinator, Detach, Frame, Frames, Handle, NoMemory, Payload,
     ReceiverSettleMode, Role, SenderSettleMode, TargetArchetype, Text, TransactionId, TryClone,
 };
 use std::alloc::Global;
@@ -11,7 +11,7 @@ use std::process::Abort;
 use std::test::Fail;
 
 fn control_attach(alloc: Global) -> Result<Frame, NoMemory> {
-    Ok(Frame::Attach(Attach {
+    let attach = Attach {
         name: Text::from_str(alloc, "c")?,
         handle: Handle(0),
         role: Role::Sender,
@@ -24,7 +24,8 @@ fn control_attach(alloc: Global) -> Result<Frame, NoMemory> {
         offered_capabilities: None,
         desired_capabilities: None,
         properties: None,
-    }))
+    };
+    Ok(Frame::Attach(Boxed::new(alloc, attach)?))
 }
 
 fn entry(alloc: Global, step: Step, reply: Reply) -> Entry {

@@ -173,6 +173,7 @@ fn control_attach_of(frame: &Frame) -> Option<&Attach>
 {
     match frame {
         Frame::Attach(attach) => {
+            let attach = attach.as_ref();
             if is_coordinator(attach) {
                 Some(attach)
             } else {

@@ -1,12 +1,13 @@
-use Rattle.std.proofs.Common.{◌≡◌, ℕ, ◌<◌, ◌^◌, inl, inr, true, false, List, [], ◌∷◌, ◌++◌, length, refl, sym, ap, subst, ◌∙◌, arith, nat_eq, nat_lt, eqb, codes}
+use Rattle.std.specs.Option.{is_some}
+use Rattle.std.proofs.Common.{◌≡◌, ℕ, Option, None, Some, Bor, option_copied, ◌<◌, ◌^◌, inl, inr, true, false, List, [], ◌∷◌, ◌++◌, length, refl, sym, ap, subst, ◌∙◌, arith, nat_eq, nat_lt, eqb, codes}
 use Rattle.std.specs.Cmp.Lexicographic.{pointwise, nat_list_eq_equiv}
 use Rattle.std.proofs.lemmas.Bool.Decides.{nat_tests}
 use Rattle.std.specs.Int.{to_be_bytes, from_be_bytes, w32, w64}
 use Rattle.std.proofs.lemmas.Nat.{from_be_bytes-to_be_bytes_4, from_be_bytes-to_be_bytes_8}
 use Rattle.amqp_txn_codec.specs.Sections.{Kind, IsDescriptor, by_octet, by_number, by_name, by_long_name, leading, body}
-use Rattle.amqp_txn_codec.specs.Walks.{LeavesAfter, AfterDescriptor, AfterSection, SkipsTo, Begins, TakesOptional}
+use Rattle.amqp_txn_codec.specs.Walks.{Finds, LeavesAfter, AfterDescriptor, AfterSection, SkipsTo, Begins, TakesOptional}
 use Rattle.amqp_txn_codec.proofs.Values.{one_front, same_front}
-use Rattle.amqp_txn_codec.proofs.Sections.{behind, apart, descriptor-one_end}
+use Rattle.amqp_txn_codec.proofs.Sections.{behind, apart, descriptor-one_end, octet-found}
 
 -- two kinds that no descriptor names both
 pub record Apart (k l : Kind) : Type 0 where
@@ -132,6 +133,25 @@ leading-apart =
 
 pub leading-only : (octets result rest : List ℕ) → Takes leading octets result → Begins body rest → SkipsTo leading octets rest → result ≡ rest
 leading-only octets result rest t b s = takes-only leading body octets result rest leading-apart t b s
+
+-- where the body begins nothing is taken
+last-apart : (k : Kind) (ks : List Kind) (end : Kind) → ApartFrom k ks end → Apart k end
+last-apart k [] end a = a
+last-apart k (l ∷ ls) end a = last-apart k ls end a.1
+
+takes-nothing : (ks : List Kind) (end : Kind) (octets : List ℕ) → AllApart ks end → Begins end octets → Takes ks octets octets
+takes-nothing [] end octets a b = refl
+takes-nothing (k ∷ ks) end octets a b =
+    (octets, inr (refl, λ other s. begins-apart k end octets (last-apart k ks end a.0) (section-begins k octets other s) b), takes-nothing ks end octets a.1 b)
+
+pub body-takes : (octets rest : List ℕ) → octets ≡ 0 ∷ 0x53 ∷ 0x77 ∷ rest → Takes leading octets octets
+unfolding body
+body-takes octets rest e =
+    takes-nothing leading body octets leading-apart (record { inner = 0x53 ∷ 0x77 ∷ rest; value = rest; begins = e; descriptor = octet-found 0x77 (codes "amqp:amqp-value:*") (0x53 ∷ 0x77 ∷ rest) rest refl })
+
+pub found-takes : (octets : List ℕ) (r : Option (Bor (List ℕ))) → Finds (λ rest. octets ≡ 0 ∷ 0x53 ∷ 0x77 ∷ rest) (option_copied r) → true ≡ is_some r → Takes leading octets octets
+found-takes octets None h t = absurd (grind (arith, nat_tests))
+found-takes octets (Some x) h t = body-takes octets x.now h
 
 pub leading-takes : (octets a b c d e : List ℕ) → TakesOptional (0x70, codes "amqp:header:list") octets a → TakesOptional (0x71, codes "amqp:delivery-annotations:map") a b → TakesOptional (0x72, codes "amqp:message-annotations:map") b c → TakesOptional (0x73, codes "amqp:properties:list") c d → TakesOptional (0x74, codes "amqp:application-properties:map") d e → Takes leading octets e
 unfolding leading

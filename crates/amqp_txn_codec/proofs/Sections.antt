@@ -59,6 +59,19 @@ descriptor-found number name octets r a b c h =
 pub octet-found : (number : ℕ) (name octets rest : List ℕ) → octets ≡ 0x53 ∷ number ∷ rest → AfterDescriptor number name octets rest
 octet-found number name octets rest e = record { spelling = 0x53 ∷ number ∷ []; descriptor = by_octet number name; front = e }
 
+-- behind 0x53 no other spelling than that by one octet
+only-octet : (number : ℕ) (name octets mid spelling rest : List ℕ) → octets ≡ 0x53 ∷ mid → IsDescriptor number name spelling → octets ≡ spelling ++ rest → mid ≡ number ∷ rest
+only-octet number name octets mid spelling rest e (by_octet n m) f = behind 0x53 mid (number ∷ rest) octets e f
+only-octet number name octets mid spelling rest e (by_number n m) f = absurd (apart 0x53 0x80 mid (to_be_bytes w64 number ++ rest) octets refl e f)
+only-octet number name octets mid spelling rest e (by_name n m) f = absurd (apart 0x53 0xa3 mid (length name ∷ name ++ rest) octets refl e f)
+only-octet number name octets mid spelling rest e (by_long_name n m) f = absurd (apart 0x53 0xb3 mid ((to_be_bytes w32 (length name) ++ name) ++ rest) octets refl e f)
+
+pub octet-or_none : (number : ℕ) (name octets mid : List ℕ) (r : Option (List ℕ)) → octets ≡ 0x53 ∷ mid → Finds (λ rest. mid ≡ number ∷ rest) r → Finds (AfterDescriptor number name octets) r
+octet-or_none number name octets mid r e h =
+    Finds-via (λ (rest : List ℕ). mid ≡ number ∷ rest) (AfterDescriptor number name octets)
+    (λ rest f. octet-found number name octets rest (e ∙ ap (λ (l : List ℕ). 0x53 ∷ l) f))
+    (λ rest d. only-octet number name octets mid d.spelling rest e d.descriptor d.front) r h
+
 pub number-found : (number : ℕ) (name octets rest : List ℕ) → octets ≡ 0x80 ∷ (to_be_bytes w64 number ++ rest) → AfterDescriptor number name octets rest
 number-found number name octets rest e = record { spelling = 0x80 ∷ to_be_bytes w64 number; descriptor = by_number number name; front = e }
 

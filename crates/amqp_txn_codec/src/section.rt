@@ -25,8 +25,8 @@ pub(crate) fn after_descriptor<'a>(number: u8, name: &[u8], octets: &'a [u8]) ->
     requires { length name.now < 256 }
     ensures { Finds (AfterDescriptor number name.now octets.now) (option_copied result) }
 {
-    if let Some(rest) = after_prefix(&[0x53, number], octets) {
-        return Some(rest);
+    if let Some(numbered) = after_prefix(&[0x53], octets) {
+        return after_prefix(&[number], numbered);
     }
     if let Some(rest) = after_both(&[0x80], &(number as u64).to_be_bytes(), octets) {
         return Some(rest);
@@ -64,6 +64,10 @@ pub(crate) fn after_leading(octets: &[u8]) -> &[u8]
     ensures skips { SkipsTo leading octets.now result.now }
     ensures only { (rest : List ℕ) → Begins body rest → SkipsTo leading octets.now rest → result.now ≡ rest }
 {
+    // Clients leave these sections out, so that the body begins at once.
+    if after_prefix(&[0, 0x53, 0x77], octets).is_some() {
+        return octets;
+    }
     let rest = after_optional(0x70, b"amqp:header:list", octets);
     let rest = after_optional(0x71, b"amqp:delivery-annotations:map", rest);
     let rest = after_optional(0x72, b"amqp:message-annotations:map", rest);

@@ -1,5 +1,6 @@
 //! Delivery states, outcomes and errors.
 
+use crate::boxed::Boxed;
 use crate::fields::Fields;
 use crate::id::TransactionId;
 use crate::items::{NoMemory, TryClone};
@@ -38,7 +39,7 @@ impl TryClone for Error {
 #[derive(Debug, Drop, PartialEq)]
 pub struct Rejected {
     /// Why it can't.
-    pub error: Option<Error>,
+    pub error: Option<Boxed<Error>>,
 }
 
 impl TryClone for Rejected {
@@ -57,7 +58,7 @@ pub struct Modified {
     /// Whether the message must not come to this receiver again.
     pub undeliverable_here: Option<bool>,
     /// Annotations to be put in place of those of the message.
-    pub message_annotations: Option<Fields>,
+    pub message_annotations: Option<Boxed<Fields>>,
 }
 
 impl TryClone for Modified {

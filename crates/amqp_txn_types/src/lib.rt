@@ -29,6 +29,7 @@
 //! most 32 octets, and a copy equals its original.
 #![tactic(auto)]
 
+mod boxed;
 mod capability;
 mod delivery;
 mod fields;
@@ -42,6 +43,7 @@ mod small;
 mod tests;
 mod text;
 
+pub use boxed::Boxed;
 pub use capability::TxnCapability;
 pub use delivery::{
     ConnectionStopReason, Declared, DeliveryState, Error, ErrorCondition, Modified, Outcome,

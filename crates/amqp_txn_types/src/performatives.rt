@@ -3,6 +3,7 @@
 
 ghost use Rattle.std.specs.Prelude.{◌≡◌, None};
 
+use crate::boxed::Boxed;
 use crate::delivery::{DeliveryState, Error};
 use crate::fields::Fields;
 use crate::items::{Binary, Items, NoMemory, TryClone};
@@ -421,7 +422,7 @@ impl TryClone for TargetArchetype {
 #[derive(Debug, Drop, PartialEq)]
 pub enum Frame {
     /// A link is attached.
-    Attach(Attach),
+    Attach(Boxed<Attach>),
     /// Flow state of the session or of a link.
     Flow(Flow),
     /// A message, or a part of one.

@@ -31,7 +31,7 @@ fn error(alloc: Global, condition: ErrorCondition) -> Result<Error, Fail> {
 fn rejected(alloc: Global) -> Result<Rejected, Fail> {
     let condition = ErrorCondition::TransactionError(TransactionError::UnknownId);
     Ok(Rejected {
-        error: Some(error(alloc, condition)?),
+        error: Some(Boxed::new(alloc, error(alloc, condition)?)?),
     })
 }
 
@@ -221,7 +221,7 @@ fn a_copied_attach_has_every_field(rt: HostRuntime) -> Result<(), Fail> {
     let attach = attach(rt.alloc())?;
     assert!(rt; is_coordinator(&attach));
     assert_copied(&rt, LinkFrame::Attach(attach.try_clone()?))?;
-    assert_copied(&rt, Frame::Attach(attach))
+    assert_copied(&rt, Frame::Attach(Boxed::new(rt.alloc(), attach)?))
 }
 
 #[test]
@@ -290,7 +290,7 @@ fn every_state_is_copied(rt: HostRuntime) -> Result<(), Fail> {
     let modified = Modified {
         delivery_failed: Some(true),
         undeliverable_here: Some(true),
-        message_annotations: Some(fields(alloc)?),
+        message_annotations: Some(Boxed::new(alloc, fields(alloc)?)?),
     };
     for outcome in [
         Outcome::Accepted,

@@ -16,7 +16,7 @@ pub(crate) fn put_frame(alloc: Global, out: &mut String, frame: &Frame) -> Resul
     ensures { OnOk result (string_bytes out.new ≡ string_bytes out.old ++ frame_text frame.now) }
 {
     match frame {
-        Frame::Attach(attach) => put_attach(out, attach),
+        Frame::Attach(attach) => put_attach(out, attach.as_ref()),
         Frame::Flow(flow) => put_flow(out, flow),
         Frame::Transfer { transfer, payload } => put_transfer(alloc, out, transfer, payload),
         Frame::Disposition(disposition) => put_disposition(alloc, out, disposition),

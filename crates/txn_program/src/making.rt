@@ -8,7 +8,7 @@ use crate::step_lines::{attach_of, transfer_of, under};
 use amqp_record::{Step, Steps};
 use amqp_resource::numbered_id;
 use amqp_txn_codec::{ControlMessageBody, Declare, Discharge};
-use amqp_txn_types::{Coordinator, Frame, NoMemory, Payload, Role, TargetArchetype};
+use amqp_txn_types::{Boxed, Coordinator, Frame, NoMemory, Payload, Role, TargetArchetype};
 use std::alloc::Global;
 
 /// The steps of that many transactions: an attach, and then the transactions in pairs, of which
@@ -114,7 +114,7 @@ fn made_attach(alloc: Global) -> Result<Step, NoMemory>
 {
     let target = TargetArchetype::Coordinator(Coordinator { capabilities: None });
     let attach = attach_of(alloc, "c", 0, Role::Sender, target)?;
-    Ok(Step::Frame(Frame::Attach(attach)))
+    Ok(Step::Frame(Frame::Attach(Boxed::new(alloc, attach)?)))
 }
 
 #[tactic(auto, unfolding(crate::specs::Made::made_declare))]

@@ -15,9 +15,9 @@ use crate::line_words::{
 use crate::unread::Unread;
 use amqp_record::Step;
 use amqp_txn_types::{
-    Attach, Binary, ConnectionStopReason, Coordinator, DeliveryState, Detach, Disposition, Flow,
-    Frame, Handle, NoMemory, Outcome, ReceiverSettleMode, Role, SenderSettleMode, Source, Target,
-    TargetArchetype, Text, TransactionId, TransactionalState, Transfer,
+    Attach, Binary, Boxed, ConnectionStopReason, Coordinator, DeliveryState, Detach, Disposition,
+    Flow, Frame, Handle, NoMemory, Outcome, ReceiverSettleMode, Role, SenderSettleMode, Source,
+    Target, TargetArchetype, Text, TransactionId, TransactionalState, Transfer,
 };
 use std::alloc::Global;
 
@@ -76,7 +76,7 @@ fn attach_line(alloc: Global, words: Option<&[u8]>) -> Result<Step, Unread>
     end_at(words)?;
     let target = TargetArchetype::Coordinator(Coordinator { capabilities: None });
     let attach = attach_of(alloc, name, handle, Role::Sender, target)?;
-    Ok(Step::Frame(Frame::Attach(attach)))
+    Ok(Step::Frame(Frame::Attach(Boxed::new(alloc, attach)?)))
 }
 
 /// `link NAME H ROLE`
@@ -89,7 +89,7 @@ fn link_line(alloc: Global, words: Option<&[u8]>) -> Result<Step, Unread>
     let (role, words) = role_at(words)?;
     end_at(words)?;
     let attach = attach_of(alloc, name, handle, role, node(alloc, name)?)?;
-    Ok(Step::Frame(Frame::Attach(attach)))
+    Ok(Step::Frame(Frame::Attach(Boxed::new(alloc, attach)?)))
 }
 
 /// `flow H N` or `flow -`
