@@ -2,3 +2,4 @@ pub mod Padded
 pub mod Frames
 pub mod Works
 pub mod Symbols
+pub mod Payloads

@@ -110,14 +110,11 @@ impl<T> Items<T> {
 
 impl<T: TryClone + Drop> TryClone for Items<T> {
     fn try_clone(&self) -> Result<Self, NoMemory> {
-        let mut copy = Items::new(*self.items.allocator());
+        let mut items = Vec::with_capacity(*self.items.allocator(), self.items.len())?;
         for item in self.as_slice() {
-            match copy.push(item.try_clone()?) {
-                Ok(()) => {}
-                Err((_, error)) => return Err(error),
-            }
+            items.push_reserved(item.try_clone()?);
         }
-        Ok(copy)
+        Ok(Items { items })
     }
 }
 

@@ -38,6 +38,7 @@ mod id;
 mod items;
 mod payload;
 mod performatives;
+mod short_octets;
 mod small;
 #[cfg(test)]
 mod tests;
