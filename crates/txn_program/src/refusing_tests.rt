@@ -1,9 +1,9 @@
 //! Runs that are refused below or ended, and made runs.
 
-use crate::run_tests::{A, B, assert_run, ran};
+use crate::run_tests::{A, B, add_words, assert_run, ran};
 use crate::{run_commands, status};
 use amqp_below::{PlainSession, Recorder, SureSink, SureSource};
-use amqp_txn_types::{Begin, Binary, Handle, Items, OutgoingChannel, SessionState, Text};
+use amqp_txn_types::{Begin, Binary, Handle, Items, NoMemory, OutgoingChannel, SessionState, Text};
 use std::alloc::{Alloc, Global};
 use std::process::Abort;
 use std::test::Fail;
@@ -64,46 +64,63 @@ fn a_refusal_within_a_commit_tells_what_was_taken(rt: HostRuntime) -> Result<(),
     )
 }
 
-/// The lines up to a place, and what they are answered.
-fn up_to(alloc: Global, place: usize) -> Result<(String, String), Fail> {
-    let mut lines = String::new(alloc);
-    let mut answers = String::new(alloc);
-    for (index, (line, answer)) in LINES.iter().enumerate() {
-        if index < place {
+/// The lines from a place on, up to another.
+fn put_lines(lines: &mut String, from: usize, to: usize) -> Result<(), NoMemory> {
+    for (index, (line, _)) in LINES.iter().enumerate() {
+        if from <= index && index < to {
             lines.push_str(line)?;
+        }
+    }
+    Ok(())
+}
+
+/// What the lines up to a place are answered, and a text after that.
+fn put_answers(answers: &mut String, to: usize, end: &str) -> Result<(), NoMemory> {
+    for (index, (_, answer)) in LINES.iter().enumerate() {
+        if index < to {
             answers.push_str(answer)?;
         }
     }
-    Ok((lines, answers))
+    answers.push_str(end)?;
+    Ok(())
+}
+
+/// Runs all lines with refusals below: the lines up to a place are answered, and then the run stops.
+fn assert_refused(
+    rt: &(impl Abort + Alloc<A = Global>),
+    refused: &str,
+    answered: usize,
+    end: &str,
+) -> Result<(), Fail> {
+    let mut lines = String::new(rt.alloc());
+    let mut answers = String::new(rt.alloc());
+    let put = put_lines(&mut lines, 0, 8);
+    let told = put_answers(&mut answers, answered, end);
+    let words = ["run", "--refuse", refused, A, B];
+    let run = assert_run(rt, &words, lines.as_str(), 1, answers.as_str());
+    drop(lines);
+    drop(answers);
+    run?;
+    put?;
+    told?;
+    Ok(())
 }
 
 #[test]
 fn each_frame_of_two_commits_may_be_refused(rt: HostRuntime) -> Result<(), Fail> {
-    for (refused, answered, end) in [
-        ("1", 6, "stop illegal-state\nhanded 0\n"),
-        (
-            "2,2",
-            7,
-            "stop illegal-state\nhanded 0\ntaken transfer 1 2 true - 51\n",
-        ),
-        (
-            "18446744073709551615,3",
-            7,
-            "stop illegal-state\nhanded 1\ntaken transfer 1 2 true - 51\ntaken transfer 1 1 true - 50\n",
-        ),
-    ] {
-        let (lines, _) = up_to(rt.alloc(), 8)?;
-        let (_, mut answers) = up_to(rt.alloc(), answered)?;
-        answers.push_str(end)?;
-        assert_run(
-            &rt,
-            &["run", "--refuse", refused, A, B],
-            lines.as_str(),
-            1,
-            answers.as_str(),
-        )?;
-    }
-    Ok(())
+    assert_refused(&rt, "1", 6, "stop illegal-state\nhanded 0\n")?;
+    assert_refused(
+        &rt,
+        "2,2",
+        7,
+        "stop illegal-state\nhanded 0\ntaken transfer 1 2 true - 51\n",
+    )?;
+    assert_refused(
+        &rt,
+        "18446744073709551615,3",
+        7,
+        "stop illegal-state\nhanded 1\ntaken transfer 1 2 true - 51\ntaken transfer 1 1 true - 50\n",
+    )
 }
 
 /// What the commits before a place handed.
@@ -117,21 +134,51 @@ fn taken_up_to(place: usize) -> &'static str {
     }
 }
 
+/// The lines with an end in that place.
+fn put_ended(lines: &mut String, place: usize) -> Result<(), NoMemory> {
+    put_lines(lines, 0, place)?;
+    lines.push_str("end\n")?;
+    put_lines(lines, place, 8)
+}
+
+/// What the lines with an end in that place are answered.
+fn put_ended_answers(answers: &mut String, place: usize) -> Result<(), NoMemory> {
+    put_answers(answers, place, "stop ended\nhanded 0\n")?;
+    answers.push_str(taken_up_to(place))?;
+    Ok(())
+}
+
+fn assert_ended(rt: &(impl Abort + Alloc<A = Global>), place: usize) -> Result<(), Fail> {
+    let mut lines = String::new(rt.alloc());
+    let mut answers = String::new(rt.alloc());
+    let put = put_ended(&mut lines, place);
+    let told = put_ended_answers(&mut answers, place);
+    let run = assert_run(rt, &["run", A, B], lines.as_str(), 1, answers.as_str());
+    drop(lines);
+    drop(answers);
+    run?;
+    put?;
+    told?;
+    Ok(())
+}
+
 #[test]
 fn an_end_in_any_place_hands_nothing_more(rt: HostRuntime) -> Result<(), Fail> {
-    for place in 0..9 {
-        let (mut lines, mut answers) = up_to(rt.alloc(), place)?;
-        lines.push_str("end\n")?;
-        for (index, (line, _)) in LINES.iter().enumerate() {
-            if place <= index {
-                lines.push_str(line)?;
-            }
-        }
-        answers.push_str("stop ended\nhanded 0\n")?;
-        answers.push_str(taken_up_to(place))?;
-        assert_run(&rt, &["run", A, B], lines.as_str(), 1, answers.as_str())?;
+    for place in 0..9usize {
+        assert_ended(&rt, place)?;
     }
     Ok(())
+}
+
+/// Whether the recorder of a run has that plan.
+fn has_plan(alloc: Global, words: &[&str], input: &str, plan: &[u64]) -> Result<bool, NoMemory> {
+    let mut sink = SureSink::new(alloc);
+    let ran = ran(alloc, words, input, &mut sink);
+    drop(sink);
+    let ran = ran?;
+    let same = ran.below.plan().as_slice() == plan;
+    drop(ran);
+    Ok(same)
 }
 
 fn assert_plan(
@@ -140,9 +187,8 @@ fn assert_plan(
     input: &str,
     plan: &[u64],
 ) -> Result<(), Fail> {
-    let mut sink = SureSink::new(rt.alloc());
-    let ran = ran(rt.alloc(), words, input, &mut sink)?;
-    assert!(rt; ran.below.plan().as_slice() == plan);
+    let same = has_plan(rt.alloc(), words, input, plan)?;
+    assert!(rt; same);
     Ok(())
 }
 
@@ -179,47 +225,66 @@ fn words_outside_the_table_are_usage(rt: HostRuntime) -> Result<(), Fail> {
     assert_run(&rt, &["make", "1", "2"], "", 2, "usage\n")
 }
 
-#[test]
-fn a_list_has_64_numbers_at_most(rt: HostRuntime) -> Result<(), Fail> {
-    let mut list = String::new(rt.alloc());
-    for _ in 0..63 {
+/// That many sevens, parted by commas.
+fn put_sevens(list: &mut String, count: u32) -> Result<(), NoMemory> {
+    for _ in 1..count {
         list.push_str("7,")?;
     }
     list.push_str("7")?;
-    assert_run(
-        &rt,
-        &["run", "--refuse", list.as_str(), A],
-        "",
-        0,
-        "stop done\nhanded 0\n",
-    )?;
-    list.push_str(",7")?;
-    assert_run(
-        &rt,
-        &["run", "--refuse", list.as_str(), A],
-        "",
-        2,
-        "usage\n",
-    )
+    Ok(())
+}
+
+/// Runs no lines with a list of that many numbers.
+fn assert_sevens(
+    rt: &(impl Abort + Alloc<A = Global>),
+    count: u32,
+    status: u8,
+    text: &str,
+) -> Result<(), Fail> {
+    let mut list = String::new(rt.alloc());
+    let put = put_sevens(&mut list, count);
+    let words = ["run", "--refuse", list.as_str(), A];
+    let run = assert_run(rt, &words, "", status, text);
+    drop(list);
+    run?;
+    put?;
+    Ok(())
+}
+
+#[test]
+fn a_list_has_64_numbers_at_most(rt: HostRuntime) -> Result<(), Fail> {
+    assert_sevens(&rt, 64, 0, "stop done\nhanded 0\n")?;
+    assert_sevens(&rt, 65, 2, "usage\n")
 }
 
 #[test]
 fn a_made_run_is_summed_up(rt: HostRuntime) -> Result<(), Fail> {
-    let mut sink = SureSink::new(rt.alloc());
-    let small = ran(rt.alloc(), &["make", "4"], "foo", &mut sink)?;
-    assert_eq!(rt; small.status, 0);
-    assert!(rt; sink.as_slice() == "steps 21\ncommits 3\nrollbacks 1\ntaken 9\n".as_bytes());
-    Ok(())
+    assert_run(
+        &rt,
+        &["make", "4"],
+        "foo",
+        0,
+        "steps 21\ncommits 3\nrollbacks 1\ntaken 9\n",
+    )
+}
+
+/// The status of a run without lines.
+fn status_of(alloc: Global, words: &[&str], sink: &mut SureSink) -> Result<u8, NoMemory> {
+    let ran = ran(alloc, words, "", sink)?;
+    let status = ran.status;
+    drop(ran);
+    Ok(status)
 }
 
 #[test]
 fn twenty_thousand_made_transactions_are_summed_up(rt: HostRuntime) -> Result<(), Fail> {
     let mut sink = SureSink::new(rt.alloc());
-    let large = ran(rt.alloc(), &["make", "20000"], "", &mut sink)?;
-    assert_eq!(rt; large.status, 0);
-    assert!(rt;
-        sink.as_slice() == "steps 100001\ncommits 13334\nrollbacks 6666\ntaken 40002\n".as_bytes()
-    );
+    let status = status_of(rt.alloc(), &["make", "20000"], &mut sink);
+    let text = "steps 100001\ncommits 13334\nrollbacks 6666\ntaken 40002\n";
+    let written = sink.as_slice() == text.as_bytes();
+    drop(sink);
+    assert_eq!(rt; status?, 0);
+    assert!(rt; written);
     Ok(())
 }
 
@@ -251,18 +316,32 @@ fn plain_status(alloc: Global, words: &[Text], source: &mut SureSource, sink: &m
     ended
 }
 
-#[test]
-fn a_plain_session_refuses_an_unattached_handle(rt: HostRuntime) -> Result<(), Fail> {
-    let alloc = rt.alloc();
-    let mut words = Items::new(alloc);
-    words.push(Text::from_str(alloc, "run")?)?;
-    words.push(Text::from_str(alloc, A)?)?;
-    let lines = "attach c 0\nflow -\ntransfer 4 7 true 61\n";
+/// The status of a run over a plain session, and whether its text is that text.
+fn plain_run(
+    alloc: Global,
+    words: &[&str],
+    lines: &str,
+    text: &str,
+) -> Result<(u8, bool), NoMemory> {
     let mut source = SureSource::new(Binary::from_slice(alloc, lines.as_bytes())?);
     let mut sink = SureSink::new(alloc);
-    let status = plain_status(alloc, words.as_slice(), &mut source, &mut sink);
-    assert_eq!(rt; status, 1);
+    let mut texts = Items::new(alloc);
+    let added = add_words(alloc, &mut texts, words);
+    let status = plain_status(alloc, texts.as_slice(), &mut source, &mut sink);
+    let written = sink.as_slice() == text.as_bytes();
+    drop(texts);
+    drop(source);
+    drop(sink);
+    added?;
+    Ok((status, written))
+}
+
+#[test]
+fn a_plain_session_refuses_an_unattached_handle(rt: HostRuntime) -> Result<(), Fail> {
+    let lines = "attach c 0\nflow -\ntransfer 4 7 true 61\n";
     let text = "attached 0\nok\nstop unattached-handle\nhanded 0\ntaken flow - -\n";
-    assert!(rt; sink.as_slice() == text.as_bytes());
+    let (status, written) = plain_run(rt.alloc(), &["run", A], lines, text)?;
+    assert_eq!(rt; status, 1);
+    assert!(rt; written);
     Ok(())
 }

@@ -2,8 +2,8 @@
 
 use crate::*;
 use amqp_below::{OpenSession, Recorder, SureSink, SureSource};
-use amqp_record::{is_legal, work};
-use amqp_txn_types::{Binary, Items, Text};
+use amqp_record::{Entry, is_legal, work};
+use amqp_txn_types::{Binary, Frame, Frames, Items, NoMemory, Text};
 use std::alloc::{Alloc, Global};
 use std::process::Abort;
 use std::test::Fail;
@@ -12,20 +12,62 @@ pub(crate) const A: &str = "00000000000000000000000000000001";
 
 pub(crate) const B: &str = "00000000000000000000000000000002";
 
+pub(crate) fn add_words(
+    alloc: Global,
+    texts: &mut Items<Text>,
+    words: &[&str],
+) -> Result<(), NoMemory> {
+    for word in words {
+        let text = Text::from_str(alloc, word)?;
+        if let Err(unkept) = texts.push(text) {
+            drop(unkept);
+            return Err(NoMemory);
+        }
+    }
+    Ok(())
+}
+
 /// Runs the program over a recorder that takes everything.
 pub(crate) fn ran(
     alloc: Global,
     words: &[&str],
     input: &str,
     sink: &mut SureSink,
-) -> Result<Ran<OpenSession>, Fail> {
-    let mut these = Items::new(alloc);
-    for word in words {
-        these.push(Text::from_str(alloc, word)?)?;
-    }
+) -> Result<Ran<OpenSession>, NoMemory> {
     let mut source = SureSource::new(Binary::from_slice(alloc, input.as_bytes())?);
+    let mut texts = Items::new(alloc);
+    if let Err(error) = add_words(alloc, &mut texts, words) {
+        drop(texts);
+        drop(source);
+        return Err(error);
+    }
     let below = Recorder::new(alloc, OpenSession::new(alloc));
-    Ok(run_commands(alloc, these.as_slice(), below, &mut source, sink))
+    let ran = run_commands(alloc, texts.as_slice(), below, &mut source, sink);
+    drop(texts);
+    drop(source);
+    Ok(ran)
+}
+
+/// Whether the record of a run is legal by the plain program; no record is.
+fn has_legal_record(ran: &Ran<OpenSession>) -> bool {
+    match &ran.driven {
+        Some(driven) => is_legal(driven.entries.as_slice()),
+        None => true,
+    }
+}
+
+/// The status of a run, and whether its record is legal.
+fn status_of_run(
+    alloc: Global,
+    words: &[&str],
+    input: &str,
+    sink: &mut SureSink,
+) -> Result<(u8, bool), NoMemory> {
+    let ran = ran(alloc, words, input, sink)?;
+    let status = ran.status;
+    let legal = has_legal_record(&ran);
+    drop(ran);
+    Ok((status, legal))
 }
 
 /// Runs the program, compares its status and its text, and its record with the plain program's answer.
@@ -37,12 +79,13 @@ pub(crate) fn assert_run(
     text: &str,
 ) -> Result<(), Fail> {
     let mut sink = SureSink::new(rt.alloc());
-    let ran = ran(rt.alloc(), words, input, &mut sink)?;
-    assert_eq!(rt; ran.status, status);
-    assert!(rt; sink.as_slice() == text.as_bytes());
-    if let Some(driven) = &ran.driven {
-        assert!(rt; is_legal(driven.entries.as_slice()));
-    }
+    let ended = status_of_run(rt.alloc(), words, input, &mut sink);
+    let written = sink.as_slice() == text.as_bytes();
+    drop(sink);
+    let (ended, legal) = ended?;
+    assert_eq!(rt; ended, status);
+    assert!(rt; written);
+    assert!(rt; legal);
     Ok(())
 }
 
@@ -211,61 +254,115 @@ fn words_and_lines_outside_the_tables_have_their_texts(rt: HostRuntime) -> Resul
     assert_run(&rt, &["run", A], "\n", 3, "not a step: line 1\n")
 }
 
-/// Some hundred lines: pairs of interleaved transactions, every third rolled back, whose ids come again.
-fn many_lines(alloc: Global) -> Result<String, Fail> {
-    let mut lines = format!(in alloc; "attach c 0\nattach d 1\n")?;
-    for pair in 0..40u32 {
-        let end = if pair % 3 == 0 { "02a010" } else { "01a010" };
-        let size = if pair % 3 == 0 { "14" } else { "13" };
-        let fail = if pair % 3 == 0 { "41" } else { "" };
-        for _ in 0..2u32 {
-            lines.push_str("control 0 00537700533145\n")?;
-        }
-        for post in 0..4u32 {
-            let id = if post % 2 == 0 { A } else { B };
-            write!(&mut lines, "post {id} 1 {pair} - - 61\n")?;
-        }
-        for id in [B, A] {
+/// Two transactions whose posts interleave, each ended by the other's link in vain and then by its
+/// own, the second first.
+fn put_pair(lines: &mut String, pair: u32) -> Result<(), NoMemory> {
+    let end = if pair % 3 == 0 { "02a010" } else { "01a010" };
+    let size = if pair % 3 == 0 { "14" } else { "13" };
+    let fail = if pair % 3 == 0 { "41" } else { "" };
+    for _ in 0..2u32 {
+        lines.push_str("control 0 00537700533145\n")?;
+    }
+    for post in 0..4u32 {
+        let id = if post % 2 == 0 { A } else { B };
+        write!(lines, "post {id} 1 {pair} - - 61\n")?;
+    }
+    for id in [B, A] {
+        for link in [1u32, 0] {
             write!(
-                &mut lines,
-                "control 1 005377005332c0{size}{end}{id}{fail}\n"
-            )?;
-            write!(
-                &mut lines,
-                "control 0 005377005332c0{size}{end}{id}{fail}\n"
+                lines,
+                "control {link} 005377005332c0{size}{end}{id}{fail}\n"
             )?;
         }
     }
-    Ok(lines)
+    Ok(())
+}
+
+/// Some hundred lines: pairs of interleaved transactions, every third rolled back, whose ids come again.
+fn put_pairs(lines: &mut String) -> Result<(), NoMemory> {
+    lines.push_str("attach c 0\nattach d 1\n")?;
+    for pair in 0..40u32 {
+        put_pair(lines, pair)?;
+    }
+    Ok(())
+}
+
+/// The words of a run that draws two ids 32 times in turn.
+fn words_of_pairs() -> [&'static str; 65] {
+    let mut words = [A; 65];
+    words[0] = "run";
+    for pair in 1..33usize {
+        words[2 * pair] = B;
+    }
+    words
+}
+
+/// Whether these frames were taken, and no others.
+fn are_taken(frames: &[Frame], taken: &[(Frame, Frames)]) -> bool {
+    if frames.len() != taken.len() {
+        return false;
+    }
+    for (frame, exchange) in frames.iter().zip(taken) {
+        if *frame != exchange.0 {
+            return false;
+        }
+    }
+    true
+}
+
+/// Whether the work of a legal record is what was taken.
+fn is_work_taken(
+    alloc: Global,
+    entries: &[Entry],
+    taken: &[(Frame, Frames)],
+) -> Result<bool, NoMemory> {
+    if !is_legal(entries) {
+        return Ok(false);
+    }
+    let frames = work(alloc, entries)?;
+    let same = are_taken(frames.as_slice(), taken);
+    drop(frames);
+    Ok(same)
+}
+
+/// The number of entries of a run's record, and whether its work is what was taken.
+fn count_and_work(alloc: Global, ran: &Ran<OpenSession>) -> Result<(usize, bool), NoMemory> {
+    match &ran.driven {
+        Some(driven) => {
+            let entries = driven.entries.as_slice();
+            let same = is_work_taken(alloc, entries, ran.below.exchanges().as_slice())?;
+            Ok((entries.len(), same))
+        }
+        None => Ok((0, false)),
+    }
+}
+
+/// The status of a run, the number of its entries, and whether its work is what was taken.
+fn work_of_run(
+    alloc: Global,
+    words: &[&str],
+    input: &str,
+) -> Result<(u8, (usize, bool)), NoMemory> {
+    let mut sink = SureSink::new(alloc);
+    let ran = ran(alloc, words, input, &mut sink);
+    drop(sink);
+    let ran = ran?;
+    let status = ran.status;
+    let facts = count_and_work(alloc, &ran);
+    drop(ran);
+    Ok((status, facts?))
 }
 
 #[test]
 fn many_interleaved_transactions_agree_with_the_plain_program(rt: HostRuntime) -> Result<(), Fail> {
-    let alloc = rt.alloc();
-    let input = many_lines(alloc)?;
-    let mut words = Vec::new(alloc);
-    words.push("run")?;
-    for _ in 0..32u32 {
-        words.push(A)?;
-        words.push(B)?;
-    }
-    let mut sink = SureSink::new(alloc);
-    let Ran {
-        status,
-        driven,
-        entries: _,
-        below,
-    } = ran(alloc, words.as_slice(), input.as_str(), &mut sink)?;
+    let mut input = String::new(rt.alloc());
+    let put = put_pairs(&mut input);
+    let facts = work_of_run(rt.alloc(), &words_of_pairs(), input.as_str());
+    drop(input);
+    put?;
+    let (status, (entries, same)) = facts?;
     assert_eq!(rt; status, 1);
-    let Some(driven) = driven else {
-        return Err(Fail::from("no step was driven"));
-    };
-    assert!(rt; driven.entries.len() > 300);
-    assert!(rt; is_legal(driven.entries.as_slice()));
-    let work = work(alloc, driven.entries.as_slice())?;
-    assert_eq!(rt; work.len(), below.exchanges().len());
-    for (frame, exchange) in work.as_slice().iter().zip(below.exchanges().as_slice()) {
-        assert!(rt; *frame == exchange.0);
-    }
+    assert!(rt; entries > 300);
+    assert!(rt; same);
     Ok(())
 }
