@@ -3,7 +3,8 @@
 use crate::frame_text::put_frame;
 use crate::*;
 use amqp_below::Exchanges;
-use amqp_record::{Driven, Entries, Step, Stop};
+use amqp_record::{Driven, Entries, Step, Steps, Stop};
+use amqp_txn_types::{NoMemory, Text};
 use std::alloc::Global;
 use std::test::Fail;
 
@@ -39,14 +40,32 @@ fn the_first_line_outside_the_table_is_told(rt: HostRuntime) {
     }
 }
 
-/// The frame of a line, as a report prints it.
-fn printed(alloc: Global, line: &str) -> Result<String, Fail> {
-    let mut text = String::new(alloc);
-    let steps = spells(alloc, line.as_bytes())?;
+fn put_first(alloc: Global, text: &mut String, steps: &Steps) -> Result<(), NoMemory> {
     if let Some(Step::Frame(frame)) = steps.get(0) {
-        put_frame(alloc, &mut text, frame)?;
+        put_frame(alloc, text, frame)?;
     }
-    Ok(text)
+    Ok(())
+}
+
+/// The frame of a line, as a report prints it.
+fn put_printed(alloc: Global, text: &mut String, line: &str) -> Result<(), SpellError> {
+    let steps = spells(alloc, line.as_bytes())?;
+    let put = put_first(alloc, text, &steps);
+    drop(steps);
+    match put {
+        Ok(()) => Ok(()),
+        Err(_) => Err(SpellError::NoMemory),
+    }
+}
+
+/// Whether the frame of a line is printed so.
+fn is_printed(alloc: Global, line: &str, text: &str) -> Result<bool, SpellError> {
+    let mut printed = String::new(alloc);
+    let put = put_printed(alloc, &mut printed, line);
+    let same = printed.as_str() == text;
+    drop(printed);
+    put?;
+    Ok(same)
 }
 
 #[test]
@@ -67,20 +86,35 @@ fn frames_are_printed_with_their_states(rt: HostRuntime) -> Result<(), Fail> {
         ),
         ("detach 1 true", "detach 1 true"),
     ] {
-        assert_eq!(rt; printed(rt.alloc(), line)?.as_str(), text);
+        let printed = is_printed(rt.alloc(), line, text)?;
+        assert!(rt; printed, "at {line}");
     }
     Ok(())
 }
 
-#[test]
-fn an_empty_run_has_a_report(rt: HostRuntime) -> Result<(), Fail> {
-    let driven = Driven {
-        entries: Entries::new(rt.alloc()),
+/// A run without steps.
+fn no_steps(alloc: Global) -> Driven {
+    Driven {
+        entries: Entries::new(alloc),
         stop: Stop::Done,
         at: 0,
         handed: 0,
-    };
-    let text = report(rt.alloc(), &driven, &Exchanges::new(rt.alloc()))?;
+    }
+}
+
+/// The report of a run without steps.
+fn empty_report(alloc: Global) -> Result<Text, NoMemory> {
+    let driven = no_steps(alloc);
+    let taken = Exchanges::new(alloc);
+    let text = report(alloc, &driven, &taken);
+    drop(taken);
+    drop(driven);
+    text
+}
+
+#[test]
+fn an_empty_run_has_a_report(rt: HostRuntime) -> Result<(), Fail> {
+    let text = empty_report(rt.alloc())?;
     assert_eq!(rt; text.as_str(), "stop done\nhanded 0\n");
     Ok(())
 }
