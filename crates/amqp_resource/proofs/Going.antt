@@ -1,10 +1,10 @@
 -- What each kind of step leaves, from what the calls that it makes leave.
-use Rattle.std.proofs.Common.{◌≡◌, ℕ, zero, suc, ◌+◌, ◌<◌, ◌≤◌, Bool, true, false, cond, not, ◌&&◌, ◌||◌, Option, Some, None, Result, Ok, Err, List, [], ◌∷◌, ◌++◌, length, map, take, refl, sym, ◌∙◌, ap, arith, subst, append-nil, inl, inr}
-use Rattle.std.specs.Prelude.{◌==◌, ◌⊎◌, slice_get, is_some, MatchBool}
-use Rattle.std.specs.List.{list_any, list_all, filter, zip}
+use Rattle.std.proofs.Common.{◌≡◌, ℕ, ◌+◌, ◌≤◌, Bool, true, false, cond, not, ◌&&◌, Option, Some, None, Ok, Err, List, [], ◌∷◌, ◌++◌, length, map, take, refl, sym, ◌∙◌, ap, arith, subst, inl, inr}
+use Rattle.std.specs.Prelude.{◌==◌, slice_get, is_some, MatchBool}
+use Rattle.std.specs.List.{list_all, filter, zip}
 use Rattle.std.proofs.lemmas.List.{length-map}
 use Rattle.std.proofs.lemmas.List.Folds.{list_all-append}
-use Rattle.std.proofs.lemmas.Bool.{eq-eqb, ne_eqb, and_right}
+use Rattle.std.proofs.lemmas.Bool.{eq-eqb, eqb-true, and_right}
 use Rattle.amqp_txn_types.specs.declared.id.TransactionId.{TransactionId}
 use Rattle.amqp_txn_types.specs.declared.small.AmqpError.TheVariants as amqp_errors
 use Rattle.amqp_txn_types.specs.declared.small.TransactionError.TheVariants as transaction_errors
@@ -12,18 +12,16 @@ use Rattle.amqp_txn_types.specs.declared.delivery.SessionStopReason.{SessionStop
 use Rattle.amqp_txn_types.specs.declared.performatives.Attach.{Attach}
 use Rattle.amqp_txn_types.specs.declared.performatives.Frame.{Frame}
 use Rattle.amqp_txn_types.specs.declared.performatives.Frame.TheVariants as frames
-use Rattle.amqp_txn_types.specs.Frames.{txn, coord, is_plain, plain, is_transfer, attaches_coordinator, stripped}
-use Rattle.amqp_txn_codec.specs.declared.message.Declare.{Declare}
+use Rattle.amqp_txn_types.specs.Frames.{txn, coord, is_plain, plain, attaches_coordinator, stripped}
 use Rattle.amqp_txn_codec.specs.declared.message.Discharge.{Discharge}
 use Rattle.amqp_txn_codec.specs.declared.message.ControlMessageBody.{ControlMessageBody}
 use Rattle.amqp_txn_codec.specs.declared.message.ControlMessageBody.TheVariants as messages
 use Rattle.amqp_txn_codec.specs.Reading.{message_of}
 use Rattle.amqp_below.specs.declared.answers.Answers.{Answers}
 use Rattle.amqp_below.specs.declared.inner_error.SessionInnerError.{SessionInnerError}
-use Rattle.amqp_below.specs.declared.inner_error.SessionInnerError.TheVariants as faults
 use Rattle.amqp_below.specs.declared.refusal.Refusal.{Refusal}
 use Rattle.amqp_below.specs.Drawn.{DrawnIds}
-use Rattle.amqp_below.specs.Told.{Told, Steady, Opens, grown, Rose}
+use Rattle.amqp_below.specs.Told.{Told, Steady, Opens, grown}
 use Rattle.amqp_record.specs.declared.entry.Entry.{Entry}
 use Rattle.amqp_record.specs.declared.step.Step.{Step}
 use Rattle.amqp_record.specs.declared.step.Step.TheVariants as steps
@@ -34,21 +32,21 @@ use Rattle.amqp_record.specs.declared.reply.RejectText.TheVariants as texts
 use Rattle.amqp_record.specs.declared.stop.StepError.{StepError}
 use Rattle.amqp_record.specs.declared.stop.StepError.TheVariants as errors
 use Rattle.amqp_record.specs.Entries.{same_id, is_some_id, message_discharges, step_discharges}
-use Rattle.amqp_record.specs.Links.{is_open, attached_count}
+use Rattle.amqp_record.specs.Links.{is_open}
 use Rattle.amqp_record.specs.Live.{is_live, home, is_held_on}
 use Rattle.amqp_record.specs.Hands.{frames_of, is_rollback, hands}
 use Rattle.amqp_record.specs.Work.{given_by}
-use Rattle.amqp_record.specs.Answers.{answered_under, WindowFits, WindowsFit, Answer, AnswerFrame, AnswerControl, AnswerMessage, AnswerDischarge, AnswerDeclare, AnswerLinkEnd, Draws, Echoed}
+use Rattle.amqp_record.specs.Answers.{answered_under, WindowFits, WindowsFit, Answer, AnswerFrame, AnswerControl, AnswerMessage, AnswerLinkEnd, Draws, Echoed}
 use Rattle.amqp_record.specs.Opened.{opened_by, refused_by, refusal_of}
 use Rattle.amqp_record.proofs.Whole.{plain_none, hands-plain, hands-other_frame, hands-commit, hands-no_commit, not_held_no_commit, commits-at, commits-discharge, commits-rollback}
 use Rattle.amqp_resource.specs.declared.held.Live.{Live}
 use Rattle.amqp_resource.specs.declared.held.Held.{Held}
 use Rattle.amqp_resource.specs.declared.taking.TakeError.{TakeError}
-use Rattle.amqp_resource.specs.Held.{Stands, StandsAt, Distinct, look, look_without, with_frame, kept_by, is_in}
+use Rattle.amqp_resource.specs.Held.{Stands, StandsAt, Distinct, Kept, is_on, look, look_without, with_frame, kept_by, is_in}
 use Rattle.amqp_resource.specs.Draws.{is_kept, DrewLive, DrewUnused}
 use Rattle.amqp_resource.specs.Taking.{TookFrames, TakesFrame, taken_frames}
 use Rattle.amqp_resource.specs.Committing.{HandedSome, HandedPart, RefusedAt, given_of}
-use Rattle.amqp_resource.specs.Steps.{Went, Refused, Stayed, StepGave, AddsRefusal, FrameMayFault, MayFault, IsDead, IsPost, IsUnder, UnderDead, EndGave, ended_by, entry_of, fault_of, is_live_under, is_unknown, message_takes_memory, nothing_drawn, takes_memory}
+use Rattle.amqp_resource.specs.Steps.{Went, Refused, Stayed, StepGave, AddsRefusal, FrameMayFault, IsDead, IsPost, IsUnder, UnderDead, EndGave, ended_by, entry_of, fault_of, is_live_under, is_unknown, message_takes_memory, nothing_drawn, takes_memory}
 use Rattle.amqp_resource.proofs.Kept.{found, look_push, Distinct_push}
 use Rattle.amqp_resource.proofs.Handing.{grown-nil, refused_after-err}
 use Rattle.amqp_resource.proofs.Standing.{Quiet, stands-quiet, stands-post, stands-attached, stands-discharged, stands-closed, stands-declared}
@@ -147,12 +145,12 @@ stayed-plain h r frame p s = record { stands = s; takes = ap (is_live_under r) (
 
 -- ---- a frame under an id
 
-live_at : (r : List Entry) (t : TransactionId) (o : Option (ℕ × List Frame)) → o ≡ kept_by r t → (o ≡ None → ⊥) → is_live r t ≡ true
+live_at : (r : List Entry) (t : TransactionId) (o : Option Kept) → o ≡ kept_by r t → (o ≡ None → ⊥) → is_live r t ≡ true
 live_at r t o e n = by_case (is_live r t) refl
   where
     by_case : (b : Bool) → is_live r t ≡ b → b ≡ true
     by_case true h = refl
-    by_case false h = absurd (n (e ∙ ap (λ b. cond b (Some (home r t, frames_of r t)) None) h))
+    by_case false h = absurd (n (e ∙ ap (λ b. cond b (Some (Some (home r t), frames_of r t)) None) h))
 
 pub stands_live : (h : Held) (r : List Entry) (i : ℕ) (t : TransactionId) → Stands h r → StandsAt h.live.items i t → is_live r t ≡ true
 stands_live h r i t s a = live_at r t (look h.live.items t) (s.live t) (found h.live.items i t a)
@@ -161,7 +159,7 @@ stands_live h r i t s a = live_at r t (look h.live.items t) (s.live t) (found h.
 pub kept_live : (h : Held) (r : List Entry) (t : TransactionId) → Stands h r → is_kept h.live.items t ≡ is_live r t
 kept_live h r t s = ap is_some (s.live t) ∙ by_case (is_live r t)
   where
-    by_case : (b : Bool) → is_some {T = ℕ × List Frame} (cond b (Some (home r t, frames_of r t)) None) ≡ b
+    by_case : (b : Bool) → is_some {T = Kept} (cond b (Some (Some (home r t), frames_of r t)) None) ≡ b
     by_case true = refl
     by_case false = refl
 
@@ -266,19 +264,26 @@ pub not_kept : (h : Held) (r : List Entry) (k : ℕ) (u : TransactionId) → Sta
 not_kept h r k u s n = by_case (is_live r u) refl
   where
     by_case : (b : Bool) → is_live r u ≡ b → (is_live r u && (home r u == k)) ≡ false
-    by_case true x = let e : kept_by r u ≡ Some (home r u, frames_of r u) = ap (λ b. cond b (Some (home r u, frames_of r u)) None) x in cc (e, sym (s.live u) ∙ n)
+    by_case true x = let e : kept_by r u ≡ Some (Some (home r u), frames_of r u) = ap (λ b. cond b (Some (Some (home r u), frames_of r u)) None) x in cc (e, sym (s.live u) ∙ n)
     by_case false x = ap (λ b. b && (home r u == k)) x
 
 -- what is kept has the record's home and frames
-pub kept-home : (h : Held) (r : List Entry) (u : TransactionId) (k : ℕ) (fs : List Frame) → Stands h r → look h.live.items u ≡ Some (k, fs) → (is_live r u ≡ true) × (home r u ≡ k) × (frames_of r u ≡ fs)
-kept-home h r u k fs s e = by_case (is_live r u) refl
+pub kept-home : (h : Held) (r : List Entry) (u : TransactionId) (o : Option ℕ) (fs : List Frame) → Stands h r → look h.live.items u ≡ Some (o, fs) → (is_live r u ≡ true) × (Some (home r u) ≡ o) × (frames_of r u ≡ fs)
+kept-home h r u o fs s e = by_case (is_live r u) refl
   where
-    by_case : (b : Bool) → is_live r u ≡ b → (is_live r u ≡ true) × (home r u ≡ k) × (frames_of r u ≡ fs)
+    by_case : (b : Bool) → is_live r u ≡ b → (is_live r u ≡ true) × (Some (home r u) ≡ o) × (frames_of r u ≡ fs)
     by_case true x =
-        let both : Some (home r u, frames_of r u) ≡ Some (k, fs) = sym (ap (λ b. cond b (Some (home r u, frames_of r u)) None) x) ∙ sym (s.live u) ∙ e in
-        let pair : ◌≡◌ {A = ℕ × List Frame} (home r u, frames_of r u) (k, fs) = cc both in
-        (x, ap (λ (p : ℕ × List Frame). p.0) pair, ap (λ (p : ℕ × List Frame). p.1) pair)
-    by_case false x = let none : None ≡ Some (k, fs) = sym (ap (λ b. cond b (Some (home r u, frames_of r u)) None) x) ∙ sym (s.live u) ∙ e in cc none
+        let both : Some (Some (home r u), frames_of r u) ≡ Some (o, fs) = sym (ap (λ b. cond b (Some (Some (home r u), frames_of r u)) None) x) ∙ sym (s.live u) ∙ e in
+        let pair : ◌≡◌ {A = Kept} (Some (home r u), frames_of r u) (o, fs) = cc both in
+        (x, ap (λ (p : Kept). p.0) pair, ap (λ (p : Kept). p.1) pair)
+    by_case false x = let none : None ≡ Some (o, fs) = sym (ap (λ b. cond b (Some (Some (home r u), frames_of r u)) None) x) ∙ sym (s.live u) ∙ e in cc none
+
+-- an id that is kept for a link has it as its home
+pub kept-on : (h : Held) (r : List Entry) (u : TransactionId) (k : ℕ) (fs : List Frame) → Stands h r → look h.live.items u ≡ Some (Some k, fs) → (is_live r u ≡ true) × (home r u ≡ k) × (frames_of r u ≡ fs)
+kept-on h r u k fs s e =
+    let kept = kept-home h r u (Some k) fs s e in
+    let same : home r u ≡ k = cc kept.1 in
+    (kept.0, same, kept.2)
 
 discharges_says : (k : ℕ) (payload : List ℕ) (t : TransactionId) (discharge : Discharge) (echoes : List Answers) → message_of payload ≡ Some (messages.Discharge discharge) → step_discharges t (steps.Control k payload) (replies.Accepted echoes) ≡ same_id t discharge.txn_id
 discharges_says k payload t discharge echoes m = ap (message_discharges t) m
@@ -296,25 +301,25 @@ accepted_answer r k payload discharge echoes b o m l rb x =
     let P : Bool → Type 0 = λ c. Echoed r discharge.txn_id c echoes in
     control_answer r k payload (Some (messages.Discharge discharge)) [] (replies.Accepted echoes) o m (l, refl, subst P (sym rb) x)
 
-pub went-rollback : (h g : Held) (r : List Entry) (k : ℕ) (payload : List ℕ) (discharge : Discharge) (fs : List Frame) (told : Told) → message_of payload ≡ Some (messages.Discharge discharge) → is_rollback discharge.fail ≡ true → is_in h.links.items k ≡ true → Stands h r → look h.live.items discharge.txn_id ≡ Some (k, fs) → Distinct g.live.items → ((t : TransactionId) → look g.live.items t ≡ look_without discharge.txn_id h.live.items t) → g.links.items ≡ h.links.items → g.opened ≡ h.opened → Went g told told r (steps.Control k payload) nothing_drawn (replies.Accepted [])
+pub went-rollback : (h g : Held) (r : List Entry) (k : ℕ) (payload : List ℕ) (discharge : Discharge) (fs : List Frame) (told : Told) → message_of payload ≡ Some (messages.Discharge discharge) → is_rollback discharge.fail ≡ true → is_in h.links.items k ≡ true → Stands h r → look h.live.items discharge.txn_id ≡ Some (Some k, fs) → Distinct g.live.items → ((t : TransactionId) → look g.live.items t ≡ look_without discharge.txn_id h.live.items t) → g.links.items ≡ h.links.items → g.opened ≡ h.opened → Went g told told r (steps.Control k payload) nothing_drawn (replies.Accepted [])
 went-rollback h g r k payload discharge fs told m rb o s at dg lg kg og =
     let opened : is_open r k ≡ true = sym (s.links k) ∙ o in
-    let kept = kept-home h r discharge.txn_id k fs s at in
+    let kept = kept-on h r discharge.txn_id k fs s at in
     let a = accepted_answer r k payload discharge [] true opened m (held_on r k discharge.txn_id kept.0 kept.1) rb refl in
     went-steady g told told r (steps.Control k payload) nothing_drawn (replies.Accepted []) a
     (stands-accepted h g r k payload discharge [] m s a dg lg kg og)
     (hands-no_commit r k payload (commits-rollback r k payload discharge opened m rb)) refl refl (steady-same told)
 
-commit_hands : (h : Held) (r : List Entry) (k : ℕ) (payload : List ℕ) (discharge : Discharge) (fs : List Frame) → message_of payload ≡ Some (messages.Discharge discharge) → is_rollback discharge.fail ≡ false → is_in h.links.items k ≡ true → Stands h r → look h.live.items discharge.txn_id ≡ Some (k, fs) → hands r (steps.Control k payload) ≡ map stripped fs
+commit_hands : (h : Held) (r : List Entry) (k : ℕ) (payload : List ℕ) (discharge : Discharge) (fs : List Frame) → message_of payload ≡ Some (messages.Discharge discharge) → is_rollback discharge.fail ≡ false → is_in h.links.items k ≡ true → Stands h r → look h.live.items discharge.txn_id ≡ Some (Some k, fs) → hands r (steps.Control k payload) ≡ map stripped fs
 commit_hands h r k payload discharge fs m rb o s at =
     let opened : is_open r k ≡ true = sym (s.links k) ∙ o in
-    let kept = kept-home h r discharge.txn_id k fs s at in
+    let kept = kept-on h r discharge.txn_id k fs s at in
     hands-commit r k payload discharge.txn_id (commits-discharge r k payload discharge opened m rb (held_on r k discharge.txn_id kept.0 kept.1)) ∙ ap (map stripped) kept.2
 
-pub went-commit : (h g : Held) (r : List Entry) (k : ℕ) (payload : List ℕ) (discharge : Discharge) (fs : List Frame) (echoes : List Answers) (old new : Told) → message_of payload ≡ Some (messages.Discharge discharge) → is_rollback discharge.fail ≡ false → is_in h.links.items k ≡ true → Stands h r → look h.live.items discharge.txn_id ≡ Some (k, fs) → Distinct g.live.items → ((t : TransactionId) → look g.live.items t ≡ look_without discharge.txn_id h.live.items t) → g.links.items ≡ h.links.items → g.opened ≡ h.opened → HandedSome old new fs echoes → Went g old new r (steps.Control k payload) nothing_drawn (replies.Accepted echoes)
+pub went-commit : (h g : Held) (r : List Entry) (k : ℕ) (payload : List ℕ) (discharge : Discharge) (fs : List Frame) (echoes : List Answers) (old new : Told) → message_of payload ≡ Some (messages.Discharge discharge) → is_rollback discharge.fail ≡ false → is_in h.links.items k ≡ true → Stands h r → look h.live.items discharge.txn_id ≡ Some (Some k, fs) → Distinct g.live.items → ((t : TransactionId) → look g.live.items t ≡ look_without discharge.txn_id h.live.items t) → g.links.items ≡ h.links.items → g.opened ≡ h.opened → HandedSome old new fs echoes → Went g old new r (steps.Control k payload) nothing_drawn (replies.Accepted echoes)
 went-commit h g r k payload discharge fs echoes old new m rb o s at dg lg kg og t =
     let opened : is_open r k ≡ true = sym (s.links k) ∙ o in
-    let kept = kept-home h r discharge.txn_id k fs s at in
+    let kept = kept-on h r discharge.txn_id k fs s at in
     let fits : WindowsFit (frames_of r discharge.txn_id) echoes = subst (λ (x : List Frame). WindowsFit x echoes) (sym kept.2) t.fits in
     let a = accepted_answer r k payload discharge echoes false opened m (held_on r k discharge.txn_id kept.0 kept.1) rb fits in
     record {
@@ -329,7 +334,7 @@ part_adds : (r : List Entry) (s : Step) (handed : List Frame) (at : ℕ) (own : 
 part_adds r s handed at own more (inl x) = (own, refl, inl x)
 part_adds r s handed at own more (inr x) = (own, refl, inr (x.0, inr x.1))
 
-pub refused-commit : (h : Held) (r : List Entry) (k : ℕ) (payload : List ℕ) (discharge : Discharge) (fs : List Frame) (own : SessionInnerError) (handed : ℕ) (old new : Told) → message_of payload ≡ Some (messages.Discharge discharge) → is_rollback discharge.fail ≡ false → is_in h.links.items k ≡ true → Stands h r → look h.live.items discharge.txn_id ≡ Some (k, fs) → HandedPart old new fs own handed → Refused old new r (steps.Control k payload) (fault_of own) handed
+pub refused-commit : (h : Held) (r : List Entry) (k : ℕ) (payload : List ℕ) (discharge : Discharge) (fs : List Frame) (own : SessionInnerError) (handed : ℕ) (old new : Told) → message_of payload ≡ Some (messages.Discharge discharge) → is_rollback discharge.fail ≡ false → is_in h.links.items k ≡ true → Stands h r → look h.live.items discharge.txn_id ≡ Some (Some k, fs) → HandedPart old new fs own handed → Refused old new r (steps.Control k payload) (fault_of own) handed
 refused-commit h r k payload discharge fs own handed old new m rb o s at t =
     let all = commit_hands h r k payload discharge fs m rb o s at in
     let e : length (hands r (steps.Control k payload)) ≡ length fs = ap length all ∙ length-map fs stripped in
@@ -344,9 +349,9 @@ refused-commit h r k payload discharge fs own handed old new m rb o s at t =
       );
     }
 
-pub stayed-commit : (h : Held) (r : List Entry) (k : ℕ) (payload : List ℕ) (discharge : Discharge) (fs : List Frame) → message_of payload ≡ Some (messages.Discharge discharge) → is_rollback discharge.fail ≡ false → is_in h.links.items k ≡ true → Stands h r → look h.live.items discharge.txn_id ≡ Some (k, fs) → Stayed h r (steps.Control k payload)
+pub stayed-commit : (h : Held) (r : List Entry) (k : ℕ) (payload : List ℕ) (discharge : Discharge) (fs : List Frame) → message_of payload ≡ Some (messages.Discharge discharge) → is_rollback discharge.fail ≡ false → is_in h.links.items k ≡ true → Stands h r → look h.live.items discharge.txn_id ≡ Some (Some k, fs) → Stayed h r (steps.Control k payload)
 stayed-commit h r k payload discharge fs m rb o s at =
-    let kept = kept-home h r discharge.txn_id k fs s at in
+    let kept = kept-on h r discharge.txn_id k fs s at in
     record {
       stands = s;
       takes =
@@ -354,18 +359,24 @@ stayed-commit h r k payload discharge fs m rb o s at =
           ∙ ap (λ b. not b && is_held_on r k discharge.txn_id) rb ∙ held_on r k discharge.txn_id kept.0 kept.1;
     }
 
--- what is kept for another link isn't held on this one
-pub held_elsewhere : (h : Held) (r : List Entry) (k : ℕ) (u : TransactionId) (j : ℕ) (fs : List Frame) → Stands h r → look h.live.items u ≡ Some (j, fs) → (j ≡ k → ⊥) → is_held_on r k u ≡ false
-held_elsewhere h r k u j fs s e n =
-    let kept = kept-home h r u j fs s e in
-    ap (λ b. is_live r u && b) (ne_eqb (home r u) k (λ x. n (sym kept.1 ∙ x))) ∙ and_right (is_live r u) false refl
+-- what isn't kept for the link isn't held on it
+pub held_elsewhere : (h : Held) (r : List Entry) (k : ℕ) (u : TransactionId) (o : Option ℕ) (fs : List Frame) → Stands h r → look h.live.items u ≡ Some (o, fs) → is_on k o ≡ false → is_held_on r k u ≡ false
+held_elsewhere h r k u o fs s e n =
+    let kept = kept-home h r u o fs s e in
+    let away : (home r u == k) ≡ false = ap (is_on k) kept.1 ∙ n in
+    ap (λ b. is_live r u && b) away ∙ and_right (is_live r u) false refl
+
+-- a link that is on what is kept is the one that is kept
+on_some : (o : Option ℕ) (k : ℕ) → is_on k o ≡ true → o ≡ Some k
+on_some None k e = cc e
+on_some (Some j) k e = ap (λ n. Some n) (eqb-true j k e)
 
 -- one look, two answers
-pub held_here : (h : Held) (u : TransactionId) (j i : ℕ) (fs gs : List Frame) (k : ℕ) → look h.live.items u ≡ Some (j, fs) → look h.live.items u ≡ Some (i, gs) → i ≡ k → look h.live.items u ≡ Some (k, fs)
-held_here h u j i fs gs k a b e =
-    let both : Some (j, fs) ≡ Some (i, gs) = sym a ∙ b in
-    let pair : ◌≡◌ {A = ℕ × List Frame} (j, fs) (i, gs) = cc both in
-    a ∙ ap (λ x. Some (x, fs)) (ap (λ (p : ℕ × List Frame). p.0) pair ∙ e)
+pub held_here : (h : Held) (u : TransactionId) (o p : Option ℕ) (fs gs : List Frame) (k : ℕ) → look h.live.items u ≡ Some (o, fs) → look h.live.items u ≡ Some (p, gs) → is_on k p ≡ true → look h.live.items u ≡ Some (Some k, fs)
+held_here h u o p fs gs k a b e =
+    let both : Some (o, fs) ≡ Some (p, gs) = sym a ∙ b in
+    let pair : ◌≡◌ {A = Kept} (o, fs) (p, gs) = cc both in
+    a ∙ ap (λ x. Some (x, fs)) (ap (λ (q : Kept). q.0) pair ∙ on_some p k e)
 
 -- ---- links that end or close
 
@@ -379,14 +390,14 @@ went-no_link_end h r k told o s =
     (stands-quiet h r (entry_of (steps.LinkEnd k) nothing_drawn replies.NoLink) s a (record { declares = λ t. refl; discharges = λ t. refl; attaches = λ j. refl; closes = λ j. refl; attached = refl }) (λ t. refl))
     refl refl refl (steady-same told)
 
-pub went-link_end : (h g : Held) (r : List Entry) (k : ℕ) (told : Told) → is_in h.links.items k ≡ true → Stands h r → g.live.items ≡ filter (λ l. not (l.holder == k)) h.live.items → g.links.items ≡ filter (λ j. not (j == k)) h.links.items → g.opened ≡ h.opened → Went g told told r (steps.LinkEnd k) nothing_drawn replies.LinkEnded
+pub went-link_end : (h g : Held) (r : List Entry) (k : ℕ) (told : Told) → is_in h.links.items k ≡ true → Stands h r → g.live.items ≡ filter (λ l. not (is_on k l.holder)) h.live.items → g.links.items ≡ filter (λ j. not (j == k)) h.links.items → g.opened ≡ h.opened → Went g told told r (steps.LinkEnd k) nothing_drawn replies.LinkEnded
 went-link_end h g r k told o s lg kg og =
     let a = link_end_answer r k true replies.LinkEnded (sym (s.links k) ∙ o) tt in
     went-steady g told told r (steps.LinkEnd k) nothing_drawn replies.LinkEnded a
     (stands-closed h g r (entry_of (steps.LinkEnd k) nothing_drawn replies.LinkEnded) k s a (λ t. refl) (λ t. refl) (λ t. refl) (λ j. refl) (λ j. refl) refl lg kg og)
     refl refl refl (steady-same told)
 
-pub went-close : (h g : Held) (r : List Entry) (k : ℕ) (payload : List ℕ) (told : Told) → message_of payload ≡ None → is_in h.links.items k ≡ true → Stands h r → g.live.items ≡ filter (λ l. not (l.holder == k)) h.live.items → g.links.items ≡ filter (λ j. not (j == k)) h.links.items → g.opened ≡ h.opened → Went g told told r (steps.Control k payload) nothing_drawn (replies.LinkClosed amqp_errors.NotAllowed)
+pub went-close : (h g : Held) (r : List Entry) (k : ℕ) (payload : List ℕ) (told : Told) → message_of payload ≡ None → is_in h.links.items k ≡ true → Stands h r → g.live.items ≡ filter (λ l. not (is_on k l.holder)) h.live.items → g.links.items ≡ filter (λ j. not (j == k)) h.links.items → g.opened ≡ h.opened → Went g told told r (steps.Control k payload) nothing_drawn (replies.LinkClosed amqp_errors.NotAllowed)
 went-close h g r k payload told m o s lg kg og =
     let opened : is_open r k ≡ true = sym (s.links k) ∙ o in
     let a = control_answer r k payload None [] (replies.LinkClosed amqp_errors.NotAllowed) opened m refl in
@@ -423,14 +434,14 @@ all_same : (p q : TransactionId → Bool) (xs : List TransactionId) → ((x : Tr
 all_same p q [] h = refl
 all_same p q (x ∷ xs) h = ap (λ b. b && list_all p xs) (h x) ∙ ap (λ b. q x && b) (all_same p q xs h)
 
-pub went-declared : (h g : Held) (r : List Entry) (k : ℕ) (payload : List ℕ) (d : DrawnIds) (t : TransactionId) (told : Told) → message_of payload ≡ declare_of None → is_in h.links.items k ≡ true → Stands h r → DrewUnused h.live.items d.ids t → g.live.items ≡ h.live.items ++ record { id = t; holder = k; frames = [] } ∷ [] → g.links.items ≡ h.links.items → g.opened ≡ h.opened → Went g told told r (steps.Control k payload) d (replies.Declared t)
+pub went-declared : (h g : Held) (r : List Entry) (k : ℕ) (payload : List ℕ) (d : DrawnIds) (t : TransactionId) (told : Told) → message_of payload ≡ declare_of None → is_in h.links.items k ≡ true → Stands h r → DrewUnused h.live.items d.ids t → g.live.items ≡ h.live.items ++ record { id = t; holder = Some k; frames = [] } ∷ [] → g.links.items ≡ h.links.items → g.opened ≡ h.opened → Went g told told r (steps.Control k payload) d (replies.Declared t)
 went-declared h g r k payload d t told m o s u lg kg og =
     let opened : is_open r k ≡ true = sym (s.links k) ∙ o in
     let dead : is_live r t ≡ false = sym (kept_live h r t s) ∙ ap is_some u.unused in
     let before = u.parts.0 in
     let draws : Draws r d.ids t = (before, u.parts.1, u.count, sym (all_same (is_kept h.live.items) (is_live r) before (λ x. kept_live h r x s)) ∙ u.parts.2, dead) in
     let a = control_answer r k payload (declare_of None) d.ids (replies.Declared t) opened m draws in
-    let one : Live = record { id = t; holder = k; frames = [] } in
+    let one : Live = record { id = t; holder = Some k; frames = [] } in
     went-steady g told told r (steps.Control k payload) d (replies.Declared t) a
     (stands-declared h g r (entry_of (steps.Control k payload) d (replies.Declared t)) t s a dead opened (λ x. refl) (λ x. refl) (λ x. refl) (λ j. refl) (λ j. refl) refl
     (subst Distinct (sym lg) (Distinct_push h.live.items one u.unused s.distinct))
@@ -456,7 +467,7 @@ stayed-declare h g r k payload m o s sg = record {
 pub all-snoc : (live : List Live) (ds : List TransactionId) (d : TransactionId) → list_all (is_kept live) ds ≡ true → (look live d ≡ None → ⊥) → list_all (is_kept live) (ds ++ d ∷ []) ≡ true
 all-snoc live ds d a n = list_all-append (is_kept live) ds (d ∷ []) ∙ ap (λ b. b && (is_kept live d && true)) a ∙ here (look live d) n
   where
-    here : (o : Option (ℕ × List Frame)) → (o ≡ None → ⊥) → (is_some o && true) ≡ true
+    here : (o : Option Kept) → (o ≡ None → ⊥) → (is_some o && true) ≡ true
     here None x = absurd (x refl)
     here (Some k) x = refl
 

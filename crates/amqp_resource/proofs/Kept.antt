@@ -1,14 +1,14 @@
 -- What is kept after one change.
-use Rattle.std.proofs.Common.{◌≡◌, ℕ, zero, suc, ◌+◌, ◌<◌, ◌≤◌, Bool, true, false, cond, not, ◌&&◌, ◌||◌, Option, Some, None, List, [], ◌∷◌, ◌++◌, length, get_or, set, take, drop, refl, sym, ◌∙◌, ap, arith, subst}
+use Rattle.std.proofs.Common.{◌≡◌, ℕ, zero, suc, ◌<◌, Bool, true, false, cond, not, ◌&&◌, ◌||◌, Option, Some, None, List, [], ◌∷◌, ◌++◌, length, get_or, set, drop, refl, sym, ◌∙◌, ap, arith}
 use Rattle.std.specs.Prelude.{◌==◌}
-use Rattle.std.specs.List.{filter, list_any, remove}
-use Rattle.std.proofs.lemmas.Bool.{eqb-true, eq-eqb, ne_eqb, eqb-false, cases_Bool, and_right}
+use Rattle.std.specs.List.{filter, remove}
+use Rattle.std.proofs.lemmas.Bool.{eqb-true, and_right}
 use Rattle.amqp_txn_types.specs.declared.id.TransactionId.{TransactionId}
 use Rattle.amqp_txn_types.specs.declared.performatives.Frame.{Frame}
 use Rattle.amqp_record.specs.Entries.{same_id}
-use Rattle.amqp_record.proofs.Ids.{same_id-eq, same_id-refl, same_id-sym}
+use Rattle.amqp_record.proofs.Ids.{same_id-eq, same_id-sym}
 use Rattle.amqp_resource.specs.declared.held.Live.{Live}
-use Rattle.amqp_resource.specs.Held.{look, Distinct, StandsAt, look_without, with_frame, unless_on, is_in}
+use Rattle.amqp_resource.specs.Held.{Kept, is_on, look, Distinct, StandsAt, look_without, with_frame, unless_on, is_in}
 
 some_none : {X : Type 0} (b : Bool) (x : X) (o : Option X) → cond b (Some x) o ≡ None → (b ≡ false) × (o ≡ None)
 some_none true x o h = cc h
@@ -109,12 +109,12 @@ Distinct_set (l ∷ ls) (suc i) u k d s n e =
 -- ---- those of a link dropped
 
 abbrev pub off : ℕ → Live → Bool
-off k l = not (l.holder == k)
+off k l = not (is_on k l.holder)
 
-keep_case : (b : Bool) (k : ℕ) (l : Live) (xs : List Live) (t : TransactionId) (o : Option (ℕ × List Frame)) → (l.holder == k) ≡ b → (same_id t l.id ≡ true → o ≡ None) → look xs t ≡ unless_on k o → look (cond (not b) (l ∷ xs) xs) t ≡ unless_on k (cond (same_id t l.id) (Some (l.holder, l.frames)) o)
+keep_case : (b : Bool) (k : ℕ) (l : Live) (xs : List Live) (t : TransactionId) (o : Option Kept) → (is_on k l.holder) ≡ b → (same_id t l.id ≡ true → o ≡ None) → look xs t ≡ unless_on k o → look (cond (not b) (l ∷ xs) xs) t ≡ unless_on k (cond (same_id t l.id) (Some (l.holder, l.frames)) o)
 keep_case b k l xs t o h n e = by_case b (same_id t l.id) h refl
   where
-    by_case : (b c : Bool) → (l.holder == k) ≡ b → same_id t l.id ≡ c → look (cond (not b) (l ∷ xs) xs) t ≡ unless_on k (cond (same_id t l.id) (Some (l.holder, l.frames)) o)
+    by_case : (b c : Bool) → (is_on k l.holder) ≡ b → same_id t l.id ≡ c → look (cond (not b) (l ∷ xs) xs) t ≡ unless_on k (cond (same_id t l.id) (Some (l.holder, l.frames)) o)
     by_case false true hb hc =
         ap (λ x. cond x (Some (l.holder, l.frames)) (look xs t)) hc
         ∙ sym (ap (λ x. unless_on k (cond x (Some (l.holder, l.frames)) o)) hc ∙ ap (λ x. cond x None (Some (l.holder, l.frames))) hb)
@@ -127,7 +127,7 @@ keep_case b k l xs t o h n e = by_case b (same_id t l.id) h refl
 
 pub look_filter : (ls : List Live) (k : ℕ) (t : TransactionId) → Distinct ls → look (filter (off k) ls) t ≡ unless_on k (look ls t)
 look_filter [] k t d = refl
-look_filter (l ∷ ls) k t d = keep_case (l.holder == k) k l (filter (off k) ls) t (look ls t) refl (λ h. ap (look ls) (same_id-eq t l.id h) ∙ d.0) (look_filter ls k t d.1)
+look_filter (l ∷ ls) k t d = keep_case (is_on k l.holder) k l (filter (off k) ls) t (look ls t) refl (λ h. ap (look ls) (same_id-eq t l.id h) ∙ d.0) (look_filter ls k t d.1)
 
 pub Distinct_filter : (ls : List Live) (k : ℕ) → Distinct ls → Distinct (filter (off k) ls)
 Distinct_filter [] k d = tt
@@ -195,3 +195,41 @@ Distinct_push (x ∷ ls) l n d = (
   look_push ls l x.id (absent_here l x ls n).1 ∙ ap (λ b. cond b (Some (l.holder, l.frames)) (look ls x.id)) (same_id_sym x.id l.id (absent_here l x ls n).0) ∙ d.0,
   Distinct_push ls l (absent_here l x ls n).1 d.1,
 )
+
+-- ---- the first that stands for an id, and none
+
+pub look_first : (ls : List Live) (i : ℕ) (t : TransactionId) (d e : Live) → i < length ls → same_id t (get_or ls i d).id ≡ true → look (drop i ls) t ≡ Some ((get_or ls i e).holder, (get_or ls i e).frames)
+look_first [] i t d e h s = absurd (omega arith)
+look_first (l ∷ ls) zero t d e h s = ap (λ b. cond b (Some (l.holder, l.frames)) (look ls t)) s
+look_first (l ∷ ls) (suc i) t d e h s = look_first ls i t d e (omega arith) s
+
+-- another id than that
+abbrev pub not_id : TransactionId → Live → Bool
+not_id u l = not (same_id u l.id)
+
+pub filter_removed : (ls : List Live) (i : ℕ) (u : TransactionId) → StandsAt ls i u → filter (not_id u) (remove ls i) ≡ filter (not_id u) ls
+filter_removed [] i u s = absurd s
+filter_removed (l ∷ ls) zero u s = sym (ap (λ b. cond (not b) (l ∷ filter (not_id u) ls) (filter (not_id u) ls)) s)
+filter_removed (l ∷ ls) (suc i) u s = ap (λ xs. cond (not_id u l) (l ∷ xs) xs) (filter_removed ls i u s)
+
+without_step : (b : Bool) (l : Live) (xs ls : List Live) (u t : TransactionId) → same_id u l.id ≡ b → look xs t ≡ look_without u ls t → look (cond (not b) (l ∷ xs) xs) t ≡ look_without u (l ∷ ls) t
+without_step true l xs ls u t h e = e ∙ same_case (same_id t u) refl
+  where
+    same_case : (c : Bool) → same_id t u ≡ c → cond c None (look ls t) ≡ cond c None (look (l ∷ ls) t)
+    same_case true x = refl
+    same_case false x = sym (ap (λ b. cond b (Some (l.holder, l.frames)) (look ls t)) (ap (same_id t) (sym (same_id-eq u l.id h)) ∙ x))
+without_step false l xs ls u t h e =
+    ap (λ o. cond (same_id t l.id) (Some (l.holder, l.frames)) o) e
+    ∙ swapped (same_id t l.id) (same_id t u) (Some (l.holder, l.frames)) (look ls t) (λ a b. apart_ids l t u h a b)
+
+pub look_without_id : (ls : List Live) (u t : TransactionId) → look (filter (not_id u) ls) t ≡ look_without u ls t
+look_without_id [] u t = sym (both_none (same_id t u))
+look_without_id (l ∷ ls) u t = without_step (same_id u l.id) l (filter (not_id u) ls) ls u t refl (look_without_id ls u t)
+
+pub Distinct_without : (ls : List Live) (u : TransactionId) → Distinct ls → Distinct (filter (not_id u) ls)
+Distinct_without [] u d = tt
+Distinct_without (l ∷ ls) u d = by_case (same_id u l.id) (Distinct_without ls u d.1)
+  where
+    by_case : (b : Bool) → Distinct (filter (not_id u) ls) → Distinct (cond (not b) (l ∷ filter (not_id u) ls) (filter (not_id u) ls))
+    by_case true rest = rest
+    by_case false rest = (look_without_id ls u l.id ∙ ap (cond (same_id l.id u) None) d.0 ∙ both_none (same_id l.id u), rest)

@@ -1,51 +1,49 @@
 -- What the record says is kept, with one entry more.
-use Rattle.std.proofs.Common.{◌≡◌, ℕ, zero, suc, ◌+◌, ◌<◌, ◌≤◌, Bool, true, false, cond, not, ◌&&◌, ◌||◌, Option, Some, None, List, [], ◌∷◌, ◌++◌, length, refl, sym, ◌∙◌, ap, arith, subst, append-nil, add-zero}
+use Rattle.std.proofs.Common.{◌≡◌, ℕ, ◌+◌, ◌<◌, Bool, true, false, cond, not, ◌&&◌, ◌||◌, Option, Some, None, List, [], ◌∷◌, ◌++◌, length, refl, sym, ◌∙◌, ap, arith, subst, append-nil, add-zero}
 use Rattle.std.specs.Prelude.{◌==◌, is_some, MatchOption}
-use Rattle.std.specs.List.{list_any, filter}
-use Rattle.std.proofs.lemmas.Bool.{ne_eqb, eqb-true, eq-eqb, and_right, and_parts, and_cases, false_from_ne_true, cases_Bool}
+use Rattle.std.specs.List.{filter}
+use Rattle.std.proofs.lemmas.Bool.{ne_eqb, eqb-true, eq-eqb, and_right}
 use Rattle.amqp_txn_types.specs.declared.id.TransactionId.{TransactionId}
 use Rattle.amqp_txn_types.specs.declared.performatives.Frame.{Frame}
 use Rattle.amqp_record.specs.Entries.{same_id}
 use Rattle.amqp_record.specs.declared.entry.Entry.{Entry}
 use Rattle.amqp_record.specs.declared.step.Step.{Step}
 use Rattle.amqp_record.specs.declared.step.Step.TheVariants as steps
-use Rattle.amqp_record.specs.declared.reply.Reply.{Reply}
 use Rattle.amqp_record.specs.declared.reply.Reply.TheVariants as replies
 use Rattle.amqp_record.specs.Entries.{declares, discharges, under, attaches, closes, is_attached, step_link, reply_attaches}
 use Rattle.amqp_record.specs.Links.{is_open, attached_count}
 use Rattle.amqp_record.specs.Live.{is_live, undischarged, since, home}
 use Rattle.amqp_record.specs.Hands.{frames_of, frame_of_step}
-use Rattle.amqp_record.specs.Legal.{IsLegal}
 use Rattle.amqp_record.specs.Answers.{Answer}
-use Rattle.amqp_record.proofs.Living.{live-at, live_undischarged, live_open, live-other, live-same}
-use Rattle.amqp_record.proofs.Looking.{is_open-other, is_open-closed, home-declared, home-other, undischarged-declared, undischarged-other, frames_of-declared, frames_of-other}
+use Rattle.amqp_record.proofs.Living.{live-at, live_undischarged, live-other, live-same}
+use Rattle.amqp_record.proofs.Looking.{is_open-other, is_open-closed, home-declared, home-other, undischarged-declared, frames_of-declared, frames_of-other}
 use Rattle.amqp_record.proofs.Whole.{IsLegal-nil, IsLegal-snoc, count-snoc, is_open-attached, homes_attached}
 use Rattle.std.proofs.lemmas.List.Folds.{list_any-append}
 use Rattle.amqp_record.proofs.Ids.{same_id-refl}
 use Rattle.amqp_resource.proofs.Kept.{found, look_filter, Distinct_filter, is_in_filter}
 use Rattle.amqp_resource.specs.declared.held.Live.{Live}
 use Rattle.amqp_resource.specs.declared.held.Held.{Held}
-use Rattle.amqp_resource.specs.Held.{Stands, StandsAt, look, look_without, Distinct, is_in, kept_by, with_frame, unless_on}
+use Rattle.amqp_resource.specs.Held.{Kept, is_on, Stands, StandsAt, look, look_without, Distinct, is_in, kept_by, with_frame, unless_on}
 
-abbrev pub more_frames : Bool → Step → Option (ℕ × List Frame) → Option (ℕ × List Frame)
+abbrev pub more_frames : Bool → Step → Option Kept → Option Kept
 more_frames b s None = None
 more_frames b s (Some kept) = Some (kept.0, kept.1 ++ cond b (frame_of_step (Some s)) [])
 
 -- what is kept after such an entry
 pub kept_by-same : (r : List Entry) (e : Entry) (t : TransactionId) → declares t e ≡ false → discharges t e ≡ false → (undischarged r t ≡ true → is_open (r ++ e ∷ []) (home r t) ≡ is_open r (home r t)) → kept_by (r ++ e ∷ []) t ≡ more_frames (under t e) e.step (kept_by r t)
-kept_by-same r e t d x o = ap (λ b. cond b (Some (home (r ++ e ∷ []) t, frames_of (r ++ e ∷ []) t)) None) (live-same r e t d x o) ∙ by_case (is_live r t) refl
+kept_by-same r e t d x o = ap (λ b. cond b (Some (Some (home (r ++ e ∷ []) t), frames_of (r ++ e ∷ []) t)) None) (live-same r e t d x o) ∙ by_case (is_live r t) refl
   where
-    by_case : (b : Bool) → is_live r t ≡ b → cond (is_live r t) (Some (home (r ++ e ∷ []) t, frames_of (r ++ e ∷ []) t)) None ≡ more_frames (under t e) e.step (kept_by r t)
+    by_case : (b : Bool) → is_live r t ≡ b → cond (is_live r t) (Some (Some (home (r ++ e ∷ []) t), frames_of (r ++ e ∷ []) t)) None ≡ more_frames (under t e) e.step (kept_by r t)
     by_case true h =
-        ap (λ b. cond b (Some (home (r ++ e ∷ []) t, frames_of (r ++ e ∷ []) t)) None) h
-        ∙ ap (λ k. Some (k, frames_of (r ++ e ∷ []) t)) (home-other r e t d)
-        ∙ ap (λ fs. Some (home r t, fs)) (frames_of-other r e t d (live_undischarged r t h))
-        ∙ sym (ap (λ b. more_frames (under t e) e.step (cond b (Some (home r t, frames_of r t)) None)) h)
+        ap (λ b. cond b (Some (Some (home (r ++ e ∷ []) t), frames_of (r ++ e ∷ []) t)) None) h
+        ∙ ap (λ k. Some (Some k, frames_of (r ++ e ∷ []) t)) (home-other r e t d)
+        ∙ ap (λ fs. Some (Some (home r t), fs)) (frames_of-other r e t d (live_undischarged r t h))
+        ∙ sym (ap (λ b. more_frames (under t e) e.step (cond b (Some (Some (home r t), frames_of r t)) None)) h)
     by_case false h =
-        ap (λ b. cond b (Some (home (r ++ e ∷ []) t, frames_of (r ++ e ∷ []) t)) None) h
-        ∙ sym (ap (λ b. more_frames (under t e) e.step (cond b (Some (home r t, frames_of r t)) None)) h)
+        ap (λ b. cond b (Some (Some (home (r ++ e ∷ []) t), frames_of (r ++ e ∷ []) t)) None) h
+        ∙ sym (ap (λ b. more_frames (under t e) e.step (cond b (Some (Some (home r t), frames_of r t)) None)) h)
 
-more_none : (s : Step) (o : Option (ℕ × List Frame)) → more_frames false s o ≡ o
+more_none : (s : Step) (o : Option Kept) → more_frames false s o ≡ o
 more_none s None = refl
 more_none s (Some kept) = ap (λ fs. Some (kept.0, fs)) (append-nil kept.1)
 
@@ -55,7 +53,7 @@ kept_by-quiet r e t d x u o = kept_by-same r e t d x o ∙ ap (λ b. more_frames
 -- an accepted discharge
 pub kept_by-discharged : (r : List Entry) (e : Entry) (t : TransactionId) → declares t e ≡ false → discharges t e ≡ true → kept_by (r ++ e ∷ []) t ≡ None
 kept_by-discharged r e t d x =
-    ap (λ b. cond b (Some (home (r ++ e ∷ []) t, frames_of (r ++ e ∷ []) t)) None)
+    ap (λ b. cond b (Some (Some (home (r ++ e ∷ []) t), frames_of (r ++ e ∷ []) t)) None)
     (live-other r e t d ∙ ap (λ b. (undischarged r t && not b) && is_open (r ++ e ∷ []) (home r t)) x ∙ ap (λ b. b && is_open (r ++ e ∷ []) (home r t)) (and_right (undischarged r t) false refl))
 
 eqb_sym : (a b : ℕ) → (a == b) ≡ (b == a)
@@ -66,8 +64,8 @@ eqb_sym a b = by_case (a == b) (b == a) refl refl
     by_case false true h g = eq-eqb a b (sym (eqb-true b a g)) ∙ sym g
     by_case false false h g = h ∙ sym g
 
-unless_held : (l b : Bool) (k j : ℕ) (fs : List Frame) → (j == k) ≡ b → unless_on k (cond l (Some (j, fs)) None) ≡ cond b None (cond l (Some (j, fs)) None)
-unless_held true b k j fs h = ap (λ x. cond x None (Some (j, fs))) h
+unless_held : (l b : Bool) (k j : ℕ) (fs : List Frame) → (j == k) ≡ b → unless_on k (cond l (Some (Some j, fs)) None) ≡ cond b None (cond l (Some (Some j, fs)) None)
+unless_held true b k j fs h = ap (λ x. cond x None (Some (Some j, fs))) h
 unless_held false true k j fs h = refl
 unless_held false false k j fs h = refl
 
@@ -84,16 +82,16 @@ kept_by-closed r e k t d x u a c = by_case (k == home r t) refl
     by_case : (b : Bool) → (k == home r t) ≡ b → kept_by (r ++ e ∷ []) t ≡ unless_on k (kept_by r t)
     by_case false h = kept_by-quiet r e t d x u (λ q. is_open-other r e (home r t) (a (home r t)) (c (home r t) ∙ h)) ∙ sym (unless_kept false (here false h))
     by_case true h =
-        ap (λ b. cond b (Some (home (r ++ e ∷ []) t, frames_of (r ++ e ∷ []) t)) None)
+        ap (λ b. cond b (Some (Some (home (r ++ e ∷ []) t), frames_of (r ++ e ∷ []) t)) None)
         (live-other r e t d ∙ ap (λ b. (undischarged r t && not (discharges t e)) && b) (is_open-closed r e (home r t) (c (home r t) ∙ h)) ∙ and_right (undischarged r t && not (discharges t e)) false refl)
         ∙ sym (unless_kept true (here true h))
 
 -- a declare on a link that is open
-pub kept_by-declared : (r : List Entry) (e : Entry) (t : TransactionId) → declares t e ≡ true → is_open (r ++ e ∷ []) (step_link e.step) ≡ true → kept_by (r ++ e ∷ []) t ≡ Some (step_link e.step, [])
+pub kept_by-declared : (r : List Entry) (e : Entry) (t : TransactionId) → declares t e ≡ true → is_open (r ++ e ∷ []) (step_link e.step) ≡ true → kept_by (r ++ e ∷ []) t ≡ Some (Some (step_link e.step), [])
 kept_by-declared r e t d o =
-    ap (λ b. cond b (Some (home (r ++ e ∷ []) t, frames_of (r ++ e ∷ []) t)) None)
+    ap (λ b. cond b (Some (Some (home (r ++ e ∷ []) t), frames_of (r ++ e ∷ []) t)) None)
     (live-at (r ++ e ∷ []) t ∙ ap (λ b. b && is_open (r ++ e ∷ []) (home (r ++ e ∷ []) t)) (undischarged-declared r e t d) ∙ ap (is_open (r ++ e ∷ [])) (home-declared r e t d) ∙ o)
-    ∙ ap (λ k. Some (k, frames_of (r ++ e ∷ []) t)) (home-declared r e t d) ∙ ap (λ fs. Some (step_link e.step, fs)) (frames_of-declared r e t d)
+    ∙ ap (λ k. Some (Some k, frames_of (r ++ e ∷ []) t)) (home-declared r e t d) ∙ ap (λ fs. Some (Some (step_link e.step), fs)) (frames_of-declared r e t d)
 
 -- ---- what is kept stands for a record with one entry more
 
@@ -117,7 +115,7 @@ stands-quiet h r e s a q u = record {
   opened = s.opened ∙ sym (quiet_count r e q.attached);
 }
 
-with_more : (b : Bool) (frame : Frame) (o : Option (ℕ × List Frame)) → more_frames b (steps.Frame frame) o ≡ cond b (with_frame o frame) o
+with_more : (b : Bool) (frame : Frame) (o : Option Kept) → more_frames b (steps.Frame frame) o ≡ cond b (with_frame o frame) o
 with_more true frame None = refl
 with_more false frame None = refl
 with_more true frame (Some kept) = refl
@@ -187,7 +185,7 @@ stands-attached h g r e frames s a er de di un cl lg kg og = record {
     by_case k false x = ap (λ b. is_open r k || (b || false)) x ∙ or_false (is_open r k) ∙ sym (is_open-other r e k (says k ∙ x) (cl k))
 
 -- a closed link
-pub stands-closed : (h g : Held) (r : List Entry) (e : Entry) (k : ℕ) → Stands h r → Answer r e.step e.drawn.ids e.reply → ((t : TransactionId) → declares t e ≡ false) → ((t : TransactionId) → discharges t e ≡ false) → ((t : TransactionId) → under t e ≡ false) → ((j : ℕ) → attaches j e ≡ false) → ((j : ℕ) → closes j e ≡ (k == j)) → is_attached e.reply ≡ false → g.live.items ≡ filter (λ l. not (l.holder == k)) h.live.items → g.links.items ≡ filter (λ j. not (j == k)) h.links.items → g.opened ≡ h.opened → Stands g (r ++ e ∷ [])
+pub stands-closed : (h g : Held) (r : List Entry) (e : Entry) (k : ℕ) → Stands h r → Answer r e.step e.drawn.ids e.reply → ((t : TransactionId) → declares t e ≡ false) → ((t : TransactionId) → discharges t e ≡ false) → ((t : TransactionId) → under t e ≡ false) → ((j : ℕ) → attaches j e ≡ false) → ((j : ℕ) → closes j e ≡ (k == j)) → is_attached e.reply ≡ false → g.live.items ≡ filter (λ l. not (is_on k l.holder)) h.live.items → g.links.items ≡ filter (λ j. not (j == k)) h.links.items → g.opened ≡ h.opened → Stands g (r ++ e ∷ [])
 stands-closed h g r e k s a de di un at cl ia lg kg og = record {
   legal = IsLegal-snoc r e s.legal a;
   distinct = subst Distinct (sym lg) (Distinct_filter h.live.items k s.distinct);
@@ -201,7 +199,7 @@ stands-closed h g r e k s a de di un at cl ia lg kg og = record {
     by_case j false x = ap (λ b. is_open r j && not b) (eqb_sym j k ∙ x) ∙ and_true (is_open r j) ∙ sym (is_open-other r e j (at j) (cl j ∙ x))
 
 -- a declared id
-pub stands-declared : (h g : Held) (r : List Entry) (e : Entry) (u : TransactionId) → Stands h r → Answer r e.step e.drawn.ids e.reply → is_live r u ≡ false → is_open r (step_link e.step) ≡ true → ((t : TransactionId) → declares t e ≡ same_id t u) → ((t : TransactionId) → discharges t e ≡ false) → ((t : TransactionId) → under t e ≡ false) → ((k : ℕ) → attaches k e ≡ false) → ((k : ℕ) → closes k e ≡ false) → is_attached e.reply ≡ false → Distinct g.live.items → ((t : TransactionId) → look g.live.items t ≡ cond (same_id t u) (Some (step_link e.step, [])) (look h.live.items t)) → g.links.items ≡ h.links.items → g.opened ≡ h.opened → Stands g (r ++ e ∷ [])
+pub stands-declared : (h g : Held) (r : List Entry) (e : Entry) (u : TransactionId) → Stands h r → Answer r e.step e.drawn.ids e.reply → is_live r u ≡ false → is_open r (step_link e.step) ≡ true → ((t : TransactionId) → declares t e ≡ same_id t u) → ((t : TransactionId) → discharges t e ≡ false) → ((t : TransactionId) → under t e ≡ false) → ((k : ℕ) → attaches k e ≡ false) → ((k : ℕ) → closes k e ≡ false) → is_attached e.reply ≡ false → Distinct g.live.items → ((t : TransactionId) → look g.live.items t ≡ cond (same_id t u) (Some (Some (step_link e.step), [])) (look h.live.items t)) → g.links.items ≡ h.links.items → g.opened ≡ h.opened → Stands g (r ++ e ∷ [])
 stands-declared h g r e u s a nl op de di un at cl ia dg lg kg og = record {
   legal = IsLegal-snoc r e s.legal a;
   distinct = dg;
@@ -210,12 +208,12 @@ stands-declared h g r e u s a nl op de di un at cl ia dg lg kg og = record {
   opened = og ∙ s.opened ∙ sym (quiet_count r e ia);
 }
   where
-    by_case : (t : TransactionId) (b : Bool) → same_id t u ≡ b → cond (same_id t u) (Some (step_link e.step, [])) (look h.live.items t) ≡ kept_by (r ++ e ∷ []) t
+    by_case : (t : TransactionId) (b : Bool) → same_id t u ≡ b → cond (same_id t u) (Some (Some (step_link e.step), [])) (look h.live.items t) ≡ kept_by (r ++ e ∷ []) t
     by_case t true x =
-        ap (λ b. cond b (Some (step_link e.step, [])) (look h.live.items t)) x
+        ap (λ b. cond b (Some (Some (step_link e.step), [])) (look h.live.items t)) x
         ∙ sym (kept_by-declared r e t (de t ∙ x) (is_open-other r e (step_link e.step) (at (step_link e.step)) (cl (step_link e.step)) ∙ op))
     by_case t false x =
-        ap (λ b. cond b (Some (step_link e.step, [])) (look h.live.items t)) x ∙ s.live t
+        ap (λ b. cond b (Some (Some (step_link e.step), [])) (look h.live.items t)) x ∙ s.live t
         ∙ sym (kept_by-quiet r e t (de t ∙ x) (di t) (un t) (λ y. is_open-other r e (home r t) (at (home r t)) (cl (home r t))))
 
 -- nothing kept stands for the empty record
@@ -231,7 +229,7 @@ pub stands-new : (h : Held) → h.live.items ≡ [] → h.links.items ≡ [] →
 stands-new h l k o = record {
   legal = IsLegal-nil;
   distinct = subst Distinct (sym l) tt;
-  live = λ t. ap (λ ls. look ls t) l ∙ sym (ap (λ b. cond b (Some (home [] t, frames_of [] t)) None) (none_live t));
+  live = λ t. ap (λ ls. look ls t) l ∙ sym (ap (λ b. cond b (Some (Some (home [] t), frames_of [] t)) None) (none_live t));
   links = λ j. ap (λ ks. is_in ks j) k ∙ sym (none_open j);
   opened = o;
 }
@@ -247,7 +245,7 @@ no_links [] h = refl
 no_links (k ∷ ks) h = let here : is_in (k ∷ ks) k ≡ true = ap (λ b. b || is_in ks k) (eq-eqb k k refl) in cc (here, h k)
 
 pub new-live : (h : Held) → Stands h [] → h.live.items ≡ []
-new-live h s = no_ids h.live.items (λ t. s.live t ∙ ap (λ b. cond b (Some (home [] t, frames_of [] t)) None) (none_live t))
+new-live h s = no_ids h.live.items (λ t. s.live t ∙ ap (λ b. cond b (Some (Some (home [] t), frames_of [] t)) None) (none_live t))
 
 pub new-links : (h : Held) → Stands h [] → h.links.items ≡ []
 new-links h s = no_links h.links.items (λ k. s.links k ∙ none_open k)
@@ -257,7 +255,7 @@ pub place_live : (ls : List Live) (t : TransactionId) (o : Option ℕ) → Match
 place_live ls t None h = sym (ap is_some h)
 place_live ls t (Some i) h = sym (kept (look ls t) (found ls i t h.1))
   where
-    kept : (o : Option (ℕ × List Frame)) → (o ≡ None → ⊥) → is_some o ≡ true
+    kept : (o : Option Kept) → (o ≡ None → ⊥) → is_some o ≡ true
     kept None n = absurd (n refl)
     kept (Some x) n = refl
 

@@ -1,5 +1,5 @@
 -- What a session keeps, and the record that it stands for.
-use Rattle.std.specs.Prelude.{ℕ, zero, suc, ◌≡◌, ◌==◌, Bool, true, cond, Option, Some, None, List, [], ◌∷◌, ◌++◌}
+use Rattle.std.specs.Prelude.{ℕ, zero, suc, ◌≡◌, ◌==◌, Bool, true, false, cond, Option, Some, None, List, [], ◌∷◌, ◌++◌}
 use Rattle.std.specs.List.{list_any}
 use Rattle.amqp_txn_types.specs.declared.id.TransactionId.{TransactionId}
 use Rattle.amqp_txn_types.specs.declared.performatives.Frame.{Frame}
@@ -12,8 +12,12 @@ use Rattle.amqp_record.specs.Legal.{IsLegal}
 use Rattle.amqp_resource.specs.declared.held.Live.{Live}
 use Rattle.amqp_resource.specs.declared.held.Held.{Held}
 
--- what is kept for an id: its holder and its frames
-abbrev pub look : List Live → TransactionId → Option (ℕ × List Frame)
+-- the link that declared an id, if one did, and its frames
+abbrev pub Kept : Type 0
+Kept = Option ℕ × List Frame
+
+-- what is kept for an id
+abbrev pub look : List Live → TransactionId → Option Kept
 look [] t = None
 look (l ∷ ls) t = cond (same_id t l.id) (Some (l.holder, l.frames)) (look ls t)
 
@@ -29,18 +33,23 @@ StandsAt (l ∷ ls) zero t = same_id t l.id ≡ true
 StandsAt (l ∷ ls) (suc i) t = StandsAt ls i t
 
 -- what is kept, without that of one id
-abbrev pub look_without : TransactionId → List Live → TransactionId → Option (ℕ × List Frame)
+abbrev pub look_without : TransactionId → List Live → TransactionId → Option Kept
 look_without u ls t = cond (same_id t u) None (look ls t)
 
 -- one frame more
-abbrev pub with_frame : Option (ℕ × List Frame) → Frame → Option (ℕ × List Frame)
+abbrev pub with_frame : Option Kept → Frame → Option Kept
 with_frame None frame = None
 with_frame (Some kept) frame = Some (kept.0, kept.1 ++ frame ∷ [])
 
+-- the link is the one that declared it
+abbrev pub is_on : ℕ → Option ℕ → Bool
+is_on k None = false
+is_on k (Some j) = j == k
+
 -- what is kept, unless it was declared on the link
-abbrev pub unless_on : ℕ → Option (ℕ × List Frame) → Option (ℕ × List Frame)
+abbrev pub unless_on : ℕ → Option Kept → Option Kept
 unless_on k None = None
-unless_on k (Some kept) = cond (kept.0 == k) None (Some kept)
+unless_on k (Some kept) = cond (is_on k kept.0) None (Some kept)
 
 -- the link is among these
 abbrev pub is_in : List ℕ → ℕ → Bool
@@ -53,8 +62,8 @@ pub record SameHeld (old new : Held) : Type 0 where
   pub opened : new.opened ≡ old.opened
 
 -- what the record says that is kept for an id: the link that declared it and its frames since
-abbrev pub kept_by : List Entry → TransactionId → Option (ℕ × List Frame)
-kept_by r t = cond (is_live r t) (Some (home r t, frames_of r t)) None
+abbrev pub kept_by : List Entry → TransactionId → Option Kept
+kept_by r t = cond (is_live r t) (Some (Some (home r t), frames_of r t)) None
 
 -- what is kept stands for the record: the record is legal, each id has what the record says, and so have the links
 pub record Stands (h : Held) (r : List Entry) : Type 0 where

@@ -5,6 +5,8 @@ pub mod Draws
 pub mod Steps
 pub mod Complete
 pub mod Session
+pub mod Transacting
+pub mod Calls
 pub mod Drive
 pub mod Listed
 pub mod Counted

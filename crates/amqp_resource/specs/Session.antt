@@ -1,5 +1,5 @@
 -- The parts of a session that clauses speak of.
-use Rattle.std.specs.Prelude.{ℕ, ◌≡◌, Bool, Option, Some, None, Result, Ok, Err, List, [], is_some}
+use Rattle.std.specs.Prelude.{ℕ, ◌≡◌, Bool, Option, Some, None, Result, Ok, Err, List, []}
 use Rattle.amqp_txn_types.specs.declared.id.TransactionId.{TransactionId}
 use Rattle.amqp_txn_types.specs.declared.small.SessionState.TheVariants.{Mapped}
 use Rattle.amqp_below.specs.Drawn.{DrawnIds}
@@ -30,6 +30,10 @@ told_of told x = told x.below
 -- the code of its stop, once it has stopped
 abbrev pub stop_of : {S : Type 0} → TxnSession S → Option StopCode
 stop_of x = x.stop
+
+-- how often its own transactional calls refused
+abbrev pub refusals_of : {S : Type 0} → TxnSession S → ℕ
+refusals_of x = x.refusals
 
 -- how many control links it has opened
 abbrev pub opened_of : {S : Type 0} → TxnSession S → ℕ

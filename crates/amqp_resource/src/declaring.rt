@@ -4,14 +4,16 @@ ghost use Rattle.std.specs.Prelude.{◌≡◌, ◌≤◌, ℕ, [], true, Some, N
 ghost use Rattle.amqp_txn_codec.specs.Reading.{message_of};
 ghost use Rattle.amqp_txn_codec.specs.declared.message.ControlMessageBody.TheVariants as messages;
 ghost use Rattle.amqp_below.specs.Ids.{Drew};
+ghost use Rattle.amqp_below.specs.Transacting.{Allocates};
 ghost use Rattle.amqp_record.specs.declared.step.Step.TheVariants as steps;
 ghost use Rattle.amqp_resource.specs.Held.{SameHeld, is_in};
 ghost use Rattle.amqp_resource.specs.Draws.{DrewUnused, DrewLive};
+ghost use Rattle.amqp_resource.specs.Transacting.{AllocatedIn};
 ghost use Rattle.amqp_resource.specs.Steps.{StepsHere, StepCause, OnNoMemory, nothing_drawn};
 
 use crate::held::{Held, Live, place_of};
 use crate::outcomes::no_draws;
-use amqp_below::{Drawn, IdSource};
+use amqp_below::{AllocTxnIdError, Drawn, IdSource};
 use amqp_record::{RejectText, Reply, StepError};
 use amqp_txn_types::{Frames, Payload, TransactionError, TransactionId};
 use std::alloc::Global;
@@ -87,7 +89,7 @@ pub fn declare_step<G: IdSource>(
         Some(id) => {
             held.live.push_reserved(Live {
                 id,
-                holder: link,
+                holder: Some(link),
                 frames: Frames::new(alloc),
             });
             Ok((drawn, Reply::Declared(id)))
@@ -99,5 +101,35 @@ pub fn declare_step<G: IdSource>(
                 text: RejectText::IdsRepeat,
             },
         )),
+    }
+}
+
+/// Allocates an id: the first drawn that isn't live becomes live, declared on no link.
+pub fn allocate<G: IdSource>(
+    held: &mut Held,
+    alloc: Global,
+    ids: &mut G,
+) -> Result<Drawn, AllocTxnIdError>
+    ensures gave { AllocatedIn held.old held.new result }
+    ensures drew { Allocates (G.next ids.old) (G.next ids.new) result }
+    ensures start { G.start ids.new ≡ G.start ids.old }
+{
+    let mut drawn = Drawn::new(alloc);
+    let Ok(()) = drawn.make_room() else {
+        return Err(AllocTxnIdError::NoMemory);
+    };
+    let Ok(()) = held.live.reserve(1) else {
+        return Err(AllocTxnIdError::NoMemory);
+    };
+    match draw_unused(held.live.as_slice(), ids, &mut drawn) {
+        Some(id) => {
+            held.live.push_reserved(Live {
+                id,
+                holder: None,
+                frames: Frames::new(alloc),
+            });
+            Ok(drawn)
+        }
+        None => Err(AllocTxnIdError::IdsRepeat(drawn)),
     }
 }

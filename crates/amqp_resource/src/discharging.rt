@@ -8,15 +8,16 @@ ghost use Rattle.amqp_record.specs.declared.step.Step.TheVariants as steps;
 ghost use Rattle.amqp_record.specs.declared.reply.Reply.TheVariants as replies;
 ghost use Rattle.amqp_record.specs.declared.reply.RejectText.TheVariants as texts;
 ghost use Rattle.amqp_resource.specs.Held.{SameHeld, is_in};
+ghost use Rattle.amqp_resource.specs.Transacting.{CommittedIn, RolledBackIn};
 ghost use Rattle.amqp_resource.specs.Steps.{Steps, StepCause, OnNoMemory, OnOwnError, nothing_drawn};
 
 use crate::committing::hand_all;
-use crate::held::{Held, Live, place_of, take_at};
+use crate::held::{Held, Live, is_declared_on, place_of, take_at};
 use crate::outcomes::{fault_of, no_draws};
-use amqp_below::{Drawn, Echoes, LayerBelow};
+use amqp_below::{CommitFault, Drawn, Echoes, LayerBelow};
 use amqp_record::{RejectText, Reply, StepError, rolls_back};
 use amqp_txn_codec::Discharge;
-use amqp_txn_types::{Payload, TransactionError};
+use amqp_txn_types::{Accepted, Payload, TransactionError, TransactionId};
 use std::alloc::Global;
 
 /// The reply to a discharge of an id that isn't both live and declared on the link.
@@ -51,7 +52,8 @@ pub fn discharge_step<S: LayerBelow>(
     let Some(at) = place_of(held.live.as_slice(), discharge.txn_id) else {
         return Ok((no_draws(alloc), absent()));
     };
-    if held.live[at].holder != link {
+    let declared_here = is_declared_on(&held.live[at], link);
+    if !declared_here {
         return Ok((no_draws(alloc), absent()));
     }
     if rolls_back(discharge.fail) {
@@ -74,4 +76,46 @@ pub fn discharge_step<S: LayerBelow>(
             handed: refusal.handed,
         }),
     }
+}
+
+/// Commits an id, whichever link declared it: room for the answers first, then it ends and its frames
+/// are handed.
+pub fn commit_kept<S: LayerBelow>(
+    held: &mut Held,
+    below: &mut S,
+    alloc: Global,
+    id: TransactionId,
+) -> Result<Result<Echoes, TransactionError>, CommitFault>
+    ensures { CommittedIn held.old held.new (S.told below.old) (S.told below.new) id (below.new ≡ below.old) result }
+{
+    let Some(at) = place_of(held.live.as_slice(), id) else {
+        return Ok(Err(TransactionError::UnknownId));
+    };
+    let room = held.live[at].frames.len();
+    let Ok(echoes) = Vec::with_capacity(alloc, room) else {
+        return Err(CommitFault::NoMemory);
+    };
+    let Live {
+        id: _,
+        holder: _,
+        frames,
+    } = take_at(&mut held.live, at, id);
+    match hand_all(below, frames.into_vec(), echoes) {
+        Ok(echoes) => Ok(Ok(echoes)),
+        Err(refusal) => Err(CommitFault::Refused {
+            error: fault_of(refusal.error),
+            handed: refusal.handed,
+        }),
+    }
+}
+
+/// Rolls an id back, whichever link declared it: it ends and its frames are let go.
+pub fn roll_back_kept(held: &mut Held, id: TransactionId) -> Result<Accepted, TransactionError>
+    ensures { RolledBackIn held.old held.new id result }
+{
+    let Some(at) = place_of(held.live.as_slice(), id) else {
+        return Err(TransactionError::UnknownId);
+    };
+    let _dropped = take_at(&mut held.live, at, id);
+    Ok(Accepted)
 }

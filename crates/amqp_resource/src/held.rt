@@ -1,19 +1,21 @@
 //! What a session keeps: the live ids with their frames, and the open control links.
 
-ghost use Rattle.std.specs.Prelude.{◌≡◌, ◌<◌, ◌↔◌, IsTrue, ◌∷◌, ◌++◌, [], ℕ, not, ◌==◌, length, OnOk, OnErr, MatchOption, None, Some, cond, slice_index_or};
+ghost use Rattle.std.specs.Prelude.{◌≡◌, ◌<◌, ◌↔◌, IsTrue, ◌∷◌, ◌++◌, [], ℕ, not, ◌==◌, length, OnOk, OnErr, IfSome, MatchOption, None, Some, cond, slice_index_or};
 ghost use Rattle.std.specs.List.{filter};
 ghost use Rattle.amqp_txn_types.specs.declared.id.TransactionId.{TransactionId as Id};
+ghost use Rattle.amqp_resource.specs.declared.held.Live.{Live as OneLive};
 ghost use Rattle.amqp_record.specs.Entries.{same_id};
 ghost use Rattle.amqp_resource.specs.Draws.{is_kept};
-ghost use Rattle.amqp_resource.specs.Held.{Stands, look, StandsAt, Distinct, look_without, with_frame, is_in};
+ghost use Rattle.amqp_resource.specs.Held.{Stands, look, StandsAt, Distinct, look_without, with_frame, is_in, is_on};
 
 use amqp_txn_types::{Frame, Frames, NoMemory, TransactionId};
 
-/// A live id, the link that declared it and the frames that came under it, as they came.
+/// A live id, the link that declared it and the frames that came under it, as they came. An id that
+/// the session allocated by itself was declared on no link.
 #[derive(Drop)]
 pub struct Live {
     pub id: TransactionId,
-    pub holder: u64,
+    pub holder: Option<u64>,
     pub frames: Frames,
 }
 
@@ -45,9 +47,10 @@ pub fn has_id(live: &[Live], id: TransactionId) -> bool
     place_of(live, id).is_some()
 }
 
-/// The place of an id.
+/// The place of an id, the first one.
 pub fn place_of(live: &[Live], id: TransactionId) -> Option<usize>
-    ensures { MatchOption result (look live.now id ≡ None) (λ i. (i < length live.now) × StandsAt live.now i id) }
+    ensures place { MatchOption result (look live.now id ≡ None) (λ i. (i < length live.now) × StandsAt live.now i id) }
+    ensures kept { IfSome result (λ i. (d : OneLive) → look live.now id ≡ Some ((slice_index_or live.now i d).holder, (slice_index_or live.now i d).frames)) }
 {
     for (i, one) in live.iter().enumerate() {
         if id == one.id {
@@ -85,23 +88,36 @@ pub fn keep_at(
     push_frame(&mut one.frames, frame)
 }
 
-/// Takes out the id at the place.
+/// Takes out the id at the place: nothing is kept for it any more.
 pub fn take_at(live: &mut Vec<Live>, at: usize, id: TransactionId) -> Live
     requires at { at < length live.old.items }
     requires stands { StandsAt live.old.items at id }
     ensures taken { Distinct live.old.items → look live.old.items id ≡ Some (result.holder, result.frames) }
     ensures value { result ≡ slice_index_or live.old.items at result }
-    ensures rest { Distinct live.old.items → (t : Id) → look live.new.items t ≡ look_without id live.old.items t }
+    ensures rest { (t : Id) → look live.new.items t ≡ look_without id live.old.items t }
     ensures distinct { Distinct live.old.items → Distinct live.new.items }
 {
-    live.remove(at)
+    let taken = live.remove(at);
+    // No id stands twice, so this finds no other. With it the id is gone whatever stood there.
+    live.retain(|one| id != one.id);
+    taken
+}
+
+/// Whether the id was declared on the link.
+pub fn is_declared_on(one: &Live, link: u64) -> bool
+    ensures { result ≡ is_on link one.now.holder }
+{
+    match one.holder {
+        Some(holder) => holder == link,
+        None => false,
+    }
 }
 
 /// Lets go what was declared on the link.
 pub fn drop_held_on(live: &mut Vec<Live>, link: u64)
-    ensures { live.new.items ≡ filter (λ l. not (l.holder == link)) live.old.items }
+    ensures { live.new.items ≡ filter (λ l. not (is_on link l.holder)) live.old.items }
 {
-    live.retain(|one| one.holder != link);
+    live.retain(|one| !is_declared_on(one, link));
 }
 
 /// Closes a link.

@@ -12,6 +12,8 @@
 //! ```
 //!
 //! [`drive`] makes a list of steps on a fresh session, and gives its entries and why it stopped.
+//! A session also has the calls of `HandleDeclare` and `HandleDischarge`: an id that they allocate is
+//! declared on no link, and only they discharge it.
 //!
 //! Below stand the types, the codec of control messages, the traits of the outside, and the record
 //! with its definitions, which look back over the entries of a session and know nothing of what it
@@ -35,6 +37,7 @@ mod link_steps;
 mod outcomes;
 mod session;
 mod taking;
+mod transacting;
 
 pub use counting::{CountIds, numbered_id};
 pub use driving::drive;

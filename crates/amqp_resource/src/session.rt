@@ -12,7 +12,7 @@ ghost use Rattle.amqp_record.specs.Live.{is_live};
 ghost use Rattle.amqp_record.specs.Answers.{Answer};
 ghost use Rattle.amqp_resource.specs.Steps.{entry_of, ended_by, takes_memory, AnswersEnd, IfEnded, IfRefused, IfUnknown, IsControlAttach, IsFirstStop, MayFault, OnAttachRefused, OnNoMemory, OnOwnError, OpenedBy, RefusedAdds, RefusedBy, TookFirst, TookHands, UnderDead};
 ghost use Rattle.amqp_resource.specs.Complete.{InOrder, Completed};
-ghost use Rattle.amqp_resource.specs.Session.{ForEachRecord, IsFresh, SameSession, StandsFor, StopAfter, below_of, is_live_on, opened_of, stop_of, told_of};
+ghost use Rattle.amqp_resource.specs.Session.{ForEachRecord, IsFresh, SameSession, StandsFor, StopAfter, below_of, is_live_on, opened_of, refusals_of, stop_of, told_of};
 
 use crate::acting::act;
 use crate::held::{Held, has_id, keeps_nothing};
@@ -27,9 +27,10 @@ use std::alloc::Global;
 /// Once a refusal below, a frame under an id that isn't live or an end stopped it, it does nothing more.
 #[derive(Drop)]
 pub struct TxnSession<S> {
-    held: Held,
-    below: S,
-    stop: Option<StopCode>,
+    pub(crate) held: Held,
+    pub(crate) below: S,
+    pub(crate) stop: Option<StopCode>,
+    pub(crate) refusals: u64,
     alloc: Global,
 }
 
@@ -60,6 +61,7 @@ impl<S: LayerBelow> TxnSession<S> {
         ensures stands { StandsFor result [] }
         ensures stop { stop_of result ≡ None }
         ensures below { below_of result ≡ below }
+        ensures refusals { refusals_of result ≡ 0 }
     {
         TxnSession {
             held: Held {
@@ -69,6 +71,7 @@ impl<S: LayerBelow> TxnSession<S> {
             },
             below,
             stop: None,
+            refusals: 0,
             alloc,
         }
     }
@@ -87,7 +90,8 @@ impl<S: LayerBelow> TxnSession<S> {
         self.below.local_state() == SessionState::Mapped
     }
 
-    /// Whether the id is live: declared, not discharged since, on a link that is open.
+    /// Whether the id is live: declared on a link that is open, or allocated by a call of the session,
+    /// and not discharged since.
     pub fn is_live(&self, txn_id: &TransactionId) -> bool
         ensures kept { result ≡ is_live_on self.now txn_id.now }
         ensures as_record { (r : List Entry) → StandsFor self.now r → result ≡ is_live r txn_id.now }
@@ -187,6 +191,8 @@ impl<S: LayerBelow> TxnSession<S> {
         ensures untouched { OnOwnError result (below_of self.new ≡ below_of self.old) }
         ensures later { (told_of S.told self.old).refusals ≤ (told_of S.told self.new).refusals }
         ensures fixed { (told_of S.told self.new).fixed ≡ (told_of S.told self.old).fixed }
+        // The session's own transactional calls have no part in it.
+        ensures refusals { refusals_of self.new ≡ refusals_of self.old }
         // The stop that is kept.
         ensures stops { stop_of self.old ≡ None → StopAfter result (stop_of self.new) }
         // The ids drawn are the source's next ones, and every error leaves the source.

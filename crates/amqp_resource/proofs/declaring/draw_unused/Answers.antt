@@ -1,4 +1,4 @@
-use Rattle.std.proofs.Common.{rules, ap, sym, ◌∙◌, refl, subst, List, ◌++◌, ◌∷◌, [], ◌≡◌, arith, length, ◌+◌, true}
+use Rattle.std.proofs.Common.{ap, sym, ◌∙◌, subst, List, ◌++◌, ◌∷◌, [], ◌≡◌, arith, length, ◌+◌}
 use Rattle.std.specs.List.{list_all}
 use Rattle.std.proofs.lemmas.List.{length-append}
 use Rattle.amqp_txn_types.specs.declared.id.TransactionId.{TransactionId}
@@ -25,7 +25,7 @@ loop-turn-preserved g c =
     record {
       count = ap length items ∙ length-append c.loop-turn.drawn.ids (c.draw-id.result ∷ []) ∙ ap (λ n. n + 1) c.loop-turn.invariant.count;
       room = omega (arith, c.loop-turn.invariant.room, c.push.ensures.spare);
-      all = ap (list_all (is_kept c.args.live.now)) items ∙ all-snoc c.args.live.now c.loop-turn.drawn.ids c.draw-id.result c.loop-turn.invariant.all (found c.args.live.now c.in-Some.field-0 c.draw-id.result c.in-Some.ensures.1);
+      all = ap (list_all (is_kept c.args.live.now)) items ∙ all-snoc c.args.live.now c.loop-turn.drawn.ids c.draw-id.result c.loop-turn.invariant.all (found c.args.live.now c.in-Some.field-0 c.draw-id.result c.in-Some.ensures.place.1);
       drew =
           subst (λ (ds : List TransactionId). Drew start end ds) (sym items)
           (Drew-append start mid end c.loop-turn.drawn.ids (c.draw-id.result ∷ []) c.loop-turn.invariant.drew (Drew-one mid end c.draw-id.result c.draw-id.ensures.drawn c.draw-id.ensures.rest));

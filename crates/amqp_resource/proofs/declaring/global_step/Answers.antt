@@ -1,4 +1,3 @@
-use Rattle.std.proofs.Common.{rules, ap, sym, ◌∙◌, refl}
 use Rattle.amqp_resource.proofs.Going.{went-global}
 use Rattle.amqp_resource.proofs.declaring.global_step.Goals as goal
 

@@ -1,4 +1,4 @@
-use Rattle.std.proofs.Common.{rules, refl, sym, ◌∙◌, ap, get_or}
+use Rattle.std.proofs.Common.{refl, ap}
 use Rattle.std.proofs.lemmas.Result.{on_ok_weaker}
 use Rattle.amqp_resource.proofs.Kept.{look_kept, Distinct_set}
 use Rattle.amqp_resource.proofs.held.keep_at.Goals as goal

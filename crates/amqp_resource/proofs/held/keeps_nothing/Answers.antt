@@ -1,5 +1,3 @@
-use Rattle.std.proofs.Common.{rules, ◌∙◌, sym, ◌≡◌, true, refl, arith}
-use Rattle.std.specs.Prelude.{◌==◌}
 use Rattle.std.proofs.lemmas.Bool.{eqb-true, eq-eqb}
 use Rattle.amqp_resource.proofs.Standing.{stands-new, new-live, new-links, empty_items, some_items}
 use Rattle.amqp_resource.proofs.held.keeps_nothing.Goals as goal

@@ -1,0 +1,72 @@
+-- What the transactional calls of a session do. An id that such a call allocates is declared on no
+-- link: no control message discharges it, and no end of a link aborts it.
+use Rattle.std.specs.Prelude.{ℕ, ◌≡◌, true, false, cond, Option, Some, None, Result, Ok, Err, List, []}
+use Rattle.amqp_txn_types.specs.declared.id.TransactionId.{TransactionId}
+use Rattle.amqp_txn_types.specs.declared.performatives.Frame.{Frame}
+use Rattle.amqp_txn_types.specs.declared.small.Accepted.{Accepted}
+use Rattle.amqp_txn_types.specs.declared.small.TransactionError.{TransactionError}
+use Rattle.amqp_txn_types.specs.declared.small.TransactionError.TheVariants as conditions
+use Rattle.amqp_below.specs.declared.answers.Answers.{Answers}
+use Rattle.amqp_below.specs.declared.inner_error.SessionInnerError.{SessionInnerError}
+use Rattle.amqp_below.specs.declared.transacting.AllocTxnIdError.{AllocTxnIdError}
+use Rattle.amqp_below.specs.declared.transacting.AllocTxnIdError.TheVariants as allocations
+use Rattle.amqp_below.specs.declared.transacting.CommitFault.{CommitFault}
+use Rattle.amqp_below.specs.declared.transacting.CommitFault.TheVariants as commit_faults
+use Rattle.amqp_below.specs.Drawn.{DrawnIds}
+use Rattle.amqp_below.specs.Told.{Told}
+use Rattle.amqp_record.specs.Entries.{same_id}
+use Rattle.amqp_resource.specs.declared.held.Held.{Held}
+use Rattle.amqp_resource.specs.declared.held.Live.{Live}
+use Rattle.amqp_resource.specs.Committing.{HandsAll}
+use Rattle.amqp_resource.specs.Draws.{DrewLive, DrewUnused, is_kept}
+use Rattle.amqp_resource.specs.Held.{Kept, SameHeld, look, look_without}
+use Rattle.amqp_resource.specs.Steps.{fault_of}
+
+-- the frames of what is kept
+abbrev pub frames_in : Option Kept → List Frame
+frames_in None = []
+frames_in (Some kept) = kept.1
+
+-- the frames that are kept for the id, in the order in which they came
+abbrev pub frames_kept : List Live → TransactionId → List Frame
+frames_kept live id = frames_in (look live id)
+
+-- the id is live, on no link and with no frames; all else is as it was
+pub record Added (old new : Held) (id : TransactionId) : Type 0 where
+  pub live : (t : TransactionId) → look new.live.items t ≡ cond (same_id t id) (Some (None, [])) (look old.live.items t)
+  pub links : new.links.items ≡ old.links.items
+  pub opened : new.opened ≡ old.opened
+
+-- the id is live no more; all else is as it was
+pub record Ended (old new : Held) (id : TransactionId) : Type 0 where
+  pub live : (t : TransactionId) → look new.live.items t ≡ look_without id old.live.items t
+  pub links : new.links.items ≡ old.links.items
+  pub opened : new.opened ≡ old.opened
+
+-- an allocation: the ids drawn were live but for the last, which now is; or all 16 of them were live
+abbrev pub AllocatedIn : Held → Held → Result DrawnIds AllocTxnIdError → Type 0
+AllocatedIn old new (Ok drawn) = (id : TransactionId) × DrewUnused old.live.items drawn.ids id × Added old new id
+AllocatedIn old new (Err (allocations.IdsRepeat drawn)) = DrewLive old.live.items drawn.ids × SameHeld old new
+AllocatedIn old new (Err allocations.NotImplemented) = ⊥
+AllocatedIn old new (Err allocations.NoMemory) = SameHeld old new
+
+-- the layer below refused a frame of a commit; its unknown id is given as an illegal state
+abbrev pub RefusedCommit : Told → Told → List Frame → SessionInnerError → ℕ → Type 0
+RefusedCommit told now kept error handed =
+    (own : SessionInnerError) × (error ≡ fault_of own) × HandsAll told now kept (Err (record { error = own; handed = handed }))
+
+-- a commit: the frames kept for a live id were handed, all of them or the first, and the id ended
+abbrev pub CommittedIn : Held → Held → Told → Told → TransactionId → Type 0 → Result (Result (List Answers) TransactionError) CommitFault → Type 0
+CommittedIn old new told now id Untouched (Ok (Ok echoes)) =
+    (is_kept old.live.items id ≡ true) × Ended old new id × HandsAll told now (frames_kept old.live.items id) (Ok echoes)
+CommittedIn old new told now id Untouched (Ok (Err error)) =
+    (is_kept old.live.items id ≡ false) × (error ≡ conditions.UnknownId) × SameHeld old new × Untouched
+CommittedIn old new told now id Untouched (Err commit_faults.NoMemory) =
+    (is_kept old.live.items id ≡ true) × SameHeld old new × Untouched
+CommittedIn old new told now id Untouched (Err (commit_faults.Refused error handed)) =
+    (is_kept old.live.items id ≡ true) × Ended old new id × RefusedCommit told now (frames_kept old.live.items id) error handed
+
+-- a rollback: a live id ended
+abbrev pub RolledBackIn : Held → Held → TransactionId → Result Accepted TransactionError → Type 0
+RolledBackIn old new id (Ok accepted) = (is_kept old.live.items id ≡ true) × Ended old new id
+RolledBackIn old new id (Err error) = (is_kept old.live.items id ≡ false) × (error ≡ conditions.UnknownId) × SameHeld old new
