@@ -1,5 +1,5 @@
 -- A valid step during which nothing is refused below does what was asked.
-use Rattle.std.proofs.Common.{◌≡◌, ℕ, suc, ◌+◌, Bool, true, false, Option, Some, None, Result, Ok, Err, List, [], ◌∷◌, length, refl, sym, ◌∙◌, ap, arith, subst}
+use Rattle.std.proofs.Common.{◌≡◌, ℕ, ◌+◌, Bool, true, false, Option, Some, None, Result, Ok, Err, List, [], ◌∷◌, length, refl, sym, ◌∙◌, ap, arith}
 use Rattle.std.specs.Prelude.{MatchBool, IfOk}
 use Rattle.std.specs.List.{list_all}
 use Rattle.amqp_txn_types.specs.declared.id.TransactionId.{TransactionId}
@@ -26,7 +26,7 @@ use Rattle.amqp_record.specs.Live.{is_live, is_held_on}
 use Rattle.amqp_record.specs.Answers.{Answer, AnswerFrame, AnswerControl, AnswerDeclare, AnswerDischarge, AnswerMessage, AnswerLinkEnd}
 use Rattle.amqp_record.specs.Valid.{Valid, ValidFrame, ValidDeclare, ValidMessage}
 use Rattle.amqp_resource.specs.declared.held.Held.{Held}
-use Rattle.amqp_resource.specs.Steps.{IfAttachRefused, IsDead, Refused, StepGave, StepCause, UnderDead, ended_by, is_unknown}
+use Rattle.amqp_resource.specs.Steps.{IfAttachRefused, IsDead, Refused, StepGave, StepCause, UnderDead, is_unknown}
 use Rattle.amqp_resource.specs.Complete.{DoesIt, Completed, InOrder}
 
 -- ids of one stream from one place are the same, if they are as many

@@ -1,7 +1,6 @@
 -- The parts of what a step leaves, as its public clauses say them.
-use Rattle.std.proofs.Common.{◌≡◌, ℕ, Bool, true, false, Option, Some, None, Result, Ok, Err, List, [], ◌∷◌, ◌++◌, length, take, refl, sym, ◌∙◌, ap, subst, inl, inr, ◌≤◌}
+use Rattle.std.proofs.Common.{◌≡◌, ℕ, Bool, true, false, Option, Some, None, Result, Ok, Err, List, [], ◌∷◌, ◌++◌, refl, sym, ◌∙◌, ap, inl, inr}
 use Rattle.std.specs.Prelude.{◌⊎◌, ⊤, is_some, MatchBool, IfOk, IfErr, OnErr}
-use Rattle.std.specs.List.{zip}
 use Rattle.amqp_txn_types.specs.declared.id.TransactionId.{TransactionId}
 use Rattle.amqp_txn_types.specs.declared.delivery.Error.{Error}
 use Rattle.amqp_txn_types.specs.declared.delivery.SessionStopReason.{SessionStopReason}
@@ -12,9 +11,8 @@ use Rattle.amqp_txn_codec.specs.declared.message.ControlMessageBody.TheVariants 
 use Rattle.amqp_txn_codec.specs.Reading.{message_of}
 use Rattle.amqp_below.specs.declared.inner_error.SessionInnerError.{SessionInnerError}
 use Rattle.amqp_below.specs.declared.inner_error.SessionInnerError.TheVariants as faults
-use Rattle.amqp_below.specs.declared.refusal.Refusal.{Refusal}
 use Rattle.amqp_below.specs.Drawn.{DrawnIds}
-use Rattle.amqp_below.specs.Told.{Told, grown, Rose}
+use Rattle.amqp_below.specs.Told.{Told, Rose}
 use Rattle.amqp_record.specs.declared.entry.Entry.{Entry}
 use Rattle.amqp_record.specs.declared.step.Step.{Step}
 use Rattle.amqp_record.specs.declared.step.Step.TheVariants as steps
@@ -23,16 +21,11 @@ use Rattle.amqp_record.specs.declared.reply.Reply.TheVariants as replies
 use Rattle.amqp_record.specs.declared.stop.StepError.{StepError}
 use Rattle.amqp_record.specs.declared.stop.StepError.TheVariants as errors
 use Rattle.amqp_record.specs.Links.{is_open}
-use Rattle.amqp_record.specs.Live.{is_live}
-use Rattle.amqp_record.specs.Hands.{hands}
-use Rattle.amqp_record.specs.Work.{given_by}
-use Rattle.amqp_record.specs.Answers.{Answer, AnswerFrame, AnswerControl, AnswerDeclare, AnswerMessage, AnswerLinkEnd}
-use Rattle.amqp_record.specs.Opened.{opened_by, refused_by}
+use Rattle.amqp_record.specs.Answers.{Answer, AnswerFrame, AnswerControl, AnswerDeclare, AnswerLinkEnd}
 use Rattle.amqp_resource.specs.declared.held.Held.{Held}
 use Rattle.amqp_resource.specs.Held.{SameHeld, Stands}
 use Rattle.amqp_resource.specs.declared.session.TxnSession.{TxnSession}
 use Rattle.amqp_resource.specs.Session.{SameSession, StopAfter, below_of, held_of, stop_of}
-use Rattle.amqp_resource.specs.Taking.{TookFrames}
 use Rattle.amqp_resource.specs.Steps.{AnswersEnd, EndGave, FrameMayFault, IfAttachRefused, IfEnded, IfRefused, IfUnknown, IsControlAttach, IsDead, IsFirstStop, MayFault, OnAttachRefused, OnNoMemory, OnOwnError, OpenedBy, Refused, RefusedAdds, RefusedBy, StepCause, StepGave, TookFirst, TookHands, UnderDead, ended_by, entry_of, is_live_under, is_unknown, has_error, local_end, remote_end, takes_memory}
 
 -- ---- choices

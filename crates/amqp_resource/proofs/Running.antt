@@ -1,16 +1,14 @@
 -- A run, step by step, and its end.
-use Rattle.std.proofs.Common.{◌≡◌, ℕ, ◌+◌, ◌-◌, ◌^◌, ◌≤◌, ◌<◌, min, Bool, true, false, not, cond, Option, Some, None, Result, Ok, Err, List, [], ◌∷◌, ◌++◌, length, take, refl, sym, ◌∙◌, ap, arith, subst, append-nil, append_assoc, zero-add, inl, inr}
+use Rattle.std.proofs.Common.{◌≡◌, ℕ, ◌+◌, ◌-◌, ◌^◌, ◌≤◌, min, Bool, true, false, not, cond, Option, Some, Result, Err, List, [], ◌∷◌, ◌++◌, length, take, refl, sym, ◌∙◌, ap, arith, subst, append-nil, append_assoc, zero-add, inl, inr}
 use Rattle.std.specs.Prelude.{◌⊎◌, ◌↔◌, ⊤, MatchBool}
-use Rattle.std.specs.List.{zip, flat_map, count_by}
+use Rattle.std.specs.List.{zip, flat_map}
 use Rattle.std.proofs.lemmas.List.{map-append, length-append, length-map}
 use Rattle.std.proofs.lemmas.List.Concat.{flat_map-append}
 use Rattle.std.proofs.lemmas.List.Sums.{sum_by-append}
 use Rattle.amqp_txn_types.specs.declared.id.TransactionId.{TransactionId}
 use Rattle.amqp_txn_types.specs.declared.delivery.SessionStopReason.{SessionStopReason}
 use Rattle.amqp_txn_types.specs.declared.performatives.Frame.{Frame}
-use Rattle.amqp_below.specs.declared.inner_error.SessionInnerError.{SessionInnerError}
 use Rattle.amqp_below.specs.declared.inner_error.SessionInnerError.TheVariants as faults
-use Rattle.amqp_below.specs.declared.refusal.Refusal.{Refusal}
 use Rattle.amqp_below.specs.Drawn.{DrawnIds}
 use Rattle.amqp_below.specs.Told.{Told, grown, Rose}
 use Rattle.amqp_below.specs.Ids.{Drew}
@@ -33,9 +31,9 @@ use Rattle.amqp_resource.specs.declared.held.Held.{Held}
 use Rattle.amqp_resource.specs.declared.session.TxnSession.{TxnSession}
 use Rattle.amqp_resource.specs.Held.{Stands}
 use Rattle.amqp_resource.specs.Taking.{TookFrames}
-use Rattle.amqp_resource.specs.Steps.{AddsRefusal, IfAttachRefused, IfEnded, IfRefused, IfUnknown, IsControlAttach, IsFirstStop, MayFault, OnNoMemory, OnOwnError, OpenedBy, RefusedAdds, RefusedBy, TookFirst, TookHands, UnderDead, ended_by, entry_of, is_unknown, takes_memory}
+use Rattle.amqp_resource.specs.Steps.{IfAttachRefused, IfEnded, IfRefused, IfUnknown, IsControlAttach, IsFirstStop, MayFault, OnNoMemory, OnOwnError, OpenedBy, RefusedAdds, RefusedBy, TookFirst, TookHands, UnderDead, ended_by, entry_of, is_unknown, takes_memory}
 use Rattle.amqp_resource.specs.Session.{StopAfter, held_of, stop_of}
-use Rattle.amqp_resource.specs.Drive.{IfRefusal, Left, NextStep, RunLeaves, RunRefused, RunRose, RunTook, StopCause, StopsBy, StopsWith, is_refusal}
+use Rattle.amqp_resource.specs.Drive.{Left, NextStep, RunLeaves, RunRefused, RunRose, RunTook, StopCause, StopsBy, StopsWith}
 use Rattle.amqp_resource.proofs.Handing.{grown-grown, grown-nil}
 
 -- ---- the record that a run has made so far

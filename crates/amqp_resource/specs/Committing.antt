@@ -1,5 +1,5 @@
 -- What handing the frames of a commit leaves.
-use Rattle.std.specs.Prelude.{ℕ, ◌≡◌, ◌≤◌, ◌+◌, ◌⊎◌, Option, Some, Result, Ok, Err, List, [], length, take, map, slice_get, OnErr}
+use Rattle.std.specs.Prelude.{ℕ, ◌≡◌, ◌≤◌, ◌⊎◌, Some, Result, Ok, Err, List, [], length, take, map, slice_get, OnErr}
 use Rattle.std.specs.List.{zip}
 use Rattle.amqp_txn_types.specs.declared.performatives.Frame.{Frame}
 use Rattle.amqp_txn_types.specs.Frames.{stripped}

@@ -1,5 +1,5 @@
 -- Ids drawn for a declare.
-use Rattle.std.specs.Prelude.{ℕ, ◌≡◌, ◌≤◌, Bool, true, List, [], ◌∷◌, ◌++◌, length, is_some, None}
+use Rattle.std.specs.Prelude.{◌≡◌, ◌≤◌, Bool, true, List, [], ◌∷◌, ◌++◌, length, is_some, None}
 use Rattle.std.specs.List.{list_all}
 use Rattle.amqp_txn_types.specs.declared.id.TransactionId.{TransactionId}
 use Rattle.amqp_resource.specs.declared.held.Live.{Live}

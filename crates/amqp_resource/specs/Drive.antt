@@ -1,9 +1,9 @@
 -- What driving a list of steps leaves.
-use Rattle.std.specs.Prelude.{ℕ, ◌≡◌, ◌≤◌, ◌<◌, ◌+◌, ◌-◌, ◌^◌, ◌⊎◌, Bool, true, false, not, min, ⊤, Option, Some, None, List, [], ◌∷◌, ◌++◌, length, take, MatchBool, if◌then◌else◌}
+use Rattle.std.specs.Prelude.{ℕ, ◌≡◌, ◌≤◌, ◌+◌, ◌-◌, ◌^◌, ◌⊎◌, Bool, false, not, min, ⊤, Option, Some, None, List, ◌∷◌, ◌++◌, length, take, MatchBool, if◌then◌else◌}
 use Rattle.amqp_txn_types.specs.declared.performatives.Frame.{Frame}
 use Rattle.amqp_below.specs.declared.inner_error.SessionInnerError.{SessionInnerError}
 use Rattle.amqp_below.specs.declared.refusal.Refusal.{Refusal}
-use Rattle.amqp_below.specs.Told.{Told, grown}
+use Rattle.amqp_below.specs.Told.{grown}
 use Rattle.amqp_record.specs.declared.step.Step.{Step}
 use Rattle.amqp_record.specs.declared.entry.Entry.{Entry}
 use Rattle.amqp_record.specs.declared.stop.Stop.{Stop}

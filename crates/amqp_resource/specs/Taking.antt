@@ -1,5 +1,5 @@
 -- What taking one frame does to the layer below.
-use Rattle.std.specs.Prelude.{ℕ, ◌≡◌, ◌≤◌, Bool, true, false, cond, Option, Some, None, Result, Ok, Err, List, [], ◌∷◌, ◌++◌, length, OnErr}
+use Rattle.std.specs.Prelude.{◌≡◌, ◌≤◌, Bool, true, false, cond, Option, Result, Ok, Err, List, [], ◌∷◌, length, OnErr}
 use Rattle.std.specs.List.{zip}
 use Rattle.amqp_txn_types.specs.declared.performatives.Frame.{Frame}
 use Rattle.amqp_below.specs.declared.answers.Answers.{Answers}

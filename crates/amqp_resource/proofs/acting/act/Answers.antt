@@ -1,4 +1,4 @@
-use Rattle.std.proofs.Common.{rules, ap, sym, ◌∙◌, ◌≡◌, refl, Err}
+use Rattle.std.proofs.Common.{◌≡◌, refl, Err}
 use Rattle.amqp_resource.proofs.Parts.{answers_end, local_error, own_holds, remote_error}
 use Rattle.amqp_resource.proofs.acting.act.Goals as goal
 

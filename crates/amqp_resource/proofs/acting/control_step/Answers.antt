@@ -1,4 +1,3 @@
-use Rattle.std.proofs.Common.{rules, ap, sym, ◌∙◌, refl}
 use Rattle.amqp_resource.proofs.acting.control_step.Goals as goal
 
 pub returns-then-not-has_link-clause-goes : goal.returns-then-not-has_link-clause-goes

@@ -1,14 +1,14 @@
-use Rattle.std.proofs.Common.{rules, refl, ap, sym, subst, ◌∙◌, arith, length, ◌+◌, ◌≡◌, ◌≤◌, ◌<◌, ◌∷◌, [], ◌++◌, take, drop, cond, ℕ, List, Err}
+use Rattle.std.proofs.Common.{ap, sym, subst, ◌∙◌, arith, length, ◌+◌, ◌≡◌, ◌∷◌, [], ◌++◌, take, drop, cond, ℕ, List}
 use Rattle.std.proofs.lemmas.List.{length-append}
-use Rattle.amqp_txn_types.specs.Frames.{is_transfer, stripped}
+use Rattle.amqp_txn_types.specs.Frames.{is_transfer}
 use Rattle.amqp_txn_types.specs.declared.performatives.Frame.{Frame}
 use Rattle.amqp_below.specs.declared.answers.Answers.{Answers}
 use Rattle.amqp_below.specs.declared.inner_error.SessionInnerError.{SessionInnerError}
-use Rattle.amqp_below.specs.Told.{Told, grown}
+use Rattle.amqp_below.specs.Told.{grown}
 use Rattle.amqp_record.specs.Opened.{refusal_of}
-use Rattle.amqp_resource.specs.Taking.{TookFrames, TakesFrame, taken_frames, refused_frame}
+use Rattle.amqp_resource.specs.Taking.{TookFrames, taken_frames}
 use Rattle.amqp_resource.specs.Committing.{HandedSome, HandedPart}
-use Rattle.amqp_resource.proofs.Handing.{grown-nil, handed-more, handed-none, handed-part, handed-rest}
+use Rattle.amqp_resource.proofs.Handing.{grown-nil, handed-more, handed-part, handed-rest}
 use Rattle.amqp_resource.proofs.committing.hand_all.Goals as goal
 
 pub loop-frame-preserved : goal.loop-frame-preserved

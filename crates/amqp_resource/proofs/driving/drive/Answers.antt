@@ -1,4 +1,4 @@
-use Rattle.std.proofs.Common.{rules, ap, sym, ◌∙◌, refl, subst, List, ◌++◌, ◌∷◌, [], ◌≡◌, arith, length, ◌+◌, ◌≤◌, None}
+use Rattle.std.proofs.Common.{ap, sym, ◌∙◌, refl, subst, List, ◌++◌, ◌∷◌, [], ◌≡◌, arith, length}
 use Rattle.std.proofs.lemmas.List.{length-append}
 use Rattle.amqp_record.specs.declared.entry.Entry.{Entry}
 use Rattle.amqp_record.specs.declared.step.Step.{Step}
@@ -6,7 +6,7 @@ use Rattle.amqp_resource.specs.Steps.{entry_of}
 use Rattle.amqp_resource.specs.Session.{held_of, below_of, stop_of}
 use Rattle.amqp_resource.specs.Drive.{Left}
 use Rattle.amqp_resource.proofs.Parts.{end_is, own_weaker}
-use Rattle.amqp_resource.proofs.Running.{Ran, Broke, broke_cause, broke_done, broke_ended, broke_leaves, broke_refused, broke_rose, broke_took, broke_unknown, failed, left-more, ran-more, ran-nil, some_step, stops_by}
+use Rattle.amqp_resource.proofs.Running.{Broke, broke_ended, broke_refused, broke_took, broke_unknown, failed, left-more, ran-more, ran-nil, some_step, stops_by}
 use Rattle.amqp_resource.proofs.driving.drive.Given.{Over}
 use Rattle.amqp_resource.proofs.driving.drive.Goals as goal
 

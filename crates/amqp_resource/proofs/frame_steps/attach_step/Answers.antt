@@ -1,4 +1,4 @@
-use Rattle.std.proofs.Common.{rules, ap, sym, subst, ◌∙◌, [], ◌∷◌, ◌++◌, cond, refl}
+use Rattle.std.proofs.Common.{ap, ◌∙◌, [], ◌∷◌, ◌++◌, refl}
 use Rattle.amqp_resource.proofs.Going.{went-attached, went-attach_refused, stands-moved, stayed-attach}
 use Rattle.amqp_resource.proofs.frame_steps.attach_step.Goals as goal
 

@@ -1,8 +1,8 @@
-use Rattle.std.proofs.Common.{rules, ap, sym, subst, ◌∙◌, [], ◌∷◌, cond, Ok, Err}
+use Rattle.std.proofs.Common.{subst, Ok, Err}
 use Rattle.amqp_txn_types.specs.declared.performatives.Frame.{Frame}
 use Rattle.amqp_record.specs.declared.step.Step.TheVariants as steps
 use Rattle.amqp_resource.specs.Taking.{TakesFrame}
-use Rattle.amqp_resource.proofs.Going.{went-plain, refused-plain, refused_gives, stayed-plain}
+use Rattle.amqp_resource.proofs.Going.{went-plain, refused-plain, refused_gives}
 use Rattle.amqp_resource.proofs.frame_steps.plain_step.Goals as goal
 
 pub returns-in-Ok-take_frame-clause-goes : goal.returns-in-Ok-take_frame-clause-goes

@@ -1,4 +1,4 @@
-use Rattle.std.proofs.Common.{rules, ap, sym, ◌∙◌, refl}
+use Rattle.std.proofs.Common.{refl}
 use Rattle.amqp_resource.proofs.Going.{went-close}
 use Rattle.amqp_resource.proofs.link_steps.close_step.Goals as goal
 

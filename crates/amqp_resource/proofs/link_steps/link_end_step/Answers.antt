@@ -1,4 +1,4 @@
-use Rattle.std.proofs.Common.{rules, ap, sym, ◌∙◌, refl}
+use Rattle.std.proofs.Common.{ap, sym, ◌∙◌, refl}
 use Rattle.amqp_resource.specs.Held.{is_in}
 use Rattle.amqp_resource.proofs.Going.{went-link_end, went-no_link_end}
 use Rattle.amqp_resource.proofs.link_steps.link_end_step.Goals as goal

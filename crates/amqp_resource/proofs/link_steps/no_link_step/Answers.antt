@@ -1,4 +1,3 @@
-use Rattle.std.proofs.Common.{rules, ap, sym, ◌∙◌, refl}
 use Rattle.amqp_resource.proofs.Going.{went-no_link}
 use Rattle.amqp_resource.proofs.link_steps.no_link_step.Goals as goal
 

@@ -1,5 +1,5 @@
-use Rattle.std.proofs.Common.{rules, refl, sym, ◌∙◌, [], ◌∷◌, arith}
-use Rattle.amqp_resource.proofs.Handing.{grown-nil, refused_after-err}
+use Rattle.std.proofs.Common.{refl, sym, ◌∙◌, [], ◌∷◌, arith}
+use Rattle.amqp_resource.proofs.Handing.{grown-nil}
 use Rattle.amqp_resource.proofs.taking.take_frame.Goals as goal
 
 -- the frame was taken, and a disposition that was given back for it was refused

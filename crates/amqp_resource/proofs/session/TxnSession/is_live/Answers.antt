@@ -1,4 +1,4 @@
-use Rattle.std.proofs.Common.{rules, ◌∙◌, ap}
+use Rattle.std.proofs.Common.{◌∙◌, ap}
 use Rattle.amqp_resource.specs.Draws.{is_kept}
 use Rattle.amqp_resource.specs.Session.{held_of}
 use Rattle.amqp_resource.proofs.Going.{kept_live}

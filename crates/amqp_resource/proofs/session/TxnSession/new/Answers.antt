@@ -1,4 +1,4 @@
-use Rattle.std.proofs.Common.{rules, refl}
+use Rattle.std.proofs.Common.{refl}
 use Rattle.amqp_resource.proofs.Standing.{stands-new}
 use Rattle.amqp_resource.proofs.session.TxnSession.new.Goals as goal
 

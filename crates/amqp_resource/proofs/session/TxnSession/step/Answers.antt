@@ -1,5 +1,5 @@
-use Rattle.std.proofs.Common.{rules, refl, ap}
-use Rattle.amqp_resource.proofs.Parts.{gave_answer, gave_stands, gave_taken, gave_part, gave_opened, opened_none, gave_refused, gave_last, gave_unknown, gave_unknown_only, gave_cause, gave_attach, gave_memory, cause_rose, cause_ended, cause_first, own_weaker, same_session}
+use Rattle.std.proofs.Common.{ap}
+use Rattle.amqp_resource.proofs.Parts.{gave_answer, gave_stands, gave_taken, gave_part, gave_opened, opened_none, gave_refused, gave_last, gave_unknown, gave_unknown_only, gave_cause, gave_attach, gave_memory, cause_rose, cause_ended, cause_first, own_weaker}
 use Rattle.amqp_resource.proofs.Complete.{complete, drew_next}
 use Rattle.amqp_resource.proofs.session.TxnSession.step.Goals as goal
 
