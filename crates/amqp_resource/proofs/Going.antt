@@ -19,6 +19,7 @@ use Rattle.amqp_txn_codec.specs.declared.message.ControlMessageBody.TheVariants 
 use Rattle.amqp_txn_codec.specs.Reading.{message_of}
 use Rattle.amqp_below.specs.declared.answers.Answers.{Answers}
 use Rattle.amqp_below.specs.declared.inner_error.SessionInnerError.{SessionInnerError}
+use Rattle.amqp_below.specs.declared.inner_error.SessionInnerError.TheVariants as faults
 use Rattle.amqp_below.specs.declared.refusal.Refusal.{Refusal}
 use Rattle.amqp_below.specs.Drawn.{DrawnIds}
 use Rattle.amqp_below.specs.Told.{Told, Steady, Opens, grown}
@@ -42,11 +43,14 @@ use Rattle.amqp_record.proofs.Whole.{plain_none, hands-plain, hands-other_frame,
 use Rattle.amqp_resource.specs.declared.held.Live.{Live}
 use Rattle.amqp_resource.specs.declared.held.Held.{Held}
 use Rattle.amqp_resource.specs.declared.taking.TakeError.{TakeError}
-use Rattle.amqp_resource.specs.Held.{Stands, StandsAt, Distinct, Kept, is_on, look, look_without, with_frame, kept_by, is_in}
+use Rattle.amqp_resource.specs.Held.{SameHeld, Stands, StandsAt, Distinct, Kept, is_on, look, look_without, with_frame, kept_by, is_in}
 use Rattle.amqp_resource.specs.Draws.{is_kept, DrewLive, DrewUnused}
 use Rattle.amqp_resource.specs.Taking.{TookFrames, TakesFrame, taken_frames}
 use Rattle.amqp_resource.specs.Committing.{HandedSome, HandedPart, RefusedAt, given_of}
-use Rattle.amqp_resource.specs.Steps.{Went, Refused, Stayed, StepGave, AddsRefusal, FrameMayFault, IsDead, IsPost, IsUnder, UnderDead, EndGave, ended_by, entry_of, fault_of, is_live_under, is_unknown, message_takes_memory, nothing_drawn, takes_memory}
+use Rattle.amqp_below.specs.declared.transacting.CommitFault.{CommitFault}
+use Rattle.amqp_below.specs.declared.transacting.CommitFault.TheVariants as commit_faults
+use Rattle.amqp_resource.specs.Transacting.{CommittedWith, step_error_of}
+use Rattle.amqp_resource.specs.Steps.{Went, Refused, Stayed, StepGave, StepCause, OnNoMemory, OnOwnError, AddsRefusal, FrameMayFault, IsDead, IsPost, IsUnder, UnderDead, EndGave, ended_by, entry_of, fault_of, is_live_under, is_unknown, message_takes_memory, nothing_drawn, takes_memory}
 use Rattle.amqp_resource.proofs.Kept.{found, look_push, Distinct_push}
 use Rattle.amqp_resource.proofs.Handing.{grown-nil, refused_after-err}
 use Rattle.amqp_resource.proofs.Standing.{Quiet, stands-quiet, stands-post, stands-attached, stands-discharged, stands-closed, stands-declared}
@@ -83,6 +87,24 @@ stands-moved h g r s lg kg og = record {
 }
 
 -- ---- faults
+
+-- a refusal below is given as no unknown id
+pub fault_known : (own : SessionInnerError) → is_unknown (fault_of own) ≡ false
+fault_known faults.UnattachedHandle = refl
+fault_known faults.RemoteAttachingLinkNameNotFound = refl
+fault_known faults.HandleInUse = refl
+fault_known faults.IllegalState = refl
+fault_known (faults.ConnectionStopped reason) = refl
+fault_known faults.TransferFrameToSender = refl
+fault_known faults.RemoteEnded = refl
+fault_known (faults.RemoteEndedWithError error) = refl
+fault_known faults.UnknownTxnId = refl
+fault_known faults.NoMemory = refl
+
+-- the second of two facts, by a fault that is no unknown id
+pub when_known : (b : Bool) (P Q : Type 0) → b ≡ false → Q → MatchBool b P Q
+when_known true P Q e q = cc e
+when_known false P Q e q = q
 
 -- a refusal of the layer below, as the answer of a step
 pub refused_gives : (h : Held) (old new : Told) (r : List Entry) (s : Step) (error own : SessionInnerError) (handed : ℕ) → is_unknown error ≡ false → error ≡ fault_of own → Refused old new r s (fault_of own) handed → StepGave h old new r s (Err (errors.Fault error handed))
@@ -358,6 +380,32 @@ stayed-commit h r k payload discharge fs m rb o s at =
           ap (λ b. b && message_takes_memory r k (message_of payload)) (sym (s.links k) ∙ o) ∙ ap (message_takes_memory r k) m
           ∙ ap (λ b. not b && is_held_on r k discharge.txn_id) rb ∙ held_on r k discharge.txn_id kept.0 kept.1;
     }
+
+-- a commit that failed, as the answer of a step: it wanted memory, or was refused below
+pub fault_goes : (h g : Held) (old new : Told) (r : List Entry) (k : ℕ) (payload : List ℕ) (discharge : Discharge) (fs : List Frame) (U : Type 0) (fault : CommitFault) → message_of payload ≡ Some (messages.Discharge discharge) → is_rollback discharge.fail ≡ false → is_in h.links.items k ≡ true → Stands h r → look h.live.items discharge.txn_id ≡ Some (Some k, fs) → CommittedWith h g old new discharge.txn_id fs U (Err fault) → StepGave g old new r (steps.Control k payload) (Err (step_error_of fault))
+fault_goes h g old new r k payload discharge fs U commit_faults.NoMemory m rb o s at c =
+    let stayed = stayed-commit h r k payload discharge fs m rb o s at in
+    record { stands = stands-moved h g r s c.0.live c.0.links c.0.opened; takes = stayed.takes }
+fault_goes h g old new r k payload discharge fs U (commit_faults.Refused error handed) m rb o s at c =
+    let x = c.1 in
+    refused_gives g old new r (steps.Control k payload) error x.0 handed (ap is_unknown x.1 ∙ fault_known x.0) x.1
+    (refused-commit h r k payload discharge fs x.0 handed old new m rb o s at x.2.handed)
+
+pub fault_cause : (h g : Held) (old new : Told) (id : TransactionId) (fs : List Frame) (U : Type 0) (fault : CommitFault) (s : Step) → CommittedWith h g old new id fs U (Err fault) → StepCause old.refusals new.refusals s (Err (step_error_of fault))
+fault_cause h g old new id fs U commit_faults.NoMemory s c = tt
+fault_cause h g old new id fs U (commit_faults.Refused error handed) s c =
+    let x = c.1 in
+    when_known (is_unknown error) _ _ (ap is_unknown x.1 ∙ fault_known x.0) x.2.cause
+
+pub fault_same : (h g : Held) (old new : Told) (id : TransactionId) (fs : List Frame) (U : Type 0) (fault : CommitFault) → CommittedWith h g old new id fs U (Err fault) → OnNoMemory (Err (step_error_of fault)) (SameHeld h g)
+fault_same h g old new id fs U commit_faults.NoMemory c = c.0
+fault_same h g old new id fs U (commit_faults.Refused error handed) c = tt
+
+pub fault_untouched : (h g : Held) (old new : Told) (id : TransactionId) (fs : List Frame) (U : Type 0) (fault : CommitFault) → CommittedWith h g old new id fs U (Err fault) → OnOwnError (Err (step_error_of fault)) U
+fault_untouched h g old new id fs U commit_faults.NoMemory c = c.1
+fault_untouched h g old new id fs U (commit_faults.Refused error handed) c =
+    let x = c.1 in
+    when_known (is_unknown error) _ _ (ap is_unknown x.1 ∙ fault_known x.0) tt
 
 -- what isn't kept for the link isn't held on it
 pub held_elsewhere : (h : Held) (r : List Entry) (k : ℕ) (u : TransactionId) (o : Option ℕ) (fs : List Frame) → Stands h r → look h.live.items u ≡ Some (o, fs) → is_on k o ≡ false → is_held_on r k u ≡ false

@@ -14,6 +14,8 @@ use Rattle.amqp_below.specs.declared.transacting.CommitFault.{CommitFault}
 use Rattle.amqp_below.specs.declared.transacting.CommitFault.TheVariants as commit_faults
 use Rattle.amqp_below.specs.Drawn.{DrawnIds}
 use Rattle.amqp_below.specs.Told.{Told}
+use Rattle.amqp_record.specs.declared.stop.StepError.{StepError}
+use Rattle.amqp_record.specs.declared.stop.StepError.TheVariants as errors
 use Rattle.amqp_record.specs.Entries.{same_id}
 use Rattle.amqp_resource.specs.declared.held.Held.{Held}
 use Rattle.amqp_resource.specs.declared.held.Live.{Live}
@@ -55,16 +57,26 @@ abbrev pub RefusedCommit : Told → Told → List Frame → SessionInnerError �
 RefusedCommit told now kept error handed =
     (own : SessionInnerError) × (error ≡ fault_of own) × HandsAll told now kept (Err (record { error = own; handed = handed }))
 
--- a commit: the frames kept for a live id were handed, all of them or the first, and the id ended
+-- a commit of a live id with these frames, by its answer: they were handed, all of them or the
+-- first, and the id ended; or memory lacked
+abbrev pub CommittedWith : Held → Held → Told → Told → TransactionId → List Frame → Type 0 → Result (List Answers) CommitFault → Type 0
+CommittedWith old new told now id kept Untouched (Ok echoes) = Ended old new id × HandsAll told now kept (Ok echoes)
+CommittedWith old new told now id kept Untouched (Err commit_faults.NoMemory) = SameHeld old new × Untouched
+CommittedWith old new told now id kept Untouched (Err (commit_faults.Refused error handed)) = Ended old new id × RefusedCommit told now kept error handed
+
+-- the fault of a commit as that of a step
+abbrev pub step_error_of : CommitFault → StepError
+step_error_of commit_faults.NoMemory = errors.NoMemory
+step_error_of (commit_faults.Refused error handed) = errors.Fault error handed
+
+-- a commit, by its answer: UnknownId where the id isn't live, else that of its frames
 abbrev pub CommittedIn : Held → Held → Told → Told → TransactionId → Type 0 → Result (Result (List Answers) TransactionError) CommitFault → Type 0
 CommittedIn old new told now id Untouched (Ok (Ok echoes)) =
-    (is_kept old.live.items id ≡ true) × Ended old new id × HandsAll told now (frames_kept old.live.items id) (Ok echoes)
+    (is_kept old.live.items id ≡ true) × CommittedWith old new told now id (frames_kept old.live.items id) Untouched (Ok echoes)
 CommittedIn old new told now id Untouched (Ok (Err error)) =
     (is_kept old.live.items id ≡ false) × (error ≡ conditions.UnknownId) × SameHeld old new × Untouched
-CommittedIn old new told now id Untouched (Err commit_faults.NoMemory) =
-    (is_kept old.live.items id ≡ true) × SameHeld old new × Untouched
-CommittedIn old new told now id Untouched (Err (commit_faults.Refused error handed)) =
-    (is_kept old.live.items id ≡ true) × Ended old new id × RefusedCommit told now (frames_kept old.live.items id) error handed
+CommittedIn old new told now id Untouched (Err fault) =
+    (is_kept old.live.items id ≡ true) × CommittedWith old new told now id (frames_kept old.live.items id) Untouched (Err fault)
 
 -- a rollback: a live id ended
 abbrev pub RolledBackIn : Held → Held → TransactionId → Result Accepted TransactionError → Type 0

@@ -1,14 +1,15 @@
 //! Discharges: a rollback lets its frames go, a commit hands them.
 
-ghost use Rattle.std.specs.Prelude.{◌≡◌, ◌≤◌, true, Some, IfOk};
+ghost use Rattle.std.specs.Prelude.{◌≡◌, ◌≤◌, ◌<◌, true, Some, IfOk, length, slice_index_or};
 ghost use Rattle.amqp_txn_codec.specs.Reading.{message_of};
 ghost use Rattle.amqp_txn_codec.specs.declared.message.ControlMessageBody.TheVariants as messages;
 ghost use Rattle.amqp_txn_types.specs.declared.small.TransactionError.TheVariants as transaction_errors;
 ghost use Rattle.amqp_record.specs.declared.step.Step.TheVariants as steps;
 ghost use Rattle.amqp_record.specs.declared.reply.Reply.TheVariants as replies;
 ghost use Rattle.amqp_record.specs.declared.reply.RejectText.TheVariants as texts;
-ghost use Rattle.amqp_resource.specs.Held.{SameHeld, is_in};
-ghost use Rattle.amqp_resource.specs.Transacting.{CommittedIn, RolledBackIn};
+ghost use Rattle.amqp_resource.specs.declared.held.Live.{Live as OneLive};
+ghost use Rattle.amqp_resource.specs.Held.{Distinct, SameHeld, StandsAt, is_in};
+ghost use Rattle.amqp_resource.specs.Transacting.{CommittedIn, CommittedWith, RolledBackIn, step_error_of};
 ghost use Rattle.amqp_resource.specs.Steps.{Steps, StepCause, OnNoMemory, OnOwnError, nothing_drawn};
 
 use crate::committing::hand_all;
@@ -27,6 +28,49 @@ fn absent() -> Reply
     Reply::Rejected {
         error: TransactionError::UnknownId,
         text: RejectText::Absent,
+    }
+}
+
+/// Commits the id at the place: room for the answers first, then it ends and its frames are handed.
+fn commit_at<S: LayerBelow>(
+    held: &mut Held,
+    below: &mut S,
+    alloc: Global,
+    at: usize,
+    id: TransactionId,
+) -> Result<Echoes, CommitFault>
+    requires at { at < length held.old.live.items }
+    requires stands { StandsAt held.old.live.items at id }
+    ensures gave { (d : OneLive) → CommittedWith held.old held.new (S.told below.old) (S.told below.new) id (slice_index_or held.old.live.items at d).frames (below.new ≡ below.old) result }
+    ensures distinct { Distinct held.old.live.items → Distinct held.new.live.items }
+    ensures fixed { (S.told below.new).fixed ≡ (S.told below.old).fixed }
+    ensures later { (S.told below.old).refusals ≤ (S.told below.new).refusals }
+{
+    let room = held.live[at].frames.len();
+    let Ok(echoes) = Vec::with_capacity(alloc, room) else {
+        return Err(CommitFault::NoMemory);
+    };
+    let Live {
+        id: _,
+        holder: _,
+        frames,
+    } = take_at(&mut held.live, at, id);
+    match hand_all(below, frames.into_vec(), echoes) {
+        Ok(echoes) => Ok(echoes),
+        Err(refusal) => Err(CommitFault::Refused {
+            error: fault_of(refusal.error),
+            handed: refusal.handed,
+        }),
+    }
+}
+
+/// The fault of a commit as that of a step.
+fn step_error_of(fault: CommitFault) -> StepError
+    ensures { result ≡ step_error_of fault }
+{
+    match fault {
+        CommitFault::NoMemory => StepError::NoMemory,
+        CommitFault::Refused { error, handed } => StepError::Fault { error, handed },
     }
 }
 
@@ -60,26 +104,13 @@ pub fn discharge_step<S: LayerBelow>(
         let _dropped = take_at(&mut held.live, at, discharge.txn_id);
         return Ok((no_draws(alloc), Reply::Accepted(Echoes::new(alloc))));
     }
-    let room = held.live[at].frames.len();
-    let Ok(echoes) = Vec::with_capacity(alloc, room) else {
-        return Err(StepError::NoMemory);
-    };
-    let Live {
-        id: _,
-        holder: _,
-        frames,
-    } = take_at(&mut held.live, at, discharge.txn_id);
-    match hand_all(below, frames.into_vec(), echoes) {
+    match commit_at(held, below, alloc, at, discharge.txn_id) {
         Ok(echoes) => Ok((no_draws(alloc), Reply::Accepted(echoes))),
-        Err(refusal) => Err(StepError::Fault {
-            error: fault_of(refusal.error),
-            handed: refusal.handed,
-        }),
+        Err(fault) => Err(step_error_of(fault)),
     }
 }
 
-/// Commits an id, whichever link declared it: room for the answers first, then it ends and its frames
-/// are handed.
+/// Commits an id, whichever link declared it.
 pub fn commit_kept<S: LayerBelow>(
     held: &mut Held,
     below: &mut S,
@@ -91,21 +122,9 @@ pub fn commit_kept<S: LayerBelow>(
     let Some(at) = place_of(held.live.as_slice(), id) else {
         return Ok(Err(TransactionError::UnknownId));
     };
-    let room = held.live[at].frames.len();
-    let Ok(echoes) = Vec::with_capacity(alloc, room) else {
-        return Err(CommitFault::NoMemory);
-    };
-    let Live {
-        id: _,
-        holder: _,
-        frames,
-    } = take_at(&mut held.live, at, id);
-    match hand_all(below, frames.into_vec(), echoes) {
+    match commit_at(held, below, alloc, at, id) {
         Ok(echoes) => Ok(Ok(echoes)),
-        Err(refusal) => Err(CommitFault::Refused {
-            error: fault_of(refusal.error),
-            handed: refusal.handed,
-        }),
+        Err(fault) => Err(fault),
     }
 }
 

@@ -1,4 +1,9 @@
-//! The transactional calls of a session. Part 4 of the standard, sections 4.2 and 4.3.
+//! The transactional calls of a session. Part 4 of the standard, sections 4.2 (declaring) and 4.3
+//! (discharging).
+//!
+//! An id that they allocate is declared on no link: a control message that discharges it is rejected,
+//! and no end of a link aborts it. While one is live the session stands for no record of steps, so what
+//! is proved of a step by its record says nothing then. What is proved of these calls holds always.
 
 use crate::declaring::allocate;
 use crate::discharging::{commit_kept, roll_back_kept};
