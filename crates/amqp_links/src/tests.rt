@@ -2,8 +2,9 @@
 
 use crate::*;
 use amqp_txn_types::{
-    AmqpError, Binary, DeliveryState, Error, ErrorCondition, Fields, LinkEnd, OutputHandle,
-    Payload, ReceiverSettleMode, Role, SenderSettleMode, Symbol, Text, Token, TryClone, Value,
+    AmqpError, Binary, DeliveryState, Error, ErrorCondition, Fields, Items, LinkEnd, NoMemory,
+    OutputHandle, Payload, ReceiverSettleMode, Role, SenderSettleMode, Symbol, Text, Token,
+    TryClone, Value,
 };
 use std::alloc::Global;
 use std::test::Fail;
@@ -16,9 +17,20 @@ fn same<T: PartialEq + Drop>(found: T, want: T) -> bool {
     equal
 }
 
-fn end(alloc: Global, role: Role) -> Result<LinkEnd, Fail> {
+fn push<T: Drop>(items: &mut Items<T>, item: T) -> Result<(), NoMemory> {
+    match items.push(item) {
+        Ok(()) => Ok(()),
+        Err(unkept) => {
+            drop(unkept);
+            Err(NoMemory)
+        }
+    }
+}
+
+fn end(alloc: Global, role: Role) -> Result<LinkEnd, NoMemory> {
+    let name = Text::from_str(alloc, "q")?;
     Ok(LinkEnd {
-        name: Text::from_str(alloc, "q")?,
+        name,
         role,
         output: OutputHandle(3),
         snd_settle_mode: SenderSettleMode::Mixed,
@@ -26,32 +38,51 @@ fn end(alloc: Global, role: Role) -> Result<LinkEnd, Fail> {
     })
 }
 
-fn sender(alloc: Global) -> Result<WireSender, Fail> {
-    Ok(WireSender::new(alloc, end(alloc, Role::Sender)?))
+/// Whether an end is that of the tests.
+fn is_end(alloc: Global, found: &LinkEnd, role: Role) -> Result<bool, NoMemory> {
+    let want = end(alloc, role)?;
+    let equal = *found == want;
+    drop(want);
+    Ok(equal)
 }
 
-fn receiver(alloc: Global) -> Result<WireReceiver, Fail> {
-    Ok(WireReceiver::new(alloc, end(alloc, Role::Receiver)?))
+fn sender(alloc: Global) -> Result<WireSender, NoMemory> {
+    let end = end(alloc, Role::Sender)?;
+    Ok(WireSender::new(alloc, end))
 }
 
-fn sendable(alloc: Global, octets: &[u8], settled: Option<bool>) -> Result<Sendable, Fail> {
+fn receiver(alloc: Global) -> Result<WireReceiver, NoMemory> {
+    let end = end(alloc, Role::Receiver)?;
+    Ok(WireReceiver::new(alloc, end))
+}
+
+/// The message `a`.
+fn sendable(alloc: Global, settled: Option<bool>) -> Result<Sendable, NoMemory> {
+    let payload = Payload::from_slice(alloc, b"a")?;
     Ok(Sendable {
-        payload: Payload::from_slice(alloc, octets)?,
+        payload,
         message_format: 0,
         settled,
     })
 }
 
-/// Sends the message `a` without a state.
-fn send<L: SenderLink>(link: &mut L, alloc: Global, settled: Option<bool>) -> Result<Sent, Fail> {
-    let sendable = sendable(alloc, b"a", settled)?;
-    Ok(link.send(sendable, None, true)?)
+/// Sends the message `a` without a state: how it was sent, where it was.
+fn send<L: SenderLink>(link: &mut L, alloc: Global, settled: Option<bool>) -> Option<Sent> {
+    match sendable(alloc, settled) {
+        Ok(sendable) => link.send(sendable, None, true).ok(),
+        Err(_) => None,
+    }
 }
 
-/// Whether the send is answered `IllegalState`.
-fn is_refused<L: SenderLink>(link: &mut L, sendable: Sendable) -> bool {
-    let refused = SendError::LinkStateError(LinkStateError::IllegalState);
-    same(link.send(sendable, None, true), Err(refused))
+/// Whether a send is answered `IllegalState`.
+fn is_refused<L: SenderLink>(link: &mut L, alloc: Global) -> bool {
+    match sendable(alloc, None) {
+        Ok(sendable) => {
+            let refused = SendError::LinkStateError(LinkStateError::IllegalState);
+            same(link.send(sendable, None, true), Err(refused))
+        }
+        Err(_) => false,
+    }
 }
 
 /// Whether a look for the answer finds that.
@@ -62,11 +93,6 @@ fn finds<L: SenderLink>(link: &mut L, token: Token, want: Poll<Answer>) -> bool 
 /// Whether the next look for a delivery finds that.
 fn receives<L: ReceiverLink>(link: &mut L, want: Poll<Result<Delivery, RecvError>>) -> bool {
     same(link.recv(), want)
-}
-
-/// Whether a disposition of that state is put.
-fn disposes<L: ReceiverLink>(link: &mut L, info: &DeliveryInfo, state: DeliveryState) -> bool {
-    same(link.dispose(info, Some(true), state), Ok(()))
 }
 
 /// Whether a flow with that credit is put.
@@ -83,25 +109,34 @@ fn insert<L: ReceiverLink>(
     alloc: Global,
     key: &str,
     value: Value,
-) -> Result<(), Fail> {
+) -> Result<(), NoMemory> {
     match Symbol::from_str(alloc, key) {
-        Ok(key) => Ok(link.insert_property(key, value)?),
+        Ok(key) => link.insert_property(key, value),
         Err(error) => {
             drop(value);
-            Err(Fail::from(error))
+            Err(error)
         }
     }
 }
 
-fn delivery(alloc: Global, delivery_id: u32) -> Result<Delivery, Fail> {
-    Ok(Delivery {
-        info: DeliveryInfo {
-            delivery_id,
-            delivery_tag: Binary::from_slice(alloc, b"\x07")?,
-            rcv_settle_mode: None,
-        },
-        payload: Payload::from_slice(alloc, b"m")?,
+fn info(alloc: Global, delivery_id: u32) -> Result<DeliveryInfo, NoMemory> {
+    let delivery_tag = Binary::from_slice(alloc, b"\x07")?;
+    Ok(DeliveryInfo {
+        delivery_id,
+        delivery_tag,
+        rcv_settle_mode: None,
     })
+}
+
+fn delivery(alloc: Global, delivery_id: u32) -> Result<Delivery, NoMemory> {
+    let payload = Payload::from_slice(alloc, b"m")?;
+    match info(alloc, delivery_id) {
+        Ok(info) => Ok(Delivery { info, payload }),
+        Err(error) => {
+            drop(payload);
+            Err(error)
+        }
+    }
 }
 
 fn not_allowed() -> Error {
@@ -112,139 +147,249 @@ fn not_allowed() -> Error {
     }
 }
 
-fn numbers(alloc: Global, listed: &[u64]) -> Result<CallNumbers, Fail> {
-    let mut numbers = CallNumbers::new(alloc);
-    for number in listed {
-        numbers.push(*number)?;
-    }
-    Ok(numbers)
+fn numbers(alloc: Global, listed: &[u64]) -> Result<CallNumbers, NoMemory> {
+    let listed = Vec::from_slice(alloc, listed)?;
+    Ok(CallNumbers::from_vec(listed))
+}
+
+/// Looks and answers: each whether it went as it must.
+fn answers_once(wire: &mut WireSender, token: Token) -> [bool; 6] {
+    [
+        finds(wire, token, Poll::Pending),
+        wire.answer(token, Ok(Some(DeliveryState::Accepted))),
+        !wire.answer(token, Ok(None)),
+        finds(wire, token, Poll::Ready(Ok(Some(DeliveryState::Accepted)))),
+        finds(wire, token, Poll::Pending),
+        !wire.answer(token, Ok(None)),
+    ]
 }
 
 #[test]
 fn an_answer_is_given_once(rt: HostRuntime) -> Result<(), Fail> {
-    let alloc = rt.alloc();
-    let mut wire = sender(alloc)?;
-    let token = Token(0);
-    assert_eq!(rt; send(&mut wire, alloc, None)?, Sent::Unsettled(token));
-    assert!(rt; finds(&mut wire, token, Poll::Pending));
-    assert!(rt; wire.answer(token, Ok(Some(DeliveryState::Accepted))));
-    assert!(rt; !wire.answer(token, Ok(None)));
-    let accepted = Poll::Ready(Ok(Some(DeliveryState::Accepted)));
-    assert!(rt; finds(&mut wire, token, accepted));
-    assert!(rt; finds(&mut wire, token, Poll::Pending));
-    assert!(rt; !wire.answer(token, Ok(None)));
+    let mut wire = sender(rt.alloc())?;
+    let sent = send(&mut wire, rt.alloc(), None);
+    let facts = answers_once(&mut wire, Token(0));
+    drop(wire);
+    assert!(rt; sent == Some(Sent::Unsettled(Token(0))));
+    assert!(rt; facts == [true; 6]);
     Ok(())
 }
 
-fn message(alloc: Global, settled: Option<bool>, sent: Sent) -> Result<SentMessage, Fail> {
-    Ok(SentMessage {
-        sendable: sendable(alloc, b"a", settled)?,
+fn want_message(
+    alloc: Global,
+    want: &mut SentMessages,
+    settled: Option<bool>,
+    sent: Sent,
+) -> Result<(), NoMemory> {
+    let sendable = sendable(alloc, settled)?;
+    let message = SentMessage {
+        sendable,
         state: None,
         batchable: true,
         sent,
-    })
+    };
+    push(want, message)
+}
+
+fn want_messages(alloc: Global, want: &mut SentMessages) -> Result<(), NoMemory> {
+    want_message(alloc, want, None, Sent::Unsettled(Token(0)))?;
+    want_message(alloc, want, Some(true), Sent::Settled)?;
+    want_message(alloc, want, Some(false), Sent::Unsettled(Token(1)))
+}
+
+/// Whether these are the messages wanted.
+fn are_messages(alloc: Global, put: &SentMessages) -> Result<bool, NoMemory> {
+    let mut want = SentMessages::new(alloc);
+    let wanted = want_messages(alloc, &mut want);
+    let equal = *put == want;
+    drop(want);
+    wanted?;
+    Ok(equal)
 }
 
 #[test]
 fn what_was_sent_is_put(rt: HostRuntime) -> Result<(), Fail> {
-    let alloc = rt.alloc();
-    let mut wire = sender(alloc)?;
-    assert_eq!(rt; send(&mut wire, alloc, None)?, Sent::Unsettled(Token(0)));
-    assert_eq!(rt; send(&mut wire, alloc, Some(true))?, Sent::Settled);
-    assert_eq!(rt;
-        send(&mut wire, alloc, Some(false))?,
-        Sent::Unsettled(Token(1))
-    );
-    let mut want = SentMessages::new(alloc);
-    want.push(message(alloc, None, Sent::Unsettled(Token(0)))?)?;
-    want.push(message(alloc, Some(true), Sent::Settled)?)?;
-    want.push(message(alloc, Some(false), Sent::Unsettled(Token(1)))?)?;
-    assert!(rt; *wire.put() == want);
+    let mut wire = sender(rt.alloc())?;
+    let first = send(&mut wire, rt.alloc(), None);
+    let second = send(&mut wire, rt.alloc(), Some(true));
+    let third = send(&mut wire, rt.alloc(), Some(false));
+    let put = are_messages(rt.alloc(), wire.put());
+    drop(wire);
+    assert!(rt; first == Some(Sent::Unsettled(Token(0))));
+    assert!(rt; second == Some(Sent::Settled));
+    assert!(rt; third == Some(Sent::Unsettled(Token(1))));
+    assert!(rt; put?);
     Ok(())
+}
+
+/// Answers to two tokens and to none, and looks: each whether it went as it must.
+fn answers_by_token(wire: &mut WireSender) -> [bool; 6] {
+    [
+        !wire.answer(Token(2), Ok(None)),
+        wire.answer(Token(1), Err(LinkStateError::RemoteClosed)),
+        finds(wire, Token(0), Poll::Pending),
+        finds(
+            wire,
+            Token(1),
+            Poll::Ready(Err(LinkStateError::RemoteClosed)),
+        ),
+        wire.answer(Token(0), Ok(None)),
+        finds(wire, Token(0), Poll::Ready(Ok(None))),
+    ]
 }
 
 #[test]
 fn an_answer_goes_to_its_token(rt: HostRuntime) -> Result<(), Fail> {
-    let alloc = rt.alloc();
-    let mut wire = sender(alloc)?;
-    send(&mut wire, alloc, None)?;
-    send(&mut wire, alloc, None)?;
-    assert!(rt; !wire.answer(Token(2), Ok(None)));
-    assert!(rt; wire.answer(Token(1), Err(LinkStateError::RemoteClosed)));
-    assert!(rt; finds(&mut wire, Token(0), Poll::Pending));
-    assert!(rt;
-        finds(
-            &mut wire,
-            Token(1),
-            Poll::Ready(Err(LinkStateError::RemoteClosed))
-        )
-    );
-    assert!(rt; wire.answer(Token(0), Ok(None)));
-    assert!(rt; finds(&mut wire, Token(0), Poll::Ready(Ok(None))));
+    let mut wire = sender(rt.alloc())?;
+    let first = send(&mut wire, rt.alloc(), None);
+    let second = send(&mut wire, rt.alloc(), None);
+    let facts = answers_by_token(&mut wire);
+    drop(wire);
+    assert!(rt; first.is_some());
+    assert!(rt; second.is_some());
+    assert!(rt; facts == [true; 6]);
     Ok(())
+}
+
+/// A sender whose calls of these numbers are to fail.
+fn failing_sender(alloc: Global, listed: &[u64]) -> Result<WireSender, NoMemory> {
+    let numbers = numbers(alloc, listed)?;
+    let mut wire = sender(alloc)?;
+    wire.set_failing(numbers);
+    Ok(wire)
+}
+
+/// Five calls of which the first, the third and the fifth fail: each whether it went as it must.
+fn fails_as_listed(wire: &mut WireSender, alloc: Global) -> [bool; 6] {
+    [
+        is_refused(wire, alloc),
+        send(wire, alloc, None).is_some(),
+        wire.answer(Token(0), Ok(None)),
+        finds(
+            wire,
+            Token(0),
+            Poll::Ready(Err(LinkStateError::IllegalState)),
+        ),
+        finds(wire, Token(0), Poll::Ready(Ok(None))),
+        same(wire.close(None), Err(DetachError::IllegalState)),
+    ]
 }
 
 #[test]
 fn listed_calls_of_a_sender_fail(rt: HostRuntime) -> Result<(), Fail> {
-    let alloc = rt.alloc();
-    let mut wire = sender(alloc)?;
-    wire.set_failing(numbers(alloc, &[1, 3, 5])?);
-    let first = sendable(alloc, b"a", None)?;
-    assert!(rt; is_refused(&mut wire, first));
-    assert_eq!(rt; wire.put().len(), 0);
-    send(&mut wire, alloc, None)?;
-    assert!(rt; wire.answer(Token(0), Ok(None)));
-    assert!(rt;
-        finds(
-            &mut wire,
-            Token(0),
-            Poll::Ready(Err(LinkStateError::IllegalState))
-        )
-    );
-    assert!(rt; finds(&mut wire, Token(0), Poll::Ready(Ok(None))));
-    assert!(rt; same(wire.close(None), Err(DetachError::IllegalState)));
-    assert_eq!(rt; wire.closes().len(), 0);
-    assert_eq!(rt; wire.put().len(), 1);
+    let mut wire = failing_sender(rt.alloc(), &[1, 3, 5])?;
+    let facts = fails_as_listed(&mut wire, rt.alloc());
+    let put = wire.put().len();
+    let closes = wire.closes().len();
+    drop(wire);
+    assert!(rt; facts == [true; 6]);
+    assert_eq!(rt; put, 1);
+    assert_eq!(rt; closes, 0);
     Ok(())
+}
+
+fn want_closes(want: &mut Closes) -> Result<(), NoMemory> {
+    push(want, Some(not_allowed()))?;
+    push(want, None)
+}
+
+/// Whether these are the closes wanted.
+fn are_closes(alloc: Global, closes: &Closes) -> Result<bool, NoMemory> {
+    let mut want = Closes::new(alloc);
+    let wanted = want_closes(&mut want);
+    let equal = *closes == want;
+    drop(want);
+    wanted?;
+    Ok(equal)
 }
 
 #[test]
 fn a_close_keeps_its_error(rt: HostRuntime) -> Result<(), Fail> {
-    let alloc = rt.alloc();
-    let mut wire = sender(alloc)?;
-    wire.close(Some(not_allowed()))?;
-    wire.close(None)?;
-    let mut want = Closes::new(alloc);
-    want.push(Some(not_allowed()))?;
-    want.push(None)?;
-    assert!(rt; *wire.closes() == want);
-    assert!(rt; *wire.end() == end(alloc, Role::Sender)?);
+    let mut wire = sender(rt.alloc())?;
+    let first = same(wire.close(Some(not_allowed())), Ok(()));
+    let second = same(wire.close(None), Ok(()));
+    let closes = are_closes(rt.alloc(), wire.closes());
+    let end = is_end(rt.alloc(), wire.end(), Role::Sender);
+    drop(wire);
+    assert!(rt; first);
+    assert!(rt; second);
+    assert!(rt; closes?);
+    assert!(rt; end?);
     Ok(())
+}
+
+/// Whether a disposition of delivery 4 is put.
+fn disposes<L: ReceiverLink>(
+    link: &mut L,
+    alloc: Global,
+    state: DeliveryState,
+) -> Result<bool, NoMemory> {
+    match info(alloc, 4) {
+        Ok(info) => {
+            let disposed = same(link.dispose(&info, Some(true), state), Ok(()));
+            drop(info);
+            Ok(disposed)
+        }
+        Err(error) => {
+            drop(state);
+            Err(error)
+        }
+    }
+}
+
+/// A copy of what names delivery 4.
+fn copied_info(alloc: Global) -> Result<DeliveryInfo, NoMemory> {
+    let info = info(alloc, 4)?;
+    let copy = info.try_clone();
+    drop(info);
+    copy
+}
+
+fn want_disposition(alloc: Global, want: &mut ReceiverMessages) -> Result<(), NoMemory> {
+    let delivery = copied_info(alloc)?;
+    let message = ReceiverMessage::Disposition {
+        delivery,
+        settled: Some(true),
+        state: DeliveryState::Released,
+    };
+    push(want, message)
+}
+
+/// Whether the one disposition wanted was put.
+fn is_disposition(alloc: Global, put: &ReceiverMessages) -> Result<bool, NoMemory> {
+    let mut want = ReceiverMessages::new(alloc);
+    let wanted = want_disposition(alloc, &mut want);
+    let equal = *put == want;
+    drop(want);
+    wanted?;
+    Ok(equal)
 }
 
 #[test]
 fn dispositions_are_put(rt: HostRuntime) -> Result<(), Fail> {
-    let alloc = rt.alloc();
-    let mut wire = receiver(alloc)?;
-    let disposed = delivery(alloc, 4)?;
-    assert!(rt; disposes(&mut wire, &disposed.info, DeliveryState::Released));
-    let info = disposed.info.try_clone()?;
-    let mut want = ReceiverMessages::new(alloc);
-    want.push(ReceiverMessage::Disposition {
-        delivery: info,
-        settled: Some(true),
-        state: DeliveryState::Released,
-    })?;
-    assert!(rt; *wire.put() == want);
-    assert!(rt; *wire.end() == end(alloc, Role::Receiver)?);
+    let mut wire = receiver(rt.alloc())?;
+    let disposed = disposes(&mut wire, rt.alloc(), DeliveryState::Released);
+    let put = is_disposition(rt.alloc(), wire.put());
+    let end = is_end(rt.alloc(), wire.end(), Role::Receiver);
+    drop(wire);
+    assert!(rt; disposed?);
+    assert!(rt; put?);
+    assert!(rt; end?);
     Ok(())
 }
 
 /// The property `a`, null.
-fn property(alloc: Global) -> Result<Fields, Fail> {
+fn property(alloc: Global) -> Result<Fields, NoMemory> {
+    let key = Symbol::from_str(alloc, "a")?;
     let mut fields = Fields::new(alloc);
-    fields.insert(Symbol::from_str(alloc, "a")?, Value::Null)?;
-    Ok(fields)
+    match fields.insert(key, Value::Null) {
+        Ok(()) => Ok(fields),
+        Err((unkept, error)) => {
+            drop(unkept);
+            drop(fields);
+            Err(error)
+        }
+    }
 }
 
 fn flow(credit: u32, properties: Option<Fields>) -> ReceiverMessage {
@@ -256,35 +401,84 @@ fn flow(credit: u32, properties: Option<Fields>) -> ReceiverMessage {
     }
 }
 
+/// Three flows, the first without a property: each whether it was put.
+fn puts_flows(wire: &mut WireReceiver, alloc: Global) -> Result<[bool; 3], NoMemory> {
+    let first = flows(wire, 5, true);
+    insert(wire, alloc, "a", Value::Null)?;
+    Ok([first, flows(wire, 6, true), flows(wire, 7, false)])
+}
+
+fn want_flows(alloc: Global, want: &mut ReceiverMessages) -> Result<(), NoMemory> {
+    push(want, flow(5, None))?;
+    let properties = property(alloc)?;
+    push(want, flow(6, Some(properties)))?;
+    push(want, flow(7, None))
+}
+
+/// Whether the three flows wanted were put.
+fn are_flows(alloc: Global, put: &ReceiverMessages) -> Result<bool, NoMemory> {
+    let mut want = ReceiverMessages::new(alloc);
+    let wanted = want_flows(alloc, &mut want);
+    let equal = *put == want;
+    drop(want);
+    wanted?;
+    Ok(equal)
+}
+
 #[test]
 fn flows_are_put(rt: HostRuntime) -> Result<(), Fail> {
-    let alloc = rt.alloc();
-    let mut wire = receiver(alloc)?;
-    assert!(rt; flows(&mut wire, 5, true));
-    insert(&mut wire, alloc, "a", Value::Null)?;
-    assert!(rt; flows(&mut wire, 6, true));
-    assert!(rt; flows(&mut wire, 7, false));
-    let mut want = ReceiverMessages::new(alloc);
-    want.push(flow(5, None))?;
-    let properties = property(alloc)?;
-    want.push(flow(6, Some(properties)))?;
-    want.push(flow(7, None))?;
-    assert!(rt; *wire.put() == want);
+    let mut wire = receiver(rt.alloc())?;
+    let flowed = puts_flows(&mut wire, rt.alloc());
+    let put = are_flows(rt.alloc(), wire.put());
+    drop(wire);
+    let flowed = flowed?;
+    assert!(rt; flowed == [true; 3]);
+    assert!(rt; put?);
     Ok(())
+}
+
+fn deliver(wire: &mut WireReceiver, alloc: Global, delivery_id: u32) -> Result<(), NoMemory> {
+    let delivery = delivery(alloc, delivery_id)?;
+    match wire.deliver(delivery) {
+        Ok(()) => Ok(()),
+        Err((unkept, error)) => {
+            drop(unkept);
+            Err(error)
+        }
+    }
+}
+
+/// A copy of the delivery of that number.
+fn copied_delivery(alloc: Global, delivery_id: u32) -> Result<Delivery, NoMemory> {
+    let delivery = delivery(alloc, delivery_id)?;
+    let copy = delivery.try_clone();
+    drop(delivery);
+    copy
+}
+
+/// Whether the next look for a delivery finds the one of that number.
+fn gives<L: ReceiverLink>(link: &mut L, alloc: Global, delivery_id: u32) -> Result<bool, NoMemory> {
+    let want = copied_delivery(alloc, delivery_id)?;
+    Ok(receives(link, Poll::Ready(Ok(want))))
+}
+
+/// Two deliveries, and looks before, for and after them: each whether it found what it must.
+fn gives_in_order(wire: &mut WireReceiver, alloc: Global) -> Result<[bool; 4], NoMemory> {
+    let before = receives(wire, Poll::Pending);
+    deliver(wire, alloc, 1)?;
+    deliver(wire, alloc, 2)?;
+    let first = gives(wire, alloc, 1)?;
+    let second = gives(wire, alloc, 2)?;
+    Ok([before, first, second, receives(wire, Poll::Pending)])
 }
 
 #[test]
 fn deliveries_come_in_order(rt: HostRuntime) -> Result<(), Fail> {
-    let alloc = rt.alloc();
-    let mut wire = receiver(alloc)?;
-    assert!(rt; receives(&mut wire, Poll::Pending));
-    wire.deliver(delivery(alloc, 1)?)?;
-    wire.deliver(delivery(alloc, 2)?)?;
-    let first = delivery(alloc, 1)?;
-    let second = delivery(alloc, 2)?.try_clone()?;
-    assert!(rt; receives(&mut wire, Poll::Ready(Ok(first))));
-    assert!(rt; receives(&mut wire, Poll::Ready(Ok(second))));
-    assert!(rt; receives(&mut wire, Poll::Pending));
+    let mut wire = receiver(rt.alloc())?;
+    let facts = gives_in_order(&mut wire, rt.alloc());
+    drop(wire);
+    let facts = facts?;
+    assert!(rt; facts == [true; 4]);
     Ok(())
 }
 
@@ -292,41 +486,65 @@ fn failed_receive() -> Poll<Result<Delivery, RecvError>> {
     Poll::Ready(Err(RecvError::LinkStateError(LinkStateError::IllegalState)))
 }
 
+/// A receiver whose calls of these numbers are to fail.
+fn failing_receiver(alloc: Global, listed: &[u64]) -> Result<WireReceiver, NoMemory> {
+    let numbers = numbers(alloc, listed)?;
+    let mut wire = receiver(alloc)?;
+    wire.set_failing(numbers);
+    Ok(wire)
+}
+
 #[test]
 fn listed_calls_of_a_receiver_fail(rt: HostRuntime) -> Result<(), Fail> {
-    let alloc = rt.alloc();
-    let mut wire = receiver(alloc)?;
-    wire.set_failing(numbers(alloc, &[1, 2, 3])?);
-    let disposed = delivery(alloc, 4)?;
-    assert!(rt; !disposes(&mut wire, &disposed.info, DeliveryState::Accepted));
-    assert!(rt; receives(&mut wire, failed_receive()));
-    assert!(rt; !flows(&mut wire, 5, false));
-    assert_eq!(rt; wire.put().len(), 0);
-    wire.set_credit(7)?;
-    assert_eq!(rt; wire.credit(), 7);
+    let mut wire = failing_receiver(rt.alloc(), &[1, 2, 3])?;
+    let disposed = disposes(&mut wire, rt.alloc(), DeliveryState::Accepted);
+    let failed = receives(&mut wire, failed_receive());
+    let flowed = flows(&mut wire, 5, false);
+    let put = wire.put().len();
+    let set = wire.set_credit(7).is_ok();
+    let credit = wire.credit();
+    drop(wire);
+    assert!(rt; !disposed?);
+    assert!(rt; failed);
+    assert!(rt; !flowed);
+    assert_eq!(rt; put, 0);
+    assert!(rt; set);
+    assert_eq!(rt; credit, 7);
     Ok(())
 }
 
-/// Whether the link has these properties.
-fn has<L: ReceiverLink>(link: &L, want: &Fields) -> bool {
-    match link.properties() {
-        Some(properties) => *properties == *want,
+/// Whether the link has the property `a`, null, and no other.
+fn has_property<L: ReceiverLink>(link: &L, alloc: Global) -> Result<bool, NoMemory> {
+    let want = property(alloc)?;
+    let equal = match link.properties() {
+        Some(properties) => *properties == want,
         None => false,
-    }
+    };
+    drop(want);
+    Ok(equal)
+}
+
+/// Three inserts and a removal.
+fn change_properties<L: ReceiverLink>(link: &mut L, alloc: Global) -> Result<(), NoMemory> {
+    insert(link, alloc, "a", Value::Uint(1))?;
+    insert(link, alloc, "b", Value::Uint(2))?;
+    insert(link, alloc, "a", Value::Null)?;
+    let gone = Symbol::from_str(alloc, "b")?;
+    link.remove_property(&gone);
+    drop(gone);
+    Ok(())
 }
 
 #[test]
 fn properties_change_by_their_two_calls(rt: HostRuntime) -> Result<(), Fail> {
-    let alloc = rt.alloc();
-    let mut wire = receiver(alloc)?;
-    assert!(rt; wire.properties().is_none());
-    insert(&mut wire, alloc, "a", Value::Uint(1))?;
-    insert(&mut wire, alloc, "b", Value::Uint(2))?;
-    insert(&mut wire, alloc, "a", Value::Null)?;
-    let gone = Symbol::from_str(alloc, "b")?;
-    wire.remove_property(&gone);
-    let want = property(alloc)?;
-    assert!(rt; has(&wire, &want));
+    let mut wire = receiver(rt.alloc())?;
+    let none = wire.properties().is_none();
+    let changed = change_properties(&mut wire, rt.alloc());
+    let has = has_property(&wire, rt.alloc());
+    drop(wire);
+    assert!(rt; none);
+    changed?;
+    assert!(rt; has?);
     Ok(())
 }
 
