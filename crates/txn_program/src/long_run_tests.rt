@@ -99,7 +99,7 @@ fn handed_from(
 }
 
 /// The place of the first entry that isn't, or didn't hand, what the plain program says after the
-/// entries before it; where there is none, the number of entries.
+/// entries before it; where there is none, the number of entries, or 0 where more was taken.
 fn agreed(alloc: Global, entries: &[Entry], taken: &Exchanges) -> Result<usize, NoMemory> {
     let mut count = 0usize;
     for (place, entry) in entries.iter().enumerate() {
@@ -111,6 +111,9 @@ fn agreed(alloc: Global, entries: &[Entry], taken: &Exchanges) -> Result<usize, 
             return Ok(place);
         };
         count = count.saturating_add(more);
+    }
+    if taken.len() != count {
+        return Ok(0);
     }
     Ok(entries.len())
 }
