@@ -1,7 +1,7 @@
 -- What each kind of step leaves, from what the calls that it makes leave.
 use Rattle.std.proofs.Common.{◌≡◌, ℕ, ◌+◌, ◌≤◌, Bool, true, false, cond, not, ◌&&◌, Option, Some, None, Ok, Err, List, [], ◌∷◌, ◌++◌, length, map, take, refl, sym, ◌∙◌, ap, arith, subst, inl, inr}
 use Rattle.std.specs.Prelude.{◌==◌, slice_get, is_some, MatchBool}
-use Rattle.std.specs.List.{list_all, filter, zip}
+use Rattle.std.specs.List.{list_all, zip}
 use Rattle.std.proofs.lemmas.List.{length-map}
 use Rattle.std.proofs.lemmas.List.Folds.{list_all-append}
 use Rattle.std.proofs.lemmas.Bool.{eq-eqb, eqb-true, and_right}
@@ -40,18 +40,16 @@ use Rattle.amqp_record.specs.Work.{given_by}
 use Rattle.amqp_record.specs.Answers.{answered_under, WindowFits, WindowsFit, Answer, AnswerFrame, AnswerControl, AnswerMessage, AnswerLinkEnd, Draws, Echoed}
 use Rattle.amqp_record.specs.Opened.{opened_by, refused_by, refusal_of}
 use Rattle.amqp_record.proofs.Whole.{plain_none, hands-plain, hands-other_frame, hands-commit, hands-no_commit, not_held_no_commit, commits-at, commits-discharge, commits-rollback}
-use Rattle.amqp_resource.specs.declared.held.Live.{Live}
 use Rattle.amqp_resource.specs.declared.held.Held.{Held}
 use Rattle.amqp_resource.specs.declared.taking.TakeError.{TakeError}
-use Rattle.amqp_resource.specs.Held.{SameHeld, Stands, StandsAt, Distinct, Kept, is_on, look, look_without, with_frame, kept_by, is_in}
+use Rattle.amqp_resource.specs.Held.{Kept, LiveIds, SameHeld, Stands, Tied, ids_on, is_among, is_in, is_kept_on, is_on, kept_by, look, look_without, unless_on, with_frame}
 use Rattle.amqp_resource.specs.Draws.{is_kept, DrewLive, DrewUnused}
 use Rattle.amqp_resource.specs.Taking.{TookFrames, TakesFrame, taken_frames}
 use Rattle.amqp_resource.specs.Committing.{HandedSome, HandedPart, RefusedAt, given_of}
 use Rattle.amqp_below.specs.declared.transacting.CommitFault.{CommitFault}
 use Rattle.amqp_below.specs.declared.transacting.CommitFault.TheVariants as commit_faults
-use Rattle.amqp_resource.specs.Transacting.{CommittedWith, step_error_of}
+use Rattle.amqp_resource.specs.Transacting.{CommittedWith, Ended, step_error_of}
 use Rattle.amqp_resource.specs.Steps.{Went, Refused, Stayed, StepGave, StepCause, OnNoMemory, OnOwnError, AddsRefusal, FrameMayFault, IsDead, IsPost, IsUnder, UnderDead, EndGave, ended_by, entry_of, fault_of, is_live_under, is_unknown, message_takes_memory, nothing_drawn, takes_memory}
-use Rattle.amqp_resource.proofs.Kept.{found, look_push, Distinct_push}
 use Rattle.amqp_resource.proofs.Handing.{grown-nil, refused_after-err}
 use Rattle.amqp_resource.proofs.Standing.{Quiet, stands-quiet, stands-post, stands-attached, stands-discharged, stands-closed, stands-declared}
 
@@ -77,13 +75,13 @@ went-steady g old new r s d reply a st h o f t = record {
 }
 
 -- what is kept may stand in other memory
-pub stands-moved : (h g : Held) (r : List Entry) → Stands h r → g.live.items ≡ h.live.items → g.links.items ≡ h.links.items → g.opened ≡ h.opened → Stands g r
-stands-moved h g r s lg kg og = record {
+pub stands-moved : (h g : Held) (r : List Entry) → Stands h r → SameHeld h g → Stands g r
+stands-moved h g r s same = record {
   legal = s.legal;
-  distinct = subst Distinct (sym lg) s.distinct;
-  live = λ t. ap (λ ls. look ls t) lg ∙ s.live t;
-  links = λ k. ap (λ ks. is_in ks k) kg ∙ s.links k;
-  opened = og ∙ s.opened;
+  tied = λ k t. ap (is_among t) (same.links k) ∙ s.tied k t ∙ sym (ap (is_kept_on k) (same.live t));
+  live = λ t. same.live t ∙ s.live t;
+  links = λ k. ap is_some (same.links k) ∙ s.links k;
+  opened = same.opened ∙ s.opened;
 }
 
 -- ---- faults
@@ -167,23 +165,16 @@ stayed-plain h r frame p s = record { stands = s; takes = ap (is_live_under r) (
 
 -- ---- a frame under an id
 
-live_at : (r : List Entry) (t : TransactionId) (o : Option Kept) → o ≡ kept_by r t → (o ≡ None → ⊥) → is_live r t ≡ true
-live_at r t o e n = by_case (is_live r t) refl
-  where
-    by_case : (b : Bool) → is_live r t ≡ b → b ≡ true
-    by_case true h = refl
-    by_case false h = absurd (n (e ∙ ap (λ b. cond b (Some (Some (home r t), frames_of r t)) None) h))
-
-pub stands_live : (h : Held) (r : List Entry) (i : ℕ) (t : TransactionId) → Stands h r → StandsAt h.live.items i t → is_live r t ≡ true
-stands_live h r i t s a = live_at r t (look h.live.items t) (s.live t) (found h.live.items i t a)
-
 -- what is kept is live
-pub kept_live : (h : Held) (r : List Entry) (t : TransactionId) → Stands h r → is_kept h.live.items t ≡ is_live r t
+pub kept_live : (h : Held) (r : List Entry) (t : TransactionId) → Stands h r → is_kept h.live.entries t ≡ is_live r t
 kept_live h r t s = ap is_some (s.live t) ∙ by_case (is_live r t)
   where
     by_case : (b : Bool) → is_some {T = Kept} (cond b (Some (Some (home r t), frames_of r t)) None) ≡ b
     by_case true = refl
     by_case false = refl
+
+stands_live : (h : Held) (r : List Entry) (t : TransactionId) → Stands h r → is_kept h.live.entries t ≡ true → is_live r t ≡ true
+stands_live h r t s k = sym (kept_live h r t s) ∙ k
 
 abbrev pub post_reply : TransactionId → Frame → Reply
 post_reply u frame = replies.Frames (record { given = answered_under u frame; window = None })
@@ -196,29 +187,38 @@ answer-post r frame u e l =
 not_plain : (frame : Frame) (u : TransactionId) → txn frame ≡ Some u → plain frame ≡ false
 not_plain frame u e = ap (λ o. is_plain o (coord frame)) e
 
-pub went-post : (h g : Held) (r : List Entry) (frame : Frame) (u : TransactionId) (i : ℕ) (old new : Told) → txn frame ≡ Some u → Stands h r → StandsAt h.live.items i u → Distinct g.live.items → ((t : TransactionId) → look g.live.items t ≡ cond (same_id t u) (with_frame (look h.live.items t) frame) (look h.live.items t)) → g.links.items ≡ h.links.items → g.opened ≡ h.opened → Steady old new → Went g old new r (steps.Frame frame) nothing_drawn (post_reply u frame)
-went-post h g r frame u i old new e s at dg lg kg og t =
-    let a = answer-post r frame u e (stands_live h r i u s at) in
+-- a frame more changes no holder
+tied-post : (h g : Held) (u : TransactionId) (frame : Frame) → Tied h → ((t : TransactionId) → look g.live.entries t ≡ cond (same_id t u) (with_frame (look h.live.entries t) frame) (look h.live.entries t)) → ((k : ℕ) → ids_on g.links.entries k ≡ ids_on h.links.entries k) → Tied g
+tied-post h g u frame tied lg kg k t = ap (is_among t) (kg k) ∙ tied k t ∙ sym (ap (is_kept_on k) (lg t) ∙ same_holder (same_id t u) (look h.live.entries t))
+  where
+    same_holder : (b : Bool) (o : Option Kept) → is_kept_on k (cond b (with_frame o frame) o) ≡ is_kept_on k o
+    same_holder true None = refl
+    same_holder true (Some kept) = refl
+    same_holder false o = refl
+
+pub went-post : (h g : Held) (r : List Entry) (frame : Frame) (u : TransactionId) (old new : Told) → txn frame ≡ Some u → Stands h r → is_kept h.live.entries u ≡ true → ((t : TransactionId) → look g.live.entries t ≡ cond (same_id t u) (with_frame (look h.live.entries t) frame) (look h.live.entries t)) → ((k : ℕ) → ids_on g.links.entries k ≡ ids_on h.links.entries k) → g.opened ≡ h.opened → Steady old new → Went g old new r (steps.Frame frame) nothing_drawn (post_reply u frame)
+went-post h g r frame u old new e s at lg kg og t =
+    let a = answer-post r frame u e (stands_live h r u s at) in
     went-steady g old new r (steps.Frame frame) nothing_drawn (post_reply u frame) a
-    (stands-post h g r (entry_of (steps.Frame frame) nothing_drawn (post_reply u frame)) frame u s a (quiet-frames frame (record { given = answered_under u frame; window = None })) refl (λ v. ap (is_some_id v) e) dg lg kg og)
+    (stands-post h g r (entry_of (steps.Frame frame) nothing_drawn (post_reply u frame)) frame u s a (quiet-frames frame (record { given = answered_under u frame; window = None })) refl (λ v. ap (is_some_id v) e) (tied-post h g u frame s.tied lg kg) lg (λ k. ap is_some (kg k)) og)
     (hands-other_frame r frame (not_plain frame u e)) refl refl t
 
-pub unknown-post : (h : Held) (r : List Entry) (frame : Frame) (u : TransactionId) → txn frame ≡ Some u → Stands h r → look h.live.items u ≡ None → UnderDead r (steps.Frame frame) × (◌≡◌ {A = ℕ} 0 0)
-unknown-post h r frame u e s n = (subst (IsDead r) (sym e) (sym (kept_live h r u s) ∙ ap is_some n), refl)
+pub unknown-post : (h : Held) (r : List Entry) (frame : Frame) (u : TransactionId) → txn frame ≡ Some u → Stands h r → is_kept h.live.entries u ≡ false → UnderDead r (steps.Frame frame) × (◌≡◌ {A = ℕ} 0 0)
+unknown-post h r frame u e s n = (subst (IsDead r) (sym e) (sym (kept_live h r u s) ∙ n), refl)
 
 -- the answer of a post was refused below
-pub refused-post : (h : Held) (r : List Entry) (frame : Frame) (u : TransactionId) (i : ℕ) (own : SessionInnerError) (old new : Told) → txn frame ≡ Some u → Stands h r → StandsAt h.live.items i u → 1 ≤ length (answered_under u frame) → Steady old new → Refused old new r (steps.Frame frame) (fault_of own) 0
-refused-post h r frame u i own old new e s at some t =
+pub refused-post : (h : Held) (r : List Entry) (frame : Frame) (u : TransactionId) (own : SessionInnerError) (old new : Told) → txn frame ≡ Some u → Stands h r → is_kept h.live.entries u ≡ true → 1 ≤ length (answered_under u frame) → Steady old new → Refused old new r (steps.Frame frame) (fault_of own) 0
+refused-post h r frame u own old new e s at some t =
     let under : IsPost (steps.Frame frame) = subst IsUnder (sym e) tt in
     record {
-      fits = subst (FrameMayFault r frame) (sym e) (stands_live h r i u s at, some);
+      fits = subst (FrameMayFault r frame) (sym e) (stands_live h r u s at, some);
       took = (omega arith, ([], refl, t.taken ∙ sym (grown-nil old.taken)));
       opened = t.opened;
       refused = ([], (own, refl, inr (refl, inl under)), t.refused ∙ sym (grown-nil old.refused));
     }
 
-pub stayed-post : (h g : Held) (r : List Entry) (frame : Frame) (u : TransactionId) (i : ℕ) → txn frame ≡ Some u → Stands h r → StandsAt h.live.items i u → Stands g r → Stayed g r (steps.Frame frame)
-stayed-post h g r frame u i e s at sg = record { stands = sg; takes = ap (is_live_under r) e ∙ stands_live h r i u s at }
+pub stayed-post : (h g : Held) (r : List Entry) (frame : Frame) (u : TransactionId) → txn frame ≡ Some u → Stands h r → is_kept h.live.entries u ≡ true → Stands g r → Stayed g r (steps.Frame frame)
+stayed-post h g r frame u e s at sg = record { stands = sg; takes = ap (is_live_under r) e ∙ stands_live h r u s at }
 
 -- ---- an attach to a coordinator
 
@@ -236,7 +236,7 @@ coordinator_not_plain attach c = ap (λ o. is_plain o (coord (frames.Attach atta
 attach_answer : (r : List Entry) (attach : Attach) (reply : Reply) → AnswerFrame r (frames.Attach attach) None reply → Answer r (steps.Frame (frames.Attach attach)) [] reply
 attach_answer r attach reply a = let P : Option TransactionId → Type 0 = λ o. AnswerFrame r (frames.Attach attach) o reply in (refl, subst P (sym (txn-attach attach)) a)
 
-pub went-attached : (h g : Held) (r : List Entry) (attach : Attach) (given : List Frame) (old new : Told) → attaches_coordinator attach ≡ true → Stands h r → g.live.items ≡ h.live.items → g.links.items ≡ h.links.items ++ h.opened ∷ [] → g.opened ≡ h.opened + 1 → Opens old new attach (Ok given) → Went g old new r (steps.Frame (frames.Attach attach)) nothing_drawn (replies.Attached h.opened given)
+pub went-attached : (h g : Held) (r : List Entry) (attach : Attach) (given : List Frame) (old new : Told) → attaches_coordinator attach ≡ true → Stands h r → ((t : TransactionId) → look g.live.entries t ≡ look h.live.entries t) → ((k : ℕ) → ids_on g.links.entries k ≡ cond (h.opened == k) (Some []) (ids_on h.links.entries k)) → g.opened ≡ h.opened + 1 → Opens old new attach (Ok given) → Went g old new r (steps.Frame (frames.Attach attach)) nothing_drawn (replies.Attached h.opened given)
 went-attached h g r attach given old new c s lg kg og t =
     let a = attach_answer r attach (replies.Attached h.opened given) (coord-attach attach ∙ c, s.opened) in
     record {
@@ -247,12 +247,12 @@ went-attached h g r attach given old new c s lg kg og t =
       refused = adds_nothing old.refused new.refused [] refl t.refused;
     }
 
-pub went-attach_refused : (h g : Held) (r : List Entry) (attach : Attach) (error : SessionInnerError) (old new : Told) → attaches_coordinator attach ≡ true → Stands h r → g.live.items ≡ h.live.items → g.links.items ≡ h.links.items → g.opened ≡ h.opened → Opens old new attach (Err error) → Went g old new r (steps.Frame (frames.Attach attach)) nothing_drawn (replies.AttachRefused error)
-went-attach_refused h g r attach error old new c s lg kg og t =
+pub went-attach_refused : (h g : Held) (r : List Entry) (attach : Attach) (error : SessionInnerError) (old new : Told) → attaches_coordinator attach ≡ true → Stands h r → SameHeld h g → Opens old new attach (Err error) → Went g old new r (steps.Frame (frames.Attach attach)) nothing_drawn (replies.AttachRefused error)
+went-attach_refused h g r attach error old new c s same t =
     let a = attach_answer r attach (replies.AttachRefused error) (coord-attach attach ∙ c) in
     record {
       answer = a;
-      stands = stands-quiet g r (entry_of (steps.Frame (frames.Attach attach)) nothing_drawn (replies.AttachRefused error)) (stands-moved h g r s lg kg og) a
+      stands = stands-quiet g r (entry_of (steps.Frame (frames.Attach attach)) nothing_drawn (replies.AttachRefused error)) (stands-moved h g r s same) a
           (record { declares = λ t. refl; discharges = λ t. refl; attaches = λ k. refl; closes = λ k. refl; attached = refl }) (λ u. ap (is_some_id u) (txn-attach attach));
       taken = hands_nothing old.taken new.taken r (steps.Frame (frames.Attach attach)) (replies.AttachRefused error) (hands-other_frame r (frames.Attach attach) (coordinator_not_plain attach c)) t.taken;
       opened = adds_nothing old.opened new.opened [] refl t.opened;
@@ -273,7 +273,7 @@ control_answer r k payload m d reply o e a =
 quiet-rejected : (k : ℕ) (payload : List ℕ) (d : DrawnIds) (text : RejectText) → Quiet (entry_of (steps.Control k payload) d (replies.Rejected transaction_errors.UnknownId text))
 quiet-rejected k payload d text = record { declares = λ t. refl; discharges = λ t. refl; attaches = λ j. refl; closes = λ j. refl; attached = refl }
 
-pub went-absent : (h : Held) (r : List Entry) (k : ℕ) (payload : List ℕ) (discharge : Discharge) (told : Told) → message_of payload ≡ Some (messages.Discharge discharge) → is_in h.links.items k ≡ true → Stands h r → is_held_on r k discharge.txn_id ≡ false → Went h told told r (steps.Control k payload) nothing_drawn (replies.Rejected transaction_errors.UnknownId texts.Absent)
+pub went-absent : (h : Held) (r : List Entry) (k : ℕ) (payload : List ℕ) (discharge : Discharge) (told : Told) → message_of payload ≡ Some (messages.Discharge discharge) → is_in h.links.entries k ≡ true → Stands h r → is_held_on r k discharge.txn_id ≡ false → Went h told told r (steps.Control k payload) nothing_drawn (replies.Rejected transaction_errors.UnknownId texts.Absent)
 went-absent h r k payload discharge told m o s n =
     let opened : is_open r k ≡ true = sym (s.links k) ∙ o in
     let a = control_answer r k payload (Some (messages.Discharge discharge)) [] (replies.Rejected transaction_errors.UnknownId texts.Absent) opened m (n, refl) in
@@ -282,7 +282,7 @@ went-absent h r k payload discharge told m o s n =
     (hands-no_commit r k payload (not_held_no_commit r k payload discharge opened m n)) refl refl (steady-same told)
 
 -- what isn't kept isn't held
-pub not_kept : (h : Held) (r : List Entry) (k : ℕ) (u : TransactionId) → Stands h r → look h.live.items u ≡ None → is_held_on r k u ≡ false
+pub not_kept : (h : Held) (r : List Entry) (k : ℕ) (u : TransactionId) → Stands h r → look h.live.entries u ≡ None → is_held_on r k u ≡ false
 not_kept h r k u s n = by_case (is_live r u) refl
   where
     by_case : (b : Bool) → is_live r u ≡ b → (is_live r u && (home r u == k)) ≡ false
@@ -290,7 +290,7 @@ not_kept h r k u s n = by_case (is_live r u) refl
     by_case false x = ap (λ b. b && (home r u == k)) x
 
 -- what is kept has the record's home and frames
-pub kept-home : (h : Held) (r : List Entry) (u : TransactionId) (o : Option ℕ) (fs : List Frame) → Stands h r → look h.live.items u ≡ Some (o, fs) → (is_live r u ≡ true) × (Some (home r u) ≡ o) × (frames_of r u ≡ fs)
+pub kept-home : (h : Held) (r : List Entry) (u : TransactionId) (o : Option ℕ) (fs : List Frame) → Stands h r → look h.live.entries u ≡ Some (o, fs) → (is_live r u ≡ true) × (Some (home r u) ≡ o) × (frames_of r u ≡ fs)
 kept-home h r u o fs s e = by_case (is_live r u) refl
   where
     by_case : (b : Bool) → is_live r u ≡ b → (is_live r u ≡ true) × (Some (home r u) ≡ o) × (frames_of r u ≡ fs)
@@ -301,7 +301,7 @@ kept-home h r u o fs s e = by_case (is_live r u) refl
     by_case false x = let none : None ≡ Some (o, fs) = sym (ap (λ b. cond b (Some (Some (home r u), frames_of r u)) None) x) ∙ sym (s.live u) ∙ e in cc none
 
 -- an id that is kept for a link has it as its home
-pub kept-on : (h : Held) (r : List Entry) (u : TransactionId) (k : ℕ) (fs : List Frame) → Stands h r → look h.live.items u ≡ Some (Some k, fs) → (is_live r u ≡ true) × (home r u ≡ k) × (frames_of r u ≡ fs)
+pub kept-on : (h : Held) (r : List Entry) (u : TransactionId) (k : ℕ) (fs : List Frame) → Stands h r → look h.live.entries u ≡ Some (Some k, fs) → (is_live r u ≡ true) × (home r u ≡ k) × (frames_of r u ≡ fs)
 kept-on h r u k fs s e =
     let kept = kept-home h r u (Some k) fs s e in
     let same : home r u ≡ k = cc kept.1 in
@@ -311,9 +311,9 @@ discharges_says : (k : ℕ) (payload : List ℕ) (t : TransactionId) (discharge 
 discharges_says k payload t discharge echoes m = ap (message_discharges t) m
 
 -- an accepted discharge, whichever it is
-stands-accepted : (h g : Held) (r : List Entry) (k : ℕ) (payload : List ℕ) (discharge : Discharge) (echoes : List Answers) → message_of payload ≡ Some (messages.Discharge discharge) → Stands h r → Answer r (steps.Control k payload) [] (replies.Accepted echoes) → Distinct g.live.items → ((t : TransactionId) → look g.live.items t ≡ look_without discharge.txn_id h.live.items t) → g.links.items ≡ h.links.items → g.opened ≡ h.opened → Stands g (r ++ entry_of (steps.Control k payload) nothing_drawn (replies.Accepted echoes) ∷ [])
-stands-accepted h g r k payload discharge echoes m s a dg lg kg og =
-    stands-discharged h g r (entry_of (steps.Control k payload) nothing_drawn (replies.Accepted echoes)) discharge.txn_id s a (λ t. refl) (λ t. discharges_says k payload t discharge echoes m) (λ t. refl) (λ j. refl) (λ j. refl) refl dg lg kg og
+stands-accepted : (h g : Held) (r : List Entry) (k : ℕ) (payload : List ℕ) (discharge : Discharge) (echoes : List Answers) → message_of payload ≡ Some (messages.Discharge discharge) → Stands h r → Answer r (steps.Control k payload) [] (replies.Accepted echoes) → Ended h g discharge.txn_id → Stands g (r ++ entry_of (steps.Control k payload) nothing_drawn (replies.Accepted echoes) ∷ [])
+stands-accepted h g r k payload discharge echoes m s a x =
+    stands-discharged h g r (entry_of (steps.Control k payload) nothing_drawn (replies.Accepted echoes)) discharge.txn_id s a (λ t. refl) (λ t. discharges_says k payload t discharge echoes m) (λ t. refl) (λ j. refl) (λ j. refl) refl (x.tied s.tied) x.live x.links x.opened
 
 held_on : (r : List Entry) (k : ℕ) (u : TransactionId) → is_live r u ≡ true → home r u ≡ k → is_held_on r k u ≡ true
 held_on r k u l e = ap (λ b. b && (home r u == k)) l ∙ eq-eqb (home r u) k e
@@ -323,30 +323,30 @@ accepted_answer r k payload discharge echoes b o m l rb x =
     let P : Bool → Type 0 = λ c. Echoed r discharge.txn_id c echoes in
     control_answer r k payload (Some (messages.Discharge discharge)) [] (replies.Accepted echoes) o m (l, refl, subst P (sym rb) x)
 
-pub went-rollback : (h g : Held) (r : List Entry) (k : ℕ) (payload : List ℕ) (discharge : Discharge) (fs : List Frame) (told : Told) → message_of payload ≡ Some (messages.Discharge discharge) → is_rollback discharge.fail ≡ true → is_in h.links.items k ≡ true → Stands h r → look h.live.items discharge.txn_id ≡ Some (Some k, fs) → Distinct g.live.items → ((t : TransactionId) → look g.live.items t ≡ look_without discharge.txn_id h.live.items t) → g.links.items ≡ h.links.items → g.opened ≡ h.opened → Went g told told r (steps.Control k payload) nothing_drawn (replies.Accepted [])
-went-rollback h g r k payload discharge fs told m rb o s at dg lg kg og =
+pub went-rollback : (h g : Held) (r : List Entry) (k : ℕ) (payload : List ℕ) (discharge : Discharge) (fs : List Frame) (told : Told) → message_of payload ≡ Some (messages.Discharge discharge) → is_rollback discharge.fail ≡ true → is_in h.links.entries k ≡ true → Stands h r → look h.live.entries discharge.txn_id ≡ Some (Some k, fs) → Ended h g discharge.txn_id → Went g told told r (steps.Control k payload) nothing_drawn (replies.Accepted [])
+went-rollback h g r k payload discharge fs told m rb o s at x =
     let opened : is_open r k ≡ true = sym (s.links k) ∙ o in
     let kept = kept-on h r discharge.txn_id k fs s at in
     let a = accepted_answer r k payload discharge [] true opened m (held_on r k discharge.txn_id kept.0 kept.1) rb refl in
     went-steady g told told r (steps.Control k payload) nothing_drawn (replies.Accepted []) a
-    (stands-accepted h g r k payload discharge [] m s a dg lg kg og)
+    (stands-accepted h g r k payload discharge [] m s a x)
     (hands-no_commit r k payload (commits-rollback r k payload discharge opened m rb)) refl refl (steady-same told)
 
-commit_hands : (h : Held) (r : List Entry) (k : ℕ) (payload : List ℕ) (discharge : Discharge) (fs : List Frame) → message_of payload ≡ Some (messages.Discharge discharge) → is_rollback discharge.fail ≡ false → is_in h.links.items k ≡ true → Stands h r → look h.live.items discharge.txn_id ≡ Some (Some k, fs) → hands r (steps.Control k payload) ≡ map stripped fs
+commit_hands : (h : Held) (r : List Entry) (k : ℕ) (payload : List ℕ) (discharge : Discharge) (fs : List Frame) → message_of payload ≡ Some (messages.Discharge discharge) → is_rollback discharge.fail ≡ false → is_in h.links.entries k ≡ true → Stands h r → look h.live.entries discharge.txn_id ≡ Some (Some k, fs) → hands r (steps.Control k payload) ≡ map stripped fs
 commit_hands h r k payload discharge fs m rb o s at =
     let opened : is_open r k ≡ true = sym (s.links k) ∙ o in
     let kept = kept-on h r discharge.txn_id k fs s at in
     hands-commit r k payload discharge.txn_id (commits-discharge r k payload discharge opened m rb (held_on r k discharge.txn_id kept.0 kept.1)) ∙ ap (map stripped) kept.2
 
-pub went-commit : (h g : Held) (r : List Entry) (k : ℕ) (payload : List ℕ) (discharge : Discharge) (fs : List Frame) (echoes : List Answers) (old new : Told) → message_of payload ≡ Some (messages.Discharge discharge) → is_rollback discharge.fail ≡ false → is_in h.links.items k ≡ true → Stands h r → look h.live.items discharge.txn_id ≡ Some (Some k, fs) → Distinct g.live.items → ((t : TransactionId) → look g.live.items t ≡ look_without discharge.txn_id h.live.items t) → g.links.items ≡ h.links.items → g.opened ≡ h.opened → HandedSome old new fs echoes → Went g old new r (steps.Control k payload) nothing_drawn (replies.Accepted echoes)
-went-commit h g r k payload discharge fs echoes old new m rb o s at dg lg kg og t =
+pub went-commit : (h g : Held) (r : List Entry) (k : ℕ) (payload : List ℕ) (discharge : Discharge) (fs : List Frame) (echoes : List Answers) (old new : Told) → message_of payload ≡ Some (messages.Discharge discharge) → is_rollback discharge.fail ≡ false → is_in h.links.entries k ≡ true → Stands h r → look h.live.entries discharge.txn_id ≡ Some (Some k, fs) → Ended h g discharge.txn_id → HandedSome old new fs echoes → Went g old new r (steps.Control k payload) nothing_drawn (replies.Accepted echoes)
+went-commit h g r k payload discharge fs echoes old new m rb o s at x t =
     let opened : is_open r k ≡ true = sym (s.links k) ∙ o in
     let kept = kept-on h r discharge.txn_id k fs s at in
     let fits : WindowsFit (frames_of r discharge.txn_id) echoes = subst (λ (x : List Frame). WindowsFit x echoes) (sym kept.2) t.fits in
     let a = accepted_answer r k payload discharge echoes false opened m (held_on r k discharge.txn_id kept.0 kept.1) rb fits in
     record {
       answer = a;
-      stands = stands-accepted h g r k payload discharge echoes m s a dg lg kg og;
+      stands = stands-accepted h g r k payload discharge echoes m s a x;
       taken = t.taken ∙ ap (λ x. grown old.taken (zip x (given_of echoes))) (sym (commit_hands h r k payload discharge fs m rb o s at));
       opened = adds_nothing old.opened new.opened [] refl t.opened;
       refused = adds_nothing old.refused new.refused [] refl t.refused;
@@ -356,7 +356,7 @@ part_adds : (r : List Entry) (s : Step) (handed : List Frame) (at : ℕ) (own : 
 part_adds r s handed at own more (inl x) = (own, refl, inl x)
 part_adds r s handed at own more (inr x) = (own, refl, inr (x.0, inr x.1))
 
-pub refused-commit : (h : Held) (r : List Entry) (k : ℕ) (payload : List ℕ) (discharge : Discharge) (fs : List Frame) (own : SessionInnerError) (handed : ℕ) (old new : Told) → message_of payload ≡ Some (messages.Discharge discharge) → is_rollback discharge.fail ≡ false → is_in h.links.items k ≡ true → Stands h r → look h.live.items discharge.txn_id ≡ Some (Some k, fs) → HandedPart old new fs own handed → Refused old new r (steps.Control k payload) (fault_of own) handed
+pub refused-commit : (h : Held) (r : List Entry) (k : ℕ) (payload : List ℕ) (discharge : Discharge) (fs : List Frame) (own : SessionInnerError) (handed : ℕ) (old new : Told) → message_of payload ≡ Some (messages.Discharge discharge) → is_rollback discharge.fail ≡ false → is_in h.links.entries k ≡ true → Stands h r → look h.live.entries discharge.txn_id ≡ Some (Some k, fs) → HandedPart old new fs own handed → Refused old new r (steps.Control k payload) (fault_of own) handed
 refused-commit h r k payload discharge fs own handed old new m rb o s at t =
     let all = commit_hands h r k payload discharge fs m rb o s at in
     let e : length (hands r (steps.Control k payload)) ≡ length fs = ap length all ∙ length-map fs stripped in
@@ -371,7 +371,7 @@ refused-commit h r k payload discharge fs own handed old new m rb o s at t =
       );
     }
 
-pub stayed-commit : (h : Held) (r : List Entry) (k : ℕ) (payload : List ℕ) (discharge : Discharge) (fs : List Frame) → message_of payload ≡ Some (messages.Discharge discharge) → is_rollback discharge.fail ≡ false → is_in h.links.items k ≡ true → Stands h r → look h.live.items discharge.txn_id ≡ Some (Some k, fs) → Stayed h r (steps.Control k payload)
+pub stayed-commit : (h : Held) (r : List Entry) (k : ℕ) (payload : List ℕ) (discharge : Discharge) (fs : List Frame) → message_of payload ≡ Some (messages.Discharge discharge) → is_rollback discharge.fail ≡ false → is_in h.links.entries k ≡ true → Stands h r → look h.live.entries discharge.txn_id ≡ Some (Some k, fs) → Stayed h r (steps.Control k payload)
 stayed-commit h r k payload discharge fs m rb o s at =
     let kept = kept-on h r discharge.txn_id k fs s at in
     record {
@@ -382,33 +382,17 @@ stayed-commit h r k payload discharge fs m rb o s at =
     }
 
 -- a commit that failed, as the answer of a step: it wanted memory, or was refused below
-pub fault_goes : (h g : Held) (old new : Told) (r : List Entry) (k : ℕ) (payload : List ℕ) (discharge : Discharge) (fs : List Frame) (U : Type 0) (fault : CommitFault) → message_of payload ≡ Some (messages.Discharge discharge) → is_rollback discharge.fail ≡ false → is_in h.links.items k ≡ true → Stands h r → look h.live.items discharge.txn_id ≡ Some (Some k, fs) → CommittedWith h g old new discharge.txn_id fs U (Err fault) → StepGave g old new r (steps.Control k payload) (Err (step_error_of fault))
+pub fault_goes : (h g : Held) (old new : Told) (r : List Entry) (k : ℕ) (payload : List ℕ) (discharge : Discharge) (fs : List Frame) (U : Type 0) (fault : CommitFault) → message_of payload ≡ Some (messages.Discharge discharge) → is_rollback discharge.fail ≡ false → is_in h.links.entries k ≡ true → Stands h r → look h.live.entries discharge.txn_id ≡ Some (Some k, fs) → CommittedWith h g old new discharge.txn_id fs U (Err fault) → StepGave g old new r (steps.Control k payload) (Err (step_error_of fault))
 fault_goes h g old new r k payload discharge fs U commit_faults.NoMemory m rb o s at c =
     let stayed = stayed-commit h r k payload discharge fs m rb o s at in
-    record { stands = stands-moved h g r s c.0.live c.0.links c.0.opened; takes = stayed.takes }
+    record { stands = stands-moved h g r s c.0; takes = stayed.takes }
 fault_goes h g old new r k payload discharge fs U (commit_faults.Refused error handed) m rb o s at c =
     let x = c.1 in
     refused_gives g old new r (steps.Control k payload) error x.0 handed (ap is_unknown x.1 ∙ fault_known x.0) x.1
     (refused-commit h r k payload discharge fs x.0 handed old new m rb o s at x.2.handed)
 
-pub fault_cause : (h g : Held) (old new : Told) (id : TransactionId) (fs : List Frame) (U : Type 0) (fault : CommitFault) (s : Step) → CommittedWith h g old new id fs U (Err fault) → StepCause old.refusals new.refusals s (Err (step_error_of fault))
-fault_cause h g old new id fs U commit_faults.NoMemory s c = tt
-fault_cause h g old new id fs U (commit_faults.Refused error handed) s c =
-    let x = c.1 in
-    when_known (is_unknown error) _ _ (ap is_unknown x.1 ∙ fault_known x.0) x.2.cause
-
-pub fault_same : (h g : Held) (old new : Told) (id : TransactionId) (fs : List Frame) (U : Type 0) (fault : CommitFault) → CommittedWith h g old new id fs U (Err fault) → OnNoMemory (Err (step_error_of fault)) (SameHeld h g)
-fault_same h g old new id fs U commit_faults.NoMemory c = c.0
-fault_same h g old new id fs U (commit_faults.Refused error handed) c = tt
-
-pub fault_untouched : (h g : Held) (old new : Told) (id : TransactionId) (fs : List Frame) (U : Type 0) (fault : CommitFault) → CommittedWith h g old new id fs U (Err fault) → OnOwnError (Err (step_error_of fault)) U
-fault_untouched h g old new id fs U commit_faults.NoMemory c = c.1
-fault_untouched h g old new id fs U (commit_faults.Refused error handed) c =
-    let x = c.1 in
-    when_known (is_unknown error) _ _ (ap is_unknown x.1 ∙ fault_known x.0) tt
-
 -- what isn't kept for the link isn't held on it
-pub held_elsewhere : (h : Held) (r : List Entry) (k : ℕ) (u : TransactionId) (o : Option ℕ) (fs : List Frame) → Stands h r → look h.live.items u ≡ Some (o, fs) → is_on k o ≡ false → is_held_on r k u ≡ false
+pub held_elsewhere : (h : Held) (r : List Entry) (k : ℕ) (u : TransactionId) (o : Option ℕ) (fs : List Frame) → Stands h r → look h.live.entries u ≡ Some (o, fs) → is_on k o ≡ false → is_held_on r k u ≡ false
 held_elsewhere h r k u o fs s e n =
     let kept = kept-home h r u o fs s e in
     let away : (home r u == k) ≡ false = ap (is_on k) kept.1 ∙ n in
@@ -419,41 +403,38 @@ on_some : (o : Option ℕ) (k : ℕ) → is_on k o ≡ true → o ≡ Some k
 on_some None k e = cc e
 on_some (Some j) k e = ap (λ n. Some n) (eqb-true j k e)
 
--- one look, two answers
-pub held_here : (h : Held) (u : TransactionId) (o p : Option ℕ) (fs gs : List Frame) (k : ℕ) → look h.live.items u ≡ Some (o, fs) → look h.live.items u ≡ Some (p, gs) → is_on k p ≡ true → look h.live.items u ≡ Some (Some k, fs)
-held_here h u o p fs gs k a b e =
-    let both : Some (o, fs) ≡ Some (p, gs) = sym a ∙ b in
-    let pair : ◌≡◌ {A = Kept} (o, fs) (p, gs) = cc both in
-    a ∙ ap (λ x. Some (x, fs)) (ap (λ (q : Kept). q.0) pair ∙ on_some p k e)
+-- what is kept for the link, by its test
+pub held_here : (h : Held) (u : TransactionId) (o : Option ℕ) (fs : List Frame) (k : ℕ) → look h.live.entries u ≡ Some (o, fs) → is_on k o ≡ true → look h.live.entries u ≡ Some (Some k, fs)
+held_here h u o fs k a e = a ∙ ap (λ x. Some (x, fs)) (on_some o k e)
 
 -- ---- links that end or close
 
 link_end_answer : (r : List Entry) (k : ℕ) (b : Bool) (reply : Reply) → is_open r k ≡ b → AnswerLinkEnd b reply → Answer r (steps.LinkEnd k) [] reply
 link_end_answer r k b reply o a = let P : Bool → Type 0 = λ x. AnswerLinkEnd x reply in (refl, subst P (sym o) a)
 
-pub went-no_link_end : (h : Held) (r : List Entry) (k : ℕ) (told : Told) → is_in h.links.items k ≡ false → Stands h r → Went h told told r (steps.LinkEnd k) nothing_drawn replies.NoLink
+pub went-no_link_end : (h : Held) (r : List Entry) (k : ℕ) (told : Told) → is_in h.links.entries k ≡ false → Stands h r → Went h told told r (steps.LinkEnd k) nothing_drawn replies.NoLink
 went-no_link_end h r k told o s =
     let a = link_end_answer r k false replies.NoLink (sym (s.links k) ∙ o) tt in
     went-steady h told told r (steps.LinkEnd k) nothing_drawn replies.NoLink a
     (stands-quiet h r (entry_of (steps.LinkEnd k) nothing_drawn replies.NoLink) s a (record { declares = λ t. refl; discharges = λ t. refl; attaches = λ j. refl; closes = λ j. refl; attached = refl }) (λ t. refl))
     refl refl refl (steady-same told)
 
-pub went-link_end : (h g : Held) (r : List Entry) (k : ℕ) (told : Told) → is_in h.links.items k ≡ true → Stands h r → g.live.items ≡ filter (λ l. not (is_on k l.holder)) h.live.items → g.links.items ≡ filter (λ j. not (j == k)) h.links.items → g.opened ≡ h.opened → Went g told told r (steps.LinkEnd k) nothing_drawn replies.LinkEnded
-went-link_end h g r k told o s lg kg og =
+pub went-link_end : (h g : Held) (r : List Entry) (k : ℕ) (told : Told) → is_in h.links.entries k ≡ true → Stands h r → Tied g → ((t : TransactionId) → look g.live.entries t ≡ unless_on k (look h.live.entries t)) → ((j : ℕ) → is_in g.links.entries j ≡ cond (k == j) false (is_in h.links.entries j)) → g.opened ≡ h.opened → Went g told told r (steps.LinkEnd k) nothing_drawn replies.LinkEnded
+went-link_end h g r k told o s tg lg kg og =
     let a = link_end_answer r k true replies.LinkEnded (sym (s.links k) ∙ o) tt in
     went-steady g told told r (steps.LinkEnd k) nothing_drawn replies.LinkEnded a
-    (stands-closed h g r (entry_of (steps.LinkEnd k) nothing_drawn replies.LinkEnded) k s a (λ t. refl) (λ t. refl) (λ t. refl) (λ j. refl) (λ j. refl) refl lg kg og)
+    (stands-closed h g r (entry_of (steps.LinkEnd k) nothing_drawn replies.LinkEnded) k s a (λ t. refl) (λ t. refl) (λ t. refl) (λ j. refl) (λ j. refl) refl tg lg kg og)
     refl refl refl (steady-same told)
 
-pub went-close : (h g : Held) (r : List Entry) (k : ℕ) (payload : List ℕ) (told : Told) → message_of payload ≡ None → is_in h.links.items k ≡ true → Stands h r → g.live.items ≡ filter (λ l. not (is_on k l.holder)) h.live.items → g.links.items ≡ filter (λ j. not (j == k)) h.links.items → g.opened ≡ h.opened → Went g told told r (steps.Control k payload) nothing_drawn (replies.LinkClosed amqp_errors.NotAllowed)
-went-close h g r k payload told m o s lg kg og =
+pub went-close : (h g : Held) (r : List Entry) (k : ℕ) (payload : List ℕ) (told : Told) → message_of payload ≡ None → is_in h.links.entries k ≡ true → Stands h r → Tied g → ((t : TransactionId) → look g.live.entries t ≡ unless_on k (look h.live.entries t)) → ((j : ℕ) → is_in g.links.entries j ≡ cond (k == j) false (is_in h.links.entries j)) → g.opened ≡ h.opened → Went g told told r (steps.Control k payload) nothing_drawn (replies.LinkClosed amqp_errors.NotAllowed)
+went-close h g r k payload told m o s tg lg kg og =
     let opened : is_open r k ≡ true = sym (s.links k) ∙ o in
     let a = control_answer r k payload None [] (replies.LinkClosed amqp_errors.NotAllowed) opened m refl in
     went-steady g told told r (steps.Control k payload) nothing_drawn (replies.LinkClosed amqp_errors.NotAllowed) a
-    (stands-closed h g r (entry_of (steps.Control k payload) nothing_drawn (replies.LinkClosed amqp_errors.NotAllowed)) k s a (λ t. refl) (λ t. refl) (λ t. refl) (λ j. refl) (λ j. refl) refl lg kg og)
+    (stands-closed h g r (entry_of (steps.Control k payload) nothing_drawn (replies.LinkClosed amqp_errors.NotAllowed)) k s a (λ t. refl) (λ t. refl) (λ t. refl) (λ j. refl) (λ j. refl) refl tg lg kg og)
     (hands-no_commit r k payload (commits-at r k payload true None opened m)) refl refl (steady-same told)
 
-pub went-no_link : (h : Held) (r : List Entry) (k : ℕ) (payload : List ℕ) (told : Told) → is_in h.links.items k ≡ false → Stands h r → Went h told told r (steps.Control k payload) nothing_drawn replies.NoLink
+pub went-no_link : (h : Held) (r : List Entry) (k : ℕ) (payload : List ℕ) (told : Told) → is_in h.links.entries k ≡ false → Stands h r → Went h told told r (steps.Control k payload) nothing_drawn replies.NoLink
 went-no_link h r k payload told o s =
     let shut : is_open r k ≡ false = sym (s.links k) ∙ o in
     let P : Bool → Type 0 = λ b. AnswerControl r k b (message_of payload) [] replies.NoLink in
@@ -470,7 +451,7 @@ declare_of global = Some (messages.Declare (record { global_id = global }))
 declare_hands_nothing : (r : List Entry) (k : ℕ) (payload : List ℕ) (global : Option TransactionId) → is_open r k ≡ true → message_of payload ≡ declare_of global → hands r (steps.Control k payload) ≡ []
 declare_hands_nothing r k payload global o m = hands-no_commit r k payload (commits-at r k payload true (declare_of global) o m)
 
-pub went-global : (h : Held) (r : List Entry) (k : ℕ) (payload : List ℕ) (global : TransactionId) (told : Told) → message_of payload ≡ declare_of (Some global) → is_in h.links.items k ≡ true → Stands h r → Went h told told r (steps.Control k payload) nothing_drawn (replies.Rejected transaction_errors.UnknownId texts.GlobalId)
+pub went-global : (h : Held) (r : List Entry) (k : ℕ) (payload : List ℕ) (global : TransactionId) (told : Told) → message_of payload ≡ declare_of (Some global) → is_in h.links.entries k ≡ true → Stands h r → Went h told told r (steps.Control k payload) nothing_drawn (replies.Rejected transaction_errors.UnknownId texts.GlobalId)
 went-global h r k payload global told m o s =
     let opened : is_open r k ≡ true = sym (s.links k) ∙ o in
     let a = control_answer r k payload (declare_of (Some global)) [] (replies.Rejected transaction_errors.UnknownId texts.GlobalId) opened m refl in
@@ -482,29 +463,27 @@ all_same : (p q : TransactionId → Bool) (xs : List TransactionId) → ((x : Tr
 all_same p q [] h = refl
 all_same p q (x ∷ xs) h = ap (λ b. b && list_all p xs) (h x) ∙ ap (λ b. q x && b) (all_same p q xs h)
 
-pub went-declared : (h g : Held) (r : List Entry) (k : ℕ) (payload : List ℕ) (d : DrawnIds) (t : TransactionId) (told : Told) → message_of payload ≡ declare_of None → is_in h.links.items k ≡ true → Stands h r → DrewUnused h.live.items d.ids t → g.live.items ≡ h.live.items ++ record { id = t; holder = Some k; frames = [] } ∷ [] → g.links.items ≡ h.links.items → g.opened ≡ h.opened → Went g told told r (steps.Control k payload) d (replies.Declared t)
-went-declared h g r k payload d t told m o s u lg kg og =
+pub went-declared : (h g : Held) (r : List Entry) (k : ℕ) (payload : List ℕ) (d : DrawnIds) (t : TransactionId) (told : Told) → message_of payload ≡ declare_of None → is_in h.links.entries k ≡ true → Stands h r → DrewUnused h.live.entries d.ids t → Tied g → ((x : TransactionId) → look g.live.entries x ≡ cond (same_id x t) (Some (Some k, [])) (look h.live.entries x)) → ((j : ℕ) → is_in g.links.entries j ≡ is_in h.links.entries j) → g.opened ≡ h.opened → Went g told told r (steps.Control k payload) d (replies.Declared t)
+went-declared h g r k payload d t told m o s u tg lg kg og =
     let opened : is_open r k ≡ true = sym (s.links k) ∙ o in
     let dead : is_live r t ≡ false = sym (kept_live h r t s) ∙ ap is_some u.unused in
     let before = u.parts.0 in
-    let draws : Draws r d.ids t = (before, u.parts.1, u.count, sym (all_same (is_kept h.live.items) (is_live r) before (λ x. kept_live h r x s)) ∙ u.parts.2, dead) in
+    let draws : Draws r d.ids t = (before, u.parts.1, u.count, sym (all_same (is_kept h.live.entries) (is_live r) before (λ x. kept_live h r x s)) ∙ u.parts.2, dead) in
     let a = control_answer r k payload (declare_of None) d.ids (replies.Declared t) opened m draws in
-    let one : Live = record { id = t; holder = Some k; frames = [] } in
     went-steady g told told r (steps.Control k payload) d (replies.Declared t) a
     (stands-declared h g r (entry_of (steps.Control k payload) d (replies.Declared t)) t s a dead opened (λ x. refl) (λ x. refl) (λ x. refl) (λ j. refl) (λ j. refl) refl
-    (subst Distinct (sym lg) (Distinct_push h.live.items one u.unused s.distinct))
-    (λ x. ap (λ ls. look ls x) lg ∙ look_push h.live.items one x u.unused) kg og)
+    tg lg kg og)
     (declare_hands_nothing r k payload None opened m) refl refl (steady-same told)
 
-pub went-repeat : (h g : Held) (r : List Entry) (k : ℕ) (payload : List ℕ) (d : DrawnIds) (told : Told) → message_of payload ≡ declare_of None → is_in h.links.items k ≡ true → Stands h r → DrewLive h.live.items d.ids → g.live.items ≡ h.live.items → g.links.items ≡ h.links.items → g.opened ≡ h.opened → Went g told told r (steps.Control k payload) d (replies.Rejected transaction_errors.UnknownId texts.IdsRepeat)
-went-repeat h g r k payload d told m o s u lg kg og =
+pub went-repeat : (h g : Held) (r : List Entry) (k : ℕ) (payload : List ℕ) (d : DrawnIds) (told : Told) → message_of payload ≡ declare_of None → is_in h.links.entries k ≡ true → Stands h r → DrewLive h.live.entries d.ids → SameHeld h g → Went g told told r (steps.Control k payload) d (replies.Rejected transaction_errors.UnknownId texts.IdsRepeat)
+went-repeat h g r k payload d told m o s u same =
     let opened : is_open r k ≡ true = sym (s.links k) ∙ o in
-    let a = control_answer r k payload (declare_of None) d.ids (replies.Rejected transaction_errors.UnknownId texts.IdsRepeat) opened m (u.count, sym (all_same (is_kept h.live.items) (is_live r) d.ids (λ x. kept_live h r x s)) ∙ u.all) in
+    let a = control_answer r k payload (declare_of None) d.ids (replies.Rejected transaction_errors.UnknownId texts.IdsRepeat) opened m (u.count, sym (all_same (is_kept h.live.entries) (is_live r) d.ids (λ x. kept_live h r x s)) ∙ u.all) in
     went-steady g told told r (steps.Control k payload) d (replies.Rejected transaction_errors.UnknownId texts.IdsRepeat) a
-    (stands-quiet g r (entry_of (steps.Control k payload) d (replies.Rejected transaction_errors.UnknownId texts.IdsRepeat)) (stands-moved h g r s lg kg og) a (quiet-rejected k payload d texts.IdsRepeat) (λ t. refl))
+    (stands-quiet g r (entry_of (steps.Control k payload) d (replies.Rejected transaction_errors.UnknownId texts.IdsRepeat)) (stands-moved h g r s same) a (quiet-rejected k payload d texts.IdsRepeat) (λ t. refl))
     (declare_hands_nothing r k payload None opened m) refl refl (steady-same told)
 
-pub stayed-declare : (h g : Held) (r : List Entry) (k : ℕ) (payload : List ℕ) → message_of payload ≡ declare_of None → is_in h.links.items k ≡ true → Stands h r → Stands g r → Stayed g r (steps.Control k payload)
+pub stayed-declare : (h g : Held) (r : List Entry) (k : ℕ) (payload : List ℕ) → message_of payload ≡ declare_of None → is_in h.links.entries k ≡ true → Stands h r → Stands g r → Stayed g r (steps.Control k payload)
 stayed-declare h g r k payload m o s sg = record {
   stands = sg;
   takes = ap (λ b. b && message_takes_memory r k (message_of payload)) (sym (s.links k) ∙ o) ∙ ap (message_takes_memory r k) m;
@@ -512,12 +491,8 @@ stayed-declare h g r k payload m o s sg = record {
 
 -- ---- the loop of draws
 
-pub all-snoc : (live : List Live) (ds : List TransactionId) (d : TransactionId) → list_all (is_kept live) ds ≡ true → (look live d ≡ None → ⊥) → list_all (is_kept live) (ds ++ d ∷ []) ≡ true
-all-snoc live ds d a n = list_all-append (is_kept live) ds (d ∷ []) ∙ ap (λ b. b && (is_kept live d && true)) a ∙ here (look live d) n
-  where
-    here : (o : Option Kept) → (o ≡ None → ⊥) → (is_some o && true) ≡ true
-    here None x = absurd (x refl)
-    here (Some k) x = refl
+pub all-snoc : (live : LiveIds) (ds : List TransactionId) (d : TransactionId) → list_all (is_kept live) ds ≡ true → is_kept live d ≡ true → list_all (is_kept live) (ds ++ d ∷ []) ≡ true
+all-snoc live ds d a n = list_all-append (is_kept live) ds (d ∷ []) ∙ ap (λ b. b && (is_kept live d && true)) a ∙ ap (λ b. b && true) n
 
 -- ---- ends
 

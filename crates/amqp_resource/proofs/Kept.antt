@@ -1,235 +1,161 @@
 -- What is kept after one change.
-use Rattle.std.proofs.Common.{◌≡◌, ℕ, zero, suc, ◌<◌, Bool, true, false, cond, not, ◌&&◌, ◌||◌, Option, Some, None, List, [], ◌∷◌, ◌++◌, length, get_or, set, drop, refl, sym, ◌∙◌, ap, arith}
-use Rattle.std.specs.Prelude.{◌==◌}
-use Rattle.std.specs.List.{filter, remove}
+use Rattle.std.proofs.Common.{◌≡◌, ℕ, Bool, true, false, cond, ◌&&◌, ◌||◌, Option, Some, None, Result, Ok, Err, List, [], ◌∷◌, ◌++◌, OnOk, refl, sym, ◌∙◌, ap}
+use Rattle.std.specs.Prelude.{◌==◌, nat_eq, is_some, IfOk, OnErr}
+use Rattle.std.specs.List.{list_any}
+use Rattle.std.specs.Option.{option_map}
+use Rattle.std.specs.Map.{lookup}
+use Rattle.std.specs.HashSet.{HashSet, keys}
 use Rattle.std.proofs.lemmas.Bool.{eqb-true, and_right}
 use Rattle.amqp_txn_types.specs.declared.id.TransactionId.{TransactionId}
+use Rattle.amqp_txn_types.specs.declared.items.NoMemory.{NoMemory}
 use Rattle.amqp_txn_types.specs.declared.performatives.Frame.{Frame}
+use Rattle.amqp_record.specs.Answers.{answered_under}
 use Rattle.amqp_record.specs.Entries.{same_id}
 use Rattle.amqp_record.proofs.Ids.{same_id-eq, same_id-sym}
 use Rattle.amqp_resource.specs.declared.held.Live.{Live}
-use Rattle.amqp_resource.specs.Held.{Kept, is_on, look, Distinct, StandsAt, look_without, with_frame, unless_on, is_in}
+use Rattle.amqp_resource.specs.declared.held.Held.{Held}
+use Rattle.amqp_resource.specs.Held.{Kept, LiveIds, OpenLinks, Tied, ids_on, is_among, is_in, is_kept_on, is_on, kept_of, look, look_without, unless_on, with_frame}
+use Rattle.amqp_resource.specs.Posting.{Posted}
 
-some_none : {X : Type 0} (b : Bool) (x : X) (o : Option X) → cond b (Some x) o ≡ None → (b ≡ false) × (o ≡ None)
-some_none true x o h = cc h
-some_none false x o h = (refl, h)
+-- ---- one look-up changed
 
--- an id that stands at a place is found
-pub found : (ls : List Live) (i : ℕ) (t : TransactionId) → StandsAt ls i t → look ls t ≡ None → ⊥
-found [] i t s h = s
-found (l ∷ ls) zero t s h = let p = some_none (same_id t l.id) (l.holder, l.frames) (look ls t) h in cc (p.0, s)
-found (l ∷ ls) (suc i) t s h = found ls i t s (some_none (same_id t l.id) (l.holder, l.frames) (look ls t) h).1
+mapped : {A B : Type 0} (f : A → B) (b : Bool) (x y : Option A) → option_map f (cond b x y) ≡ cond b (option_map f x) (option_map f y)
+mapped f true x y = refl
+mapped f false x y = refl
 
--- it stands at no other
-pub elsewhere : (l : Live) (ls : List Live) (i : ℕ) (t : TransactionId) → StandsAt ls i t → look ls l.id ≡ None → same_id t l.id ≡ false
-elsewhere l ls i t s h = apart (same_id t l.id) refl
+pub look_updated : (old new : LiveIds) (id : TransactionId) (w : Option Live) → ((t : TransactionId) → lookup (same_id t) new ≡ cond (same_id id t) w (lookup (same_id t) old)) → (t : TransactionId) → look new t ≡ cond (same_id t id) (option_map kept_of w) (look old t)
+look_updated old new id w u t =
+    ap (option_map kept_of) (u t ∙ ap (λ b. cond b w (lookup (same_id t) old)) (same_id-sym id t))
+    ∙ mapped kept_of (same_id t id) w (lookup (same_id t) old)
+
+pub ids_updated : {S : Type 0} (old new : OpenLinks S) (link : ℕ) (w : Option (HashSet TransactionId S)) → ((k : ℕ) → lookup (nat_eq k) new ≡ cond (nat_eq link k) w (lookup (nat_eq k) old)) → (k : ℕ) → ids_on new k ≡ cond (link == k) (option_map keys w) (ids_on old k)
+ids_updated old new link w u k = ap (option_map keys) (u k) ∙ mapped keys (nat_eq link k) w (lookup (nat_eq k) old)
+
+-- one look-up, at two names of one id
+pub look_same : (live : LiveIds) (t u : TransactionId) → same_id t u ≡ true → look live t ≡ look live u
+look_same live t u s = ap (look live) (same_id-eq t u s)
+
+-- ---- a frame more
+
+-- what one id was written with
+same_or : (old : LiveIds) (id t : TransactionId) (x y : Option Kept) → (same_id t id ≡ true → x ≡ y) → cond (same_id t id) x (look old t) ≡ cond (same_id t id) y (look old t)
+same_or old id t x y h = by_case (same_id t id) h
   where
-    apart : (b : Bool) → same_id t l.id ≡ b → b ≡ false
-    apart false e = refl
-    apart true e = absurd (found ls i t s (ap (look ls) (same_id-eq t l.id e) ∙ h))
+    by_case : (b : Bool) → (b ≡ true → x ≡ y) → cond b x (look old t) ≡ cond b y (look old t)
+    by_case true e = e refl
+    by_case false e = refl
 
-pub look_at : (ls : List Live) (i : ℕ) (t : TransactionId) (d : Live) → StandsAt ls i t → Distinct ls → look ls t ≡ Some ((get_or ls i d).holder, (get_or ls i d).frames)
-look_at [] i t d s u = absurd s
-look_at (l ∷ ls) zero t d s u = ap (λ b. cond b (Some (l.holder, l.frames)) (look ls t)) s
-look_at (l ∷ ls) (suc i) t d s u = ap (λ b. cond b (Some (l.holder, l.frames)) (look ls t)) (elsewhere l ls i t s u.0) ∙ look_at ls i t d s u.1
+-- a look-up that is written as it was
+as_it_was : (b : Bool) (x o : Option Kept) → (b ≡ true → x ≡ o) → cond b x o ≡ o
+as_it_was true x o e = e refl
+as_it_was false x o e = refl
 
--- ---- one taken out
-
-both_none : {X : Type 0} (b : Bool) → cond {A = Option X} b None None ≡ None
-both_none true = refl
-both_none false = refl
-
-gone_first : (l : Live) (ls : List Live) (u t : TransactionId) → same_id u l.id ≡ true → look ls l.id ≡ None → look ls t ≡ look_without u (l ∷ ls) t
-gone_first l ls u t s n = by_case (same_id t u) refl
-  where
-    el : u ≡ l.id
-    el = same_id-eq u l.id s
-
-    by_case : (b : Bool) → same_id t u ≡ b → look ls t ≡ look_without u (l ∷ ls) t
-    by_case true e = ap (look ls) (same_id-eq t u e ∙ el) ∙ n ∙ sym (ap (λ b. cond b None (look (l ∷ ls) t)) e)
-    by_case false e = sym (ap (λ b. cond b None (look (l ∷ ls) t)) e ∙ ap (λ b. cond b (Some (l.holder, l.frames)) (look ls t)) (ap (same_id t) (sym el) ∙ e))
-
-swapped : {X : Type 0} (a b : Bool) (x o : Option X) → (a ≡ true → b ≡ true → ⊥) → cond a x (cond b None o) ≡ cond b None (cond a x o)
-swapped true true x o h = absurd (h refl refl)
-swapped true false x o h = refl
-swapped false b x o h = refl
-
-apart_ids : (l : Live) (t u : TransactionId) → same_id u l.id ≡ false → same_id t l.id ≡ true → same_id t u ≡ true → ⊥
-apart_ids l t u n a b = let e : same_id u l.id ≡ true = ap (λ x. same_id x l.id) (sym (same_id-eq t u b)) ∙ a in cc (e, n)
-
-pub look_remove : (ls : List Live) (i : ℕ) (u t : TransactionId) → StandsAt ls i u → Distinct ls → look (remove ls i) t ≡ look_without u ls t
-look_remove [] i u t s d = absurd s
-look_remove (l ∷ ls) zero u t s d = gone_first l ls u t s d.0
-look_remove (l ∷ ls) (suc i) u t s d =
-    ap (λ o. cond (same_id t l.id) (Some (l.holder, l.frames)) o) (look_remove ls i u t s d.1)
-    ∙ swapped (same_id t l.id) (same_id t u) (Some (l.holder, l.frames)) (look ls t) (λ a b. apart_ids l t u (elsewhere l ls i u s d.0) a b)
-
-pub Distinct_remove : (ls : List Live) (i : ℕ) (u : TransactionId) → StandsAt ls i u → Distinct ls → Distinct (remove ls i)
-Distinct_remove [] i u s d = absurd s
-Distinct_remove (l ∷ ls) zero u s d = d.1
-Distinct_remove (l ∷ ls) (suc i) u s d =
-    (look_remove ls i u l.id s d.1 ∙ ap (cond (same_id l.id u) None) d.0 ∙ both_none (same_id l.id u), Distinct_remove ls i u s d.1)
-
--- ---- one changed
-
-put_first : (l k : Live) (ls : List Live) (u t : TransactionId) → same_id u l.id ≡ true → k.id ≡ l.id → look (k ∷ ls) t ≡ cond (same_id t u) (Some (k.holder, k.frames)) (look (l ∷ ls) t)
-put_first l k ls u t s e = by_case (same_id t u) refl
-  where
-    el : u ≡ l.id
-    el = same_id-eq u l.id s
-
-    by_case : (b : Bool) → same_id t u ≡ b → look (k ∷ ls) t ≡ cond (same_id t u) (Some (k.holder, k.frames)) (look (l ∷ ls) t)
-    by_case true h = ap (λ b. cond b (Some (k.holder, k.frames)) (look ls t)) (ap (same_id t) (e ∙ sym el) ∙ h) ∙ sym (ap (λ b. cond b (Some (k.holder, k.frames)) (look (l ∷ ls) t)) h)
-    by_case false h =
-        ap (λ b. cond b (Some (k.holder, k.frames)) (look ls t)) (ap (same_id t) (e ∙ sym el) ∙ h)
-        ∙ sym (ap (λ b. cond b (Some (k.holder, k.frames)) (look (l ∷ ls) t)) h ∙ ap (λ b. cond b (Some (l.holder, l.frames)) (look ls t)) (ap (same_id t) (sym el) ∙ h))
-
-swapped_put : {X : Type 0} (a b : Bool) (x y o : Option X) → (a ≡ true → b ≡ true → ⊥) → cond a x (cond b y o) ≡ cond b y (cond a x o)
-swapped_put true true x y o h = absurd (h refl refl)
-swapped_put true false x y o h = refl
-swapped_put false b x y o h = refl
-
-pub look_set : (ls : List Live) (i : ℕ) (u t : TransactionId) (k d : Live) → StandsAt ls i u → Distinct ls → k.id ≡ (get_or ls i d).id → look (set ls i k) t ≡ cond (same_id t u) (Some (k.holder, k.frames)) (look ls t)
-look_set [] i u t k d s n e = absurd s
-look_set (l ∷ ls) zero u t k d s n e = put_first l k ls u t s e
-look_set (l ∷ ls) (suc i) u t k d s n e =
-    ap (λ o. cond (same_id t l.id) (Some (l.holder, l.frames)) o) (look_set ls i u t k d s n.1 e)
-    ∙ swapped_put (same_id t l.id) (same_id t u) (Some (l.holder, l.frames)) (Some (k.holder, k.frames)) (look ls t) (λ a b. apart_ids l t u (elsewhere l ls i u s n.0) a b)
-
-pub Distinct_set : (ls : List Live) (i : ℕ) (u : TransactionId) (k d : Live) → StandsAt ls i u → Distinct ls → k.id ≡ (get_or ls i d).id → Distinct (set ls i k)
-Distinct_set [] i u k d s n e = absurd s
-Distinct_set (l ∷ ls) zero u k d s n e = (ap (look ls) e ∙ n.0, n.1)
-Distinct_set (l ∷ ls) (suc i) u k d s n e =
-    let away : same_id l.id u ≡ false = flipped l.id u (elsewhere l ls i u s n.0) in
-    (look_set ls i u l.id k d s n.1 e ∙ ap (λ b. cond b (Some (k.holder, k.frames)) (look ls l.id)) away ∙ n.0, Distinct_set ls i u k d s n.1 e)
-  where
-    flipped : (a b : TransactionId) → same_id b a ≡ false → same_id a b ≡ false
-    flipped a b h = same_id-sym a b ∙ h
-
--- ---- those of a link dropped
-
-abbrev pub off : ℕ → Live → Bool
-off k l = not (is_on k l.holder)
-
-keep_case : (b : Bool) (k : ℕ) (l : Live) (xs : List Live) (t : TransactionId) (o : Option Kept) → (is_on k l.holder) ≡ b → (same_id t l.id ≡ true → o ≡ None) → look xs t ≡ unless_on k o → look (cond (not b) (l ∷ xs) xs) t ≡ unless_on k (cond (same_id t l.id) (Some (l.holder, l.frames)) o)
-keep_case b k l xs t o h n e = by_case b (same_id t l.id) h refl
-  where
-    by_case : (b c : Bool) → (is_on k l.holder) ≡ b → same_id t l.id ≡ c → look (cond (not b) (l ∷ xs) xs) t ≡ unless_on k (cond (same_id t l.id) (Some (l.holder, l.frames)) o)
-    by_case false true hb hc =
-        ap (λ x. cond x (Some (l.holder, l.frames)) (look xs t)) hc
-        ∙ sym (ap (λ x. unless_on k (cond x (Some (l.holder, l.frames)) o)) hc ∙ ap (λ x. cond x None (Some (l.holder, l.frames))) hb)
-    by_case false false hb hc =
-        ap (λ x. cond x (Some (l.holder, l.frames)) (look xs t)) hc ∙ e ∙ sym (ap (λ x. unless_on k (cond x (Some (l.holder, l.frames)) o)) hc)
-    by_case true true hb hc =
-        e ∙ ap (unless_on k) (n hc)
-        ∙ sym (ap (λ x. unless_on k (cond x (Some (l.holder, l.frames)) o)) hc ∙ ap (λ x. cond x None (Some (l.holder, l.frames))) hb)
-    by_case true false hb hc = e ∙ sym (ap (λ x. unless_on k (cond x (Some (l.holder, l.frames)) o)) hc)
-
-pub look_filter : (ls : List Live) (k : ℕ) (t : TransactionId) → Distinct ls → look (filter (off k) ls) t ≡ unless_on k (look ls t)
-look_filter [] k t d = refl
-look_filter (l ∷ ls) k t d = keep_case (is_on k l.holder) k l (filter (off k) ls) t (look ls t) refl (λ h. ap (look ls) (same_id-eq t l.id h) ∙ d.0) (look_filter ls k t d.1)
-
-pub Distinct_filter : (ls : List Live) (k : ℕ) → Distinct ls → Distinct (filter (off k) ls)
-Distinct_filter [] k d = tt
-Distinct_filter (l ∷ ls) k d = by_case (off k l) (Distinct_filter ls k d.1)
-  where
-    by_case : (b : Bool) → Distinct (filter (off k) ls) → Distinct (cond b (l ∷ filter (off k) ls) (filter (off k) ls))
-    by_case true rest = (look_filter ls k l.id d.1 ∙ ap (unless_on k) d.0, rest)
-    by_case false rest = rest
-
-in_step : (x k m : ℕ) (xs : List ℕ) (a : Bool) → is_in xs m ≡ (a && not (m == k)) → is_in (cond (not (x == k)) (x ∷ xs) xs) m ≡ (((x == m) || a) && not (m == k))
-in_step x k m xs a ih = by_case (x == k) (x == m) refl refl
-  where
-    same : (x == m) ≡ true → (m == k) ≡ (x == k)
-    same h = ap (λ y. y == k) (sym (eqb-true x m h))
-
-    by_case : (b c : Bool) → (x == k) ≡ b → (x == m) ≡ c → is_in (cond (not (x == k)) (x ∷ xs) xs) m ≡ (((x == m) || a) && not (m == k))
-    by_case true true hb hc =
-        ap (λ b. is_in (cond (not b) (x ∷ xs) xs) m) hb ∙ ih ∙ ap (λ b. a && not b) (same hc ∙ hb) ∙ and_right a false refl
-        ∙ sym (ap (λ b. (b || a) && not (m == k)) hc ∙ ap not (same hc ∙ hb))
-    by_case true false hb hc = ap (λ b. is_in (cond (not b) (x ∷ xs) xs) m) hb ∙ ih ∙ sym (ap (λ b. (b || a) && not (m == k)) hc)
-    by_case false true hb hc =
-        ap (λ b. is_in (cond (not b) (x ∷ xs) xs) m) hb ∙ ap (λ b. b || is_in xs m) hc
-        ∙ sym (ap (λ b. (b || a) && not (m == k)) hc ∙ ap not (same hc ∙ hb))
-    by_case false false hb hc =
-        ap (λ b. is_in (cond (not b) (x ∷ xs) xs) m) hb ∙ ap (λ b. b || is_in xs m) hc ∙ ih ∙ sym (ap (λ b. (b || a) && not (m == k)) hc)
-
-pub is_in_filter : (ks : List ℕ) (k m : ℕ) → is_in (filter (λ x. not (x == k)) ks) m ≡ (is_in ks m && not (m == k))
-is_in_filter [] k m = refl
-is_in_filter (x ∷ ks) k m = in_step x k m (filter (λ y. not (y == k)) ks) (is_in ks m) (is_in_filter ks k m)
-
--- a frame more for an id
-pub look_kept : (ls : List Live) (i : ℕ) (u t : TransactionId) (k d : Live) (frame : Frame) → StandsAt ls i u → Distinct ls → d ≡ get_or ls i d → k.id ≡ d.id → k.holder ≡ d.holder → k.frames ≡ d.frames ++ frame ∷ [] → look (set ls i k) t ≡ cond (same_id t u) (with_frame (look ls t) frame) (look ls t)
-look_kept ls i u t k d frame s n at ei eh ef = look_set ls i u t k d s n (ei ∙ ap (λ x. x.id) at) ∙ by_case (same_id t u) refl
-  where
-    by_case : (b : Bool) → same_id t u ≡ b → cond (same_id t u) (Some (k.holder, k.frames)) (look ls t) ≡ cond (same_id t u) (with_frame (look ls t) frame) (look ls t)
-    by_case true h =
-        ap (λ b. cond b (Some (k.holder, k.frames)) (look ls t)) h
-        ∙ ap (λ x. Some (x, k.frames)) eh ∙ ap (λ x. Some (d.holder, x)) ef
-        ∙ ap (λ (x : Live). Some (x.holder, x.frames ++ frame ∷ [])) at
-        ∙ sym (ap (λ b. cond b (with_frame (look ls t) frame) (look ls t)) h ∙ ap (λ o. with_frame o frame) (ap (look ls) (same_id-eq t u h) ∙ look_at ls i u d s n))
-    by_case false h = ap (λ b. cond b (Some (k.holder, k.frames)) (look ls t)) h ∙ sym (ap (λ b. cond b (with_frame (look ls t) frame) (look ls t)) h)
-
-pub stands_at : (ls : List Live) (i : ℕ) (t : TransactionId) (d : Live) → i < length ls → same_id t (get_or ls i d).id ≡ true → StandsAt ls i t
-stands_at [] i t d h s = absurd (omega arith)
-stands_at (l ∷ ls) zero t d h s = s
-stands_at (l ∷ ls) (suc i) t d h s = stands_at ls i t d (omega arith) s
-
--- ---- one more
-
-absent_here : (l x : Live) (ls : List Live) → look (x ∷ ls) l.id ≡ None → (same_id l.id x.id ≡ false) × (look ls l.id ≡ None)
-absent_here l x ls h = some_none (same_id l.id x.id) (x.holder, x.frames) (look ls l.id) h
-
-pub look_push : (ls : List Live) (l : Live) (t : TransactionId) → look ls l.id ≡ None → look (ls ++ l ∷ []) t ≡ cond (same_id t l.id) (Some (l.holder, l.frames)) (look ls t)
-look_push [] l t n = refl
-look_push (x ∷ ls) l t n =
-    ap (λ o. cond (same_id t x.id) (Some (x.holder, x.frames)) o) (look_push ls l t (absent_here l x ls n).1)
-    ∙ swapped_put (same_id t x.id) (same_id t l.id) (Some (x.holder, x.frames)) (Some (l.holder, l.frames)) (look ls t) (λ a b. apart_ids x t l.id (absent_here l x ls n).0 a b)
-
-same_id_sym : (a b : TransactionId) → same_id b a ≡ false → same_id a b ≡ false
-same_id_sym a b h = same_id-sym a b ∙ h
-
-pub Distinct_push : (ls : List Live) (l : Live) → look ls l.id ≡ None → Distinct ls → Distinct (ls ++ l ∷ [])
-Distinct_push [] l n d = (refl, tt)
-Distinct_push (x ∷ ls) l n d = (
-  look_push ls l x.id (absent_here l x ls n).1 ∙ ap (λ b. cond b (Some (l.holder, l.frames)) (look ls x.id)) (same_id_sym x.id l.id (absent_here l x ls n).0) ∙ d.0,
-  Distinct_push ls l (absent_here l x ls n).1 d.1,
+pub posted : (old new : LiveIds) (frame : Frame) (id : TransactionId) (one : Live) (after : List Frame) (result : Result (List Frame) NoMemory) → Some one ≡ lookup (same_id id) old → ((t : TransactionId) → lookup (same_id t) new ≡ cond (same_id id t) (Some (record { holder = one.holder; frames = after })) (lookup (same_id t) old)) → IfOk result (λ given. given ≡ answered_under id frame) → OnOk result (after ≡ one.frames ++ frame ∷ []) → OnErr result (after ≡ one.frames) → Posted old new frame id result
+posted old new frame id one after (Ok given) at u answered ok err = (
+  answered,
+  λ t.
+      look_updated old new id (Some (record { holder = one.holder; frames = after })) u t
+      ∙ same_or old id t (Some (one.holder, after)) (with_frame (look old t) frame) (λ s.
+      ap (λ (fs : List Frame). Some (one.holder, fs)) ok ∙ ap (λ o. with_frame (option_map kept_of o) frame) at ∙ sym (ap (λ o. with_frame o frame) (look_same old t id s))),
 )
+posted old new frame id one after (Err error) at u answered ok err = λ t.
+    look_updated old new id (Some (record { holder = one.holder; frames = after })) u t
+    ∙ as_it_was (same_id t id) (Some (one.holder, after)) (look old t) (λ s.
+    ap (λ (fs : List Frame). Some (one.holder, fs)) err ∙ ap (option_map kept_of) at ∙ sym (look_same old t id s))
 
--- ---- the first that stands for an id, and none
+-- ---- an id let go
 
-pub look_first : (ls : List Live) (i : ℕ) (t : TransactionId) (d e : Live) → i < length ls → same_id t (get_or ls i d).id ≡ true → look (drop i ls) t ≡ Some ((get_or ls i e).holder, (get_or ls i e).frames)
-look_first [] i t d e h s = absurd (omega arith)
-look_first (l ∷ ls) zero t d e h s = ap (λ b. cond b (Some (l.holder, l.frames)) (look ls t)) s
-look_first (l ∷ ls) (suc i) t d e h s = look_first ls i t d e (omega arith) s
+-- one more let go after some
+pub gone_more : {X : Type 0} (a s : Bool) (o : Option X) → cond s None (cond a None o) ≡ cond (a || s) None o
+gone_more true true o = refl
+gone_more true false o = refl
+gone_more false true o = refl
+gone_more false false o = refl
 
--- another id than that
-abbrev pub not_id : TransactionId → Live → Bool
-not_id u l = not (same_id u l.id)
+none_twice : (b : Bool) → cond (b && true) false b ≡ false
+none_twice true = refl
+none_twice false = refl
 
-pub filter_removed : (ls : List Live) (i : ℕ) (u : TransactionId) → StandsAt ls i u → filter (not_id u) (remove ls i) ≡ filter (not_id u) ls
-filter_removed [] i u s = absurd s
-filter_removed (l ∷ ls) zero u s = sym (ap (λ b. cond (not b) (l ∷ filter (not_id u) ls) (filter (not_id u) ls)) s)
-filter_removed (l ∷ ls) (suc i) u s = ap (λ xs. cond (not_id u l) (l ∷ xs) xs) (filter_removed ls i u s)
+one_more : (b : Bool) → cond (b && true) true false ≡ b
+one_more true = refl
+one_more false = refl
 
-without_step : (b : Bool) (l : Live) (xs ls : List Live) (u t : TransactionId) → same_id u l.id ≡ b → look xs t ≡ look_without u ls t → look (cond (not b) (l ∷ xs) xs) t ≡ look_without u (l ∷ ls) t
-without_step true l xs ls u t h e = e ∙ same_case (same_id t u) refl
+apart : (b c x : Bool) → c ≡ false → (y : Bool) → cond (b && c) x y ≡ y
+apart b c x e y = ap (λ d. cond (b && d) x y) e ∙ ap (λ d. cond d x y) (and_right b false refl)
+
+pub tied_taken : (h g : Held) (id : TransactionId) (holder : Option ℕ) (fs : List Frame) → look h.live.entries id ≡ Some (holder, fs) → ((t : TransactionId) → look g.live.entries t ≡ look_without id h.live.entries t) → ((k : ℕ) → (t : TransactionId) → is_among t (ids_on g.links.entries k) ≡ cond (is_on k holder && same_id id t) false (is_among t (ids_on h.links.entries k))) → Tied h → Tied g
+tied_taken h g id holder fs at lg kg tied k t = kg k t ∙ ap (cond (is_on k holder && same_id id t) false) (tied k t) ∙ by_case (same_id t id) refl ∙ sym (ap (is_kept_on k) (lg t))
   where
-    same_case : (c : Bool) → same_id t u ≡ c → cond c None (look ls t) ≡ cond c None (look (l ∷ ls) t)
-    same_case true x = refl
-    same_case false x = sym (ap (λ b. cond b (Some (l.holder, l.frames)) (look ls t)) (ap (same_id t) (sym (same_id-eq u l.id h)) ∙ x))
-without_step false l xs ls u t h e =
-    ap (λ o. cond (same_id t l.id) (Some (l.holder, l.frames)) o) e
-    ∙ swapped (same_id t l.id) (same_id t u) (Some (l.holder, l.frames)) (look ls t) (λ a b. apart_ids l t u h a b)
+    by_case : (b : Bool) → same_id t id ≡ b → cond (is_on k holder && same_id id t) false (is_kept_on k (look h.live.entries t)) ≡ is_kept_on k (look_without id h.live.entries t)
+    by_case true s =
+        ap (λ b. cond (is_on k holder && b) false (is_kept_on k (look h.live.entries t))) (same_id-sym id t ∙ s)
+        ∙ ap (λ o. cond (is_on k holder && true) false (is_kept_on k o)) (look_same h.live.entries t id s ∙ at)
+        ∙ none_twice (is_on k holder) ∙ sym (ap (λ b. is_kept_on k (cond b None (look h.live.entries t))) s)
+    by_case false s =
+        apart (is_on k holder) (same_id id t) false (same_id-sym id t ∙ s) (is_kept_on k (look h.live.entries t))
+        ∙ sym (ap (λ b. is_kept_on k (cond b None (look h.live.entries t))) s)
 
-pub look_without_id : (ls : List Live) (u t : TransactionId) → look (filter (not_id u) ls) t ≡ look_without u ls t
-look_without_id [] u t = sym (both_none (same_id t u))
-look_without_id (l ∷ ls) u t = without_step (same_id u l.id) l (filter (not_id u) ls) ls u t refl (look_without_id ls u t)
+-- ---- an id declared
 
-pub Distinct_without : (ls : List Live) (u : TransactionId) → Distinct ls → Distinct (filter (not_id u) ls)
-Distinct_without [] u d = tt
-Distinct_without (l ∷ ls) u d = by_case (same_id u l.id) (Distinct_without ls u d.1)
+pub tied_declared : (h g : Held) (id : TransactionId) (link : ℕ) (new : Kept) → new.0 ≡ Some link → look h.live.entries id ≡ None → ((t : TransactionId) → look g.live.entries t ≡ cond (same_id t id) (Some new) (look h.live.entries t)) → ((k : ℕ) → (t : TransactionId) → is_among t (ids_on g.links.entries k) ≡ cond (link == k && same_id id t) true (is_among t (ids_on h.links.entries k))) → Tied h → Tied g
+tied_declared h g id link new on unused lg kg tied k t = kg k t ∙ ap (cond (link == k && same_id id t) true) (tied k t) ∙ by_case (same_id t id) refl ∙ sym (ap (is_kept_on k) (lg t))
   where
-    by_case : (b : Bool) → Distinct (filter (not_id u) ls) → Distinct (cond (not b) (l ∷ filter (not_id u) ls) (filter (not_id u) ls))
-    by_case true rest = rest
-    by_case false rest = (look_without_id ls u l.id ∙ ap (cond (same_id l.id u) None) d.0 ∙ both_none (same_id l.id u), rest)
+    by_case : (b : Bool) → same_id t id ≡ b → cond (link == k && same_id id t) true (is_kept_on k (look h.live.entries t)) ≡ is_kept_on k (cond (same_id t id) (Some new) (look h.live.entries t))
+    by_case true s =
+        ap (λ b. cond (link == k && b) true (is_kept_on k (look h.live.entries t))) (same_id-sym id t ∙ s)
+        ∙ ap (λ o. cond (link == k && true) true (is_kept_on k o)) (look_same h.live.entries t id s ∙ unused)
+        ∙ one_more (link == k) ∙ sym (ap (λ b. is_kept_on k (cond b (Some new) (look h.live.entries t))) s ∙ ap (is_on k) on)
+    by_case false s =
+        apart (link == k) (same_id id t) true (same_id-sym id t ∙ s) (is_kept_on k (look h.live.entries t))
+        ∙ sym (ap (λ b. is_kept_on k (cond b (Some new) (look h.live.entries t))) s)
+
+-- ---- a link ended
+
+unless_kept : (k : ℕ) (o : Option Kept) → cond (is_kept_on k o) None o ≡ unless_on k o
+unless_kept k None = refl
+unless_kept k (Some kept) = refl
+
+-- what the ids of a link leave that are let go
+pub look_ended : (h : Held) (g : LiveIds) (link : ℕ) → Tied h → ((t : TransactionId) → look g t ≡ cond (is_among t (ids_on h.links.entries link)) None (look h.live.entries t)) → (t : TransactionId) → look g t ≡ unless_on link (look h.live.entries t)
+look_ended h g link tied lg t = lg t ∙ ap (λ b. cond b None (look h.live.entries t)) (tied link t) ∙ unless_kept link (look h.live.entries t)
+
+-- what the ids that a link had leave
+pub look_dropped : {S : Type 0} (old new : LiveIds) (links : OpenLinks S) (link : ℕ) (found : HashSet TransactionId S) (ids : List TransactionId) → Some found ≡ lookup (nat_eq link) links → ids ≡ found.keys → ((t : TransactionId) → look new t ≡ cond (list_any (same_id t) ids) None (look old t)) → (t : TransactionId) → look new t ≡ cond (is_among t (ids_on links link)) None (look old t)
+look_dropped old new links link found ids at same dropped t =
+    dropped t ∙ ap (λ (xs : List TransactionId). cond (list_any (same_id t) xs) None (look old t)) same
+    ∙ ap (λ o. cond (is_among t (option_map keys o)) None (look old t)) at
+
+gone_on : (k : ℕ) (o : Option Kept) → is_kept_on k (unless_on k o) ≡ false
+gone_on k None = refl
+gone_on k (Some kept) = by_case (is_on k kept.0) refl
+  where
+    by_case : (b : Bool) → is_on k kept.0 ≡ b → is_kept_on k (cond (is_on k kept.0) None (Some kept)) ≡ false
+    by_case true e = ap (λ b. is_kept_on k (cond b None (Some kept))) e
+    by_case false e = ap (λ b. is_kept_on k (cond b None (Some kept))) e ∙ e
+
+on_other : (k link : ℕ) (o : Option ℕ) → (link == k) ≡ false → is_on link o ≡ true → is_on k o ≡ false
+on_other k link None n e = refl
+on_other k link (Some j) n e = ap (λ i. i == k) (eqb-true j link e) ∙ n
+
+kept_on_other : (k link : ℕ) (o : Option Kept) → (link == k) ≡ false → is_kept_on k (unless_on link o) ≡ is_kept_on k o
+kept_on_other k link None n = refl
+kept_on_other k link (Some kept) n = by_case (is_on link kept.0) refl
+  where
+    by_case : (b : Bool) → is_on link kept.0 ≡ b → is_kept_on k (cond (is_on link kept.0) None (Some kept)) ≡ is_on k kept.0
+    by_case true e = ap (λ b. is_kept_on k (cond b None (Some kept))) e ∙ sym (on_other k link kept.0 n e)
+    by_case false e = ap (λ b. is_kept_on k (cond b None (Some kept))) e
+
+pub tied_ended : (h g : Held) (link : ℕ) → ((t : TransactionId) → look g.live.entries t ≡ unless_on link (look h.live.entries t)) → ((k : ℕ) → ids_on g.links.entries k ≡ cond (link == k) None (ids_on h.links.entries k)) → Tied h → Tied g
+tied_ended h g link lg kg tied k t = ap (is_among t) (kg k) ∙ by_case (link == k) refl ∙ sym (ap (is_kept_on k) (lg t))
+  where
+    by_case : (b : Bool) → (link == k) ≡ b → is_among t (cond (link == k) None (ids_on h.links.entries k)) ≡ is_kept_on k (unless_on link (look h.live.entries t))
+    by_case true e =
+        ap (λ b. is_among t (cond b None (ids_on h.links.entries k))) e
+        ∙ sym (ap (λ j. is_kept_on k (unless_on j (look h.live.entries t))) (eqb-true link k e) ∙ gone_on k (look h.live.entries t))
+    by_case false e =
+        ap (λ b. is_among t (cond b None (ids_on h.links.entries k))) e ∙ tied k t
+        ∙ sym (kept_on_other k link (look h.live.entries t) e)
+
+pub in_updated : {X : Type 0} (b : Bool) (x o : Option X) → is_some (cond b x o) ≡ cond b (is_some x) (is_some o)
+in_updated true x o = refl
+in_updated false x o = refl

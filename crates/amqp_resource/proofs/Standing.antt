@@ -1,7 +1,6 @@
 -- What the record says is kept, with one entry more.
 use Rattle.std.proofs.Common.{◌≡◌, ℕ, ◌+◌, ◌<◌, Bool, true, false, cond, not, ◌&&◌, ◌||◌, Option, Some, None, List, [], ◌∷◌, ◌++◌, length, refl, sym, ◌∙◌, ap, arith, subst, append-nil, add-zero}
-use Rattle.std.specs.Prelude.{◌==◌, is_some, MatchOption}
-use Rattle.std.specs.List.{filter}
+use Rattle.std.specs.Prelude.{◌==◌, is_some, nat_eq}
 use Rattle.std.proofs.lemmas.Bool.{ne_eqb, eqb-true, eq-eqb, and_right}
 use Rattle.amqp_txn_types.specs.declared.id.TransactionId.{TransactionId}
 use Rattle.amqp_txn_types.specs.declared.performatives.Frame.{Frame}
@@ -18,12 +17,14 @@ use Rattle.amqp_record.specs.Answers.{Answer}
 use Rattle.amqp_record.proofs.Living.{live-at, live_undischarged, live-other, live-same}
 use Rattle.amqp_record.proofs.Looking.{is_open-other, is_open-closed, home-declared, home-other, undischarged-declared, frames_of-declared, frames_of-other}
 use Rattle.amqp_record.proofs.Whole.{IsLegal-nil, IsLegal-snoc, count-snoc, is_open-attached, homes_attached}
-use Rattle.std.proofs.lemmas.List.Folds.{list_any-append}
+use Rattle.std.specs.HashSet.{keys}
+use Rattle.std.specs.Map.{lookup}
+use Rattle.std.specs.Option.{option_map}
 use Rattle.amqp_record.proofs.Ids.{same_id-refl}
-use Rattle.amqp_resource.proofs.Kept.{found, look_filter, Distinct_filter, is_in_filter}
-use Rattle.amqp_resource.specs.declared.held.Live.{Live}
+use Rattle.amqp_resource.proofs.Kept.{in_updated}
+use Rattle.amqp_record.specs.Legal.{IsLegal}
 use Rattle.amqp_resource.specs.declared.held.Held.{Held}
-use Rattle.amqp_resource.specs.Held.{Kept, is_on, Stands, StandsAt, look, look_without, Distinct, is_in, kept_by, with_frame, unless_on}
+use Rattle.amqp_resource.specs.Held.{Kept, LiveIds, OpenLinks, Stands, kept_of, Tied, ids_on, is_among, is_in, is_kept_on, kept_by, look, look_without, with_frame, unless_on}
 
 abbrev pub more_frames : Bool → Step → Option Kept → Option Kept
 more_frames b s None = None
@@ -109,7 +110,7 @@ quiet_count r e h = count-snoc r e ∙ ap (λ b. attached_count r + cond b 1 0) 
 pub stands-quiet : (h : Held) (r : List Entry) (e : Entry) → Stands h r → Answer r e.step e.drawn.ids e.reply → Quiet e → ((t : TransactionId) → under t e ≡ false) → Stands h (r ++ e ∷ [])
 stands-quiet h r e s a q u = record {
   legal = IsLegal-snoc r e s.legal a;
-  distinct = s.distinct;
+  tied = s.tied;
   live = λ t. s.live t ∙ sym (kept_by-quiet r e t (q.declares t) (q.discharges t) (u t) (λ x. is_open-other r e (home r t) (q.attaches (home r t)) (q.closes (home r t))));
   links = λ k. s.links k ∙ sym (is_open-other r e k (q.attaches k) (q.closes k));
   opened = s.opened ∙ sym (quiet_count r e q.attached);
@@ -122,53 +123,64 @@ with_more true frame (Some kept) = refl
 with_more false frame (Some kept) = ap (λ fs. Some (kept.0, fs)) (append-nil kept.1)
 
 -- a frame under an id
-pub stands-post : (h g : Held) (r : List Entry) (e : Entry) (frame : Frame) (u : TransactionId) → Stands h r → Answer r e.step e.drawn.ids e.reply → Quiet e → e.step ≡ steps.Frame frame → ((t : TransactionId) → under t e ≡ same_id t u) → Distinct g.live.items → ((t : TransactionId) → look g.live.items t ≡ cond (same_id t u) (with_frame (look h.live.items t) frame) (look h.live.items t)) → g.links.items ≡ h.links.items → g.opened ≡ h.opened → Stands g (r ++ e ∷ [])
-stands-post h g r e frame u s a q es ue dg lg kg og = record {
+pub stands-post : (h g : Held) (r : List Entry) (e : Entry) (frame : Frame) (u : TransactionId) → Stands h r → Answer r e.step e.drawn.ids e.reply → Quiet e → e.step ≡ steps.Frame frame → ((t : TransactionId) → under t e ≡ same_id t u) → Tied g → ((t : TransactionId) → look g.live.entries t ≡ cond (same_id t u) (with_frame (look h.live.entries t) frame) (look h.live.entries t)) → ((k : ℕ) → is_in g.links.entries k ≡ is_in h.links.entries k) → g.opened ≡ h.opened → Stands g (r ++ e ∷ [])
+stands-post h g r e frame u s a q es ue tg lg kg og = record {
   legal = IsLegal-snoc r e s.legal a;
-  distinct = dg;
+  tied = tg;
   live = λ t.
       lg t ∙ ap (λ o. cond (same_id t u) (with_frame o frame) o) (s.live t)
       ∙ sym (kept_by-same r e t (q.declares t) (q.discharges t) (λ x. is_open-other r e (home r t) (q.attaches (home r t)) (q.closes (home r t)))
       ∙ ap (λ b. more_frames b e.step (kept_by r t)) (ue t) ∙ ap (λ x. more_frames (same_id t u) x (kept_by r t)) es ∙ with_more (same_id t u) frame (kept_by r t));
-  links = λ k. ap (λ ks. is_in ks k) kg ∙ s.links k ∙ sym (is_open-other r e k (q.attaches k) (q.closes k));
+  links = λ k. kg k ∙ s.links k ∙ sym (is_open-other r e k (q.attaches k) (q.closes k));
   opened = og ∙ s.opened ∙ sym (quiet_count r e q.attached);
 }
 
 -- an accepted discharge
-pub stands-discharged : (h g : Held) (r : List Entry) (e : Entry) (u : TransactionId) → Stands h r → Answer r e.step e.drawn.ids e.reply → ((t : TransactionId) → declares t e ≡ false) → ((t : TransactionId) → discharges t e ≡ same_id t u) → ((t : TransactionId) → under t e ≡ false) → ((k : ℕ) → attaches k e ≡ false) → ((k : ℕ) → closes k e ≡ false) → is_attached e.reply ≡ false → Distinct g.live.items → ((t : TransactionId) → look g.live.items t ≡ look_without u h.live.items t) → g.links.items ≡ h.links.items → g.opened ≡ h.opened → Stands g (r ++ e ∷ [])
-stands-discharged h g r e u s a de di un at cl ia dg lg kg og = record {
+pub stands-discharged : (h g : Held) (r : List Entry) (e : Entry) (u : TransactionId) → Stands h r → Answer r e.step e.drawn.ids e.reply → ((t : TransactionId) → declares t e ≡ false) → ((t : TransactionId) → discharges t e ≡ same_id t u) → ((t : TransactionId) → under t e ≡ false) → ((k : ℕ) → attaches k e ≡ false) → ((k : ℕ) → closes k e ≡ false) → is_attached e.reply ≡ false → Tied g → ((t : TransactionId) → look g.live.entries t ≡ look_without u h.live.entries t) → ((k : ℕ) → is_in g.links.entries k ≡ is_in h.links.entries k) → g.opened ≡ h.opened → Stands g (r ++ e ∷ [])
+stands-discharged h g r e u s a de di un at cl ia tg lg kg og = record {
   legal = IsLegal-snoc r e s.legal a;
-  distinct = dg;
+  tied = tg;
   live = λ t. lg t ∙ by_case t (same_id t u) refl;
-  links = λ k. ap (λ ks. is_in ks k) kg ∙ s.links k ∙ sym (is_open-other r e k (at k) (cl k));
+  links = λ k. kg k ∙ s.links k ∙ sym (is_open-other r e k (at k) (cl k));
   opened = og ∙ s.opened ∙ sym (quiet_count r e ia);
 }
   where
-    by_case : (t : TransactionId) (b : Bool) → same_id t u ≡ b → look_without u h.live.items t ≡ kept_by (r ++ e ∷ []) t
-    by_case t true x = ap (λ b. cond b None (look h.live.items t)) x ∙ sym (kept_by-discharged r e t (de t) (di t ∙ x))
+    by_case : (t : TransactionId) (b : Bool) → same_id t u ≡ b → look_without u h.live.entries t ≡ kept_by (r ++ e ∷ []) t
+    by_case t true x = ap (λ b. cond b None (look h.live.entries t)) x ∙ sym (kept_by-discharged r e t (de t) (di t ∙ x))
     by_case t false x =
-        ap (λ b. cond b None (look h.live.items t)) x ∙ s.live t
+        ap (λ b. cond b None (look h.live.entries t)) x ∙ s.live t
         ∙ sym (kept_by-quiet r e t (de t) (di t ∙ x) (un t) (λ y. is_open-other r e (home r t) (at (home r t)) (cl (home r t))))
-
-or_true : (b : Bool) → (b || (true || false)) ≡ true
-or_true true = refl
-or_true false = refl
-
-or_false : (b : Bool) → (b || (false || false)) ≡ b
-or_false true = refl
-or_false false = refl
 
 and_true : (b : Bool) → (b && not false) ≡ b
 and_true true = refl
 and_true false = refl
 
+-- a new link has no id, and no live id was declared on it
+no_home : (k : ℕ) (r : List Entry) (t : TransactionId) → IsLegal r → k ≡ attached_count r → is_kept_on k (kept_by r t) ≡ false
+no_home k r t legal n = by_case (is_live r t) refl
+  where
+    by_case : (b : Bool) → is_live r t ≡ b → is_kept_on k (kept_by r t) ≡ false
+    by_case true l =
+        ap (λ b. is_kept_on k (cond b (Some (Some (home r t), frames_of r t)) None)) l
+        ∙ ne_eqb (home r t) k (λ y. omega (arith, homes_attached r t legal (live_undischarged r t l), n))
+    by_case false l = ap (λ b. is_kept_on k (cond b (Some (Some (home r t), frames_of r t)) None)) l
+
+tied-attached : (h g : Held) (r : List Entry) → Stands h r → ((t : TransactionId) → look g.live.entries t ≡ look h.live.entries t) → ((k : ℕ) → ids_on g.links.entries k ≡ cond (h.opened == k) (Some []) (ids_on h.links.entries k)) → Tied g
+tied-attached h g r s lg kg k t = ap (is_among t) (kg k) ∙ by_case (h.opened == k) refl ∙ sym (ap (is_kept_on k) (lg t))
+  where
+    by_case : (b : Bool) → (h.opened == k) ≡ b → is_among t (cond (h.opened == k) (Some []) (ids_on h.links.entries k)) ≡ is_kept_on k (look h.live.entries t)
+    by_case true x =
+        ap (λ b. is_among t (cond b (Some []) (ids_on h.links.entries k))) x
+        ∙ sym (ap (is_kept_on k) (s.live t) ∙ no_home k r t s.legal (sym (eqb-true h.opened k x) ∙ s.opened))
+    by_case false x = ap (λ b. is_among t (cond b (Some []) (ids_on h.links.entries k))) x ∙ s.tied k t
+
 -- an attached link
-pub stands-attached : (h g : Held) (r : List Entry) (e : Entry) (frames : List Frame) → Stands h r → Answer r e.step e.drawn.ids e.reply → e.reply ≡ replies.Attached h.opened frames → ((t : TransactionId) → declares t e ≡ false) → ((t : TransactionId) → discharges t e ≡ false) → ((t : TransactionId) → under t e ≡ false) → ((k : ℕ) → closes k e ≡ false) → g.live.items ≡ h.live.items → g.links.items ≡ h.links.items ++ h.opened ∷ [] → g.opened ≡ h.opened + 1 → Stands g (r ++ e ∷ [])
+pub stands-attached : (h g : Held) (r : List Entry) (e : Entry) (frames : List Frame) → Stands h r → Answer r e.step e.drawn.ids e.reply → e.reply ≡ replies.Attached h.opened frames → ((t : TransactionId) → declares t e ≡ false) → ((t : TransactionId) → discharges t e ≡ false) → ((t : TransactionId) → under t e ≡ false) → ((k : ℕ) → closes k e ≡ false) → ((t : TransactionId) → look g.live.entries t ≡ look h.live.entries t) → ((k : ℕ) → ids_on g.links.entries k ≡ cond (h.opened == k) (Some []) (ids_on h.links.entries k)) → g.opened ≡ h.opened + 1 → Stands g (r ++ e ∷ [])
 stands-attached h g r e frames s a er de di un cl lg kg og = record {
   legal = IsLegal-snoc r e s.legal a;
-  distinct = subst Distinct (sym lg) s.distinct;
-  live = λ t. ap (λ ls. look ls t) lg ∙ s.live t ∙ sym (kept_by-quiet r e t (de t) (di t) (un t) (λ x. is_open-other r e (home r t) (apart t x) (cl (home r t))));
-  links = λ k. ap (λ ks. is_in ks k) kg ∙ list_any-append (λ j. j == k) h.links.items (h.opened ∷ []) ∙ ap (λ b. b || ((h.opened == k) || false)) (s.links k) ∙ by_case k (h.opened == k) refl;
+  tied = tied-attached h g r s lg kg;
+  live = λ t. lg t ∙ s.live t ∙ sym (kept_by-quiet r e t (de t) (di t) (un t) (λ x. is_open-other r e (home r t) (apart t x) (cl (home r t))));
+  links = λ k. ap is_some (kg k) ∙ in_updated (h.opened == k) (Some []) (ids_on h.links.entries k) ∙ by_case k (h.opened == k) refl;
   opened = og ∙ ap (λ n. n + 1) s.opened ∙ sym (count-snoc r e ∙ ap (λ x. attached_count r + cond (is_attached x) 1 0) er);
 }
   where
@@ -178,42 +190,42 @@ stands-attached h g r e frames s a er de di un cl lg kg og = record {
     apart : (t : TransactionId) → undischarged r t ≡ true → attaches (home r t) e ≡ false
     apart t x = says (home r t) ∙ ne_eqb h.opened (home r t) (λ y. omega (arith, homes_attached r t s.legal x, s.opened))
 
-    by_case : (k : ℕ) (b : Bool) → (h.opened == k) ≡ b → (is_open r k || ((h.opened == k) || false)) ≡ is_open (r ++ e ∷ []) k
+    by_case : (k : ℕ) (b : Bool) → (h.opened == k) ≡ b → cond (h.opened == k) true (is_in h.links.entries k) ≡ is_open (r ++ e ∷ []) k
     by_case k true x =
-        ap (λ b. is_open r k || (b || false)) x ∙ or_true (is_open r k)
+        ap (λ b. cond b true (is_in h.links.entries k)) x
         ∙ sym (ap (is_open (r ++ e ∷ [])) (sym (eqb-true h.opened k x)) ∙ is_open-attached r e h.opened frames s.legal er s.opened)
-    by_case k false x = ap (λ b. is_open r k || (b || false)) x ∙ or_false (is_open r k) ∙ sym (is_open-other r e k (says k ∙ x) (cl k))
+    by_case k false x = ap (λ b. cond b true (is_in h.links.entries k)) x ∙ s.links k ∙ sym (is_open-other r e k (says k ∙ x) (cl k))
 
 -- a closed link
-pub stands-closed : (h g : Held) (r : List Entry) (e : Entry) (k : ℕ) → Stands h r → Answer r e.step e.drawn.ids e.reply → ((t : TransactionId) → declares t e ≡ false) → ((t : TransactionId) → discharges t e ≡ false) → ((t : TransactionId) → under t e ≡ false) → ((j : ℕ) → attaches j e ≡ false) → ((j : ℕ) → closes j e ≡ (k == j)) → is_attached e.reply ≡ false → g.live.items ≡ filter (λ l. not (is_on k l.holder)) h.live.items → g.links.items ≡ filter (λ j. not (j == k)) h.links.items → g.opened ≡ h.opened → Stands g (r ++ e ∷ [])
-stands-closed h g r e k s a de di un at cl ia lg kg og = record {
+pub stands-closed : (h g : Held) (r : List Entry) (e : Entry) (k : ℕ) → Stands h r → Answer r e.step e.drawn.ids e.reply → ((t : TransactionId) → declares t e ≡ false) → ((t : TransactionId) → discharges t e ≡ false) → ((t : TransactionId) → under t e ≡ false) → ((j : ℕ) → attaches j e ≡ false) → ((j : ℕ) → closes j e ≡ (k == j)) → is_attached e.reply ≡ false → Tied g → ((t : TransactionId) → look g.live.entries t ≡ unless_on k (look h.live.entries t)) → ((j : ℕ) → is_in g.links.entries j ≡ cond (k == j) false (is_in h.links.entries j)) → g.opened ≡ h.opened → Stands g (r ++ e ∷ [])
+stands-closed h g r e k s a de di un at cl ia tg lg kg og = record {
   legal = IsLegal-snoc r e s.legal a;
-  distinct = subst Distinct (sym lg) (Distinct_filter h.live.items k s.distinct);
-  live = λ t. ap (λ ls. look ls t) lg ∙ look_filter h.live.items k t s.distinct ∙ ap (unless_on k) (s.live t) ∙ sym (kept_by-closed r e k t (de t) (di t) (un t) at cl);
-  links = λ j. ap (λ ks. is_in ks j) kg ∙ is_in_filter h.links.items k j ∙ ap (λ b. b && not (j == k)) (s.links j) ∙ by_case j (k == j) refl;
+  tied = tg;
+  live = λ t. lg t ∙ ap (unless_on k) (s.live t) ∙ sym (kept_by-closed r e k t (de t) (di t) (un t) at cl);
+  links = λ j. kg j ∙ by_case j (k == j) refl;
   opened = og ∙ s.opened ∙ sym (quiet_count r e ia);
 }
   where
-    by_case : (j : ℕ) (b : Bool) → (k == j) ≡ b → (is_open r j && not (j == k)) ≡ is_open (r ++ e ∷ []) j
-    by_case j true x = ap (λ b. is_open r j && not b) (eqb_sym j k ∙ x) ∙ and_right (is_open r j) false refl ∙ sym (is_open-closed r e j (cl j ∙ x))
-    by_case j false x = ap (λ b. is_open r j && not b) (eqb_sym j k ∙ x) ∙ and_true (is_open r j) ∙ sym (is_open-other r e j (at j) (cl j ∙ x))
+    by_case : (j : ℕ) (b : Bool) → (k == j) ≡ b → cond (k == j) false (is_in h.links.entries j) ≡ is_open (r ++ e ∷ []) j
+    by_case j true x = ap (λ b. cond b false (is_in h.links.entries j)) x ∙ sym (is_open-closed r e j (cl j ∙ x))
+    by_case j false x = ap (λ b. cond b false (is_in h.links.entries j)) x ∙ s.links j ∙ sym (is_open-other r e j (at j) (cl j ∙ x))
 
 -- a declared id
-pub stands-declared : (h g : Held) (r : List Entry) (e : Entry) (u : TransactionId) → Stands h r → Answer r e.step e.drawn.ids e.reply → is_live r u ≡ false → is_open r (step_link e.step) ≡ true → ((t : TransactionId) → declares t e ≡ same_id t u) → ((t : TransactionId) → discharges t e ≡ false) → ((t : TransactionId) → under t e ≡ false) → ((k : ℕ) → attaches k e ≡ false) → ((k : ℕ) → closes k e ≡ false) → is_attached e.reply ≡ false → Distinct g.live.items → ((t : TransactionId) → look g.live.items t ≡ cond (same_id t u) (Some (Some (step_link e.step), [])) (look h.live.items t)) → g.links.items ≡ h.links.items → g.opened ≡ h.opened → Stands g (r ++ e ∷ [])
-stands-declared h g r e u s a nl op de di un at cl ia dg lg kg og = record {
+pub stands-declared : (h g : Held) (r : List Entry) (e : Entry) (u : TransactionId) → Stands h r → Answer r e.step e.drawn.ids e.reply → is_live r u ≡ false → is_open r (step_link e.step) ≡ true → ((t : TransactionId) → declares t e ≡ same_id t u) → ((t : TransactionId) → discharges t e ≡ false) → ((t : TransactionId) → under t e ≡ false) → ((k : ℕ) → attaches k e ≡ false) → ((k : ℕ) → closes k e ≡ false) → is_attached e.reply ≡ false → Tied g → ((t : TransactionId) → look g.live.entries t ≡ cond (same_id t u) (Some (Some (step_link e.step), [])) (look h.live.entries t)) → ((k : ℕ) → is_in g.links.entries k ≡ is_in h.links.entries k) → g.opened ≡ h.opened → Stands g (r ++ e ∷ [])
+stands-declared h g r e u s a nl op de di un at cl ia tg lg kg og = record {
   legal = IsLegal-snoc r e s.legal a;
-  distinct = dg;
+  tied = tg;
   live = λ t. lg t ∙ by_case t (same_id t u) refl;
-  links = λ k. ap (λ ks. is_in ks k) kg ∙ s.links k ∙ sym (is_open-other r e k (at k) (cl k));
+  links = λ k. kg k ∙ s.links k ∙ sym (is_open-other r e k (at k) (cl k));
   opened = og ∙ s.opened ∙ sym (quiet_count r e ia);
 }
   where
-    by_case : (t : TransactionId) (b : Bool) → same_id t u ≡ b → cond (same_id t u) (Some (Some (step_link e.step), [])) (look h.live.items t) ≡ kept_by (r ++ e ∷ []) t
+    by_case : (t : TransactionId) (b : Bool) → same_id t u ≡ b → cond (same_id t u) (Some (Some (step_link e.step), [])) (look h.live.entries t) ≡ kept_by (r ++ e ∷ []) t
     by_case t true x =
-        ap (λ b. cond b (Some (Some (step_link e.step), [])) (look h.live.items t)) x
+        ap (λ b. cond b (Some (Some (step_link e.step), [])) (look h.live.entries t)) x
         ∙ sym (kept_by-declared r e t (de t ∙ x) (is_open-other r e (step_link e.step) (at (step_link e.step)) (cl (step_link e.step)) ∙ op))
     by_case t false x =
-        ap (λ b. cond b (Some (Some (step_link e.step), [])) (look h.live.items t)) x ∙ s.live t
+        ap (λ b. cond b (Some (Some (step_link e.step), [])) (look h.live.entries t)) x ∙ s.live t
         ∙ sym (kept_by-quiet r e t (de t ∙ x) (di t) (un t) (λ y. is_open-other r e (home r t) (at (home r t)) (cl (home r t))))
 
 -- nothing kept stands for the empty record
@@ -225,10 +237,10 @@ none_open : (k : ℕ) → is_open [] k ≡ false
 unfolding is_open
 none_open k = refl
 
-pub stands-new : (h : Held) → h.live.items ≡ [] → h.links.items ≡ [] → h.opened ≡ 0 → Stands h []
+pub stands-new : (h : Held) → h.live.entries ≡ [] → h.links.entries ≡ [] → h.opened ≡ 0 → Stands h []
 stands-new h l k o = record {
   legal = IsLegal-nil;
-  distinct = subst Distinct (sym l) tt;
+  tied = λ j t. ap (λ ks. is_among t (ids_on ks j)) k ∙ sym (ap (λ ls. is_kept_on j (look ls t)) l);
   live = λ t. ap (λ ls. look ls t) l ∙ sym (ap (λ b. cond b (Some (Some (home [] t), frames_of [] t)) None) (none_live t));
   links = λ j. ap (λ ks. is_in ks j) k ∙ sym (none_open j);
   opened = o;
@@ -236,33 +248,20 @@ stands-new h l k o = record {
 
 -- ---- a session that keeps nothing
 
-no_ids : (ls : List Live) → ((t : TransactionId) → look ls t ≡ None) → ls ≡ []
+no_ids : (ls : LiveIds) → ((t : TransactionId) → look ls t ≡ None) → length ls ≡ 0
 no_ids [] h = refl
-no_ids (l ∷ ls) h = let here : look (l ∷ ls) l.id ≡ Some (l.holder, l.frames) = ap (λ b. cond b (Some (l.holder, l.frames)) (look ls l.id)) (same_id-refl l.id) in cc (here, h l.id)
+no_ids (l ∷ ls) h = let here : look (l ∷ ls) l.0 ≡ Some (kept_of l.1) = ap (λ b. option_map kept_of (cond b (Some l.1) (lookup (same_id l.0) ls))) (same_id-refl l.0) in cc (here, h l.0)
 
-no_links : (ks : List ℕ) → ((k : ℕ) → is_in ks k ≡ false) → ks ≡ []
+no_links : {S : Type 0} (ks : OpenLinks S) → ((k : ℕ) → is_in ks k ≡ false) → length ks ≡ 0
 no_links [] h = refl
-no_links (k ∷ ks) h = let here : is_in (k ∷ ks) k ≡ true = ap (λ b. b || is_in ks k) (eq-eqb k k refl) in cc (here, h k)
+no_links (k ∷ ks) h = let here : is_in (k ∷ ks) k.0 ≡ true = ap (λ b. is_some (option_map keys (cond b (Some k.1) (lookup (nat_eq k.0) ks)))) (eq-eqb k.0 k.0 refl) in cc (here, h k.0)
 
-pub new-live : (h : Held) → Stands h [] → h.live.items ≡ []
-new-live h s = no_ids h.live.items (λ t. s.live t ∙ ap (λ b. cond b (Some (Some (home [] t), frames_of [] t)) None) (none_live t))
+pub new-live : (h : Held) → Stands h [] → length h.live.entries ≡ 0
+new-live h s = no_ids h.live.entries (λ t. s.live t ∙ ap (λ b. cond b (Some (Some (home [] t), frames_of [] t)) None) (none_live t))
 
-pub new-links : (h : Held) → Stands h [] → h.links.items ≡ []
-new-links h s = no_links h.links.items (λ k. s.links k ∙ none_open k)
+pub new-links : (h : Held) → Stands h [] → length h.links.entries ≡ 0
+new-links h s = no_links h.links.entries (λ k. s.links k ∙ none_open k)
 
--- what is kept for an id, by its place
-pub place_live : (ls : List Live) (t : TransactionId) (o : Option ℕ) → MatchOption o (look ls t ≡ None) (λ i. (i < length ls) × StandsAt ls i t) → is_some o ≡ is_some (look ls t)
-place_live ls t None h = sym (ap is_some h)
-place_live ls t (Some i) h = sym (kept (look ls t) (found ls i t h.1))
-  where
-    kept : (o : Option Kept) → (o ≡ None → ⊥) → is_some o ≡ true
-    kept None n = absurd (n refl)
-    kept (Some x) n = refl
-
--- a list is empty where its length is tested to be 0
-pub empty_items : {A : Type 0} (xs : List A) (n : ℕ) (b : Bool) → b ≡ (n == 0) → n ≡ length xs → b ≡ true → xs ≡ []
-empty_items [] n b t l e = refl
-empty_items (x ∷ xs) n b t l e = absurd (omega (arith, eqb-true n 0 (sym t ∙ e), l))
-
-pub some_items : {A : Type 0} (xs : List A) (n : ℕ) (b : Bool) → b ≡ (n == 0) → n ≡ length xs → b ≡ false → xs ≡ [] → ⊥
-some_items xs n b t l e h = let zero_len : n ≡ 0 = l ∙ ap length h in let yes : b ≡ true = t ∙ eq-eqb n 0 zero_len in cc (yes, e)
+pub no_items : {A : Type 0} (xs : List A) → length xs ≡ 0 → xs ≡ []
+no_items [] e = refl
+no_items (x ∷ xs) e = absurd (omega arith)

@@ -1,6 +1,10 @@
 -- What a session keeps, and the record that it stands for.
-use Rattle.std.specs.Prelude.{ℕ, zero, suc, ◌≡◌, ◌==◌, Bool, true, false, cond, Option, Some, None, List, [], ◌∷◌, ◌++◌}
+use Rattle.std.specs.Prelude.{ℕ, nat_eq, ◌≡◌, ◌<◌, ◌==◌, Bool, false, cond, Option, Some, None, List, [], ◌∷◌, ◌++◌, is_some, IfSome}
 use Rattle.std.specs.List.{list_any}
+use Rattle.std.specs.Map.{lookup}
+use Rattle.std.specs.Option.{option_map}
+use Rattle.std.specs.HashMap.{spare}
+use Rattle.std.specs.HashSet.{HashSet, keys, spare as spare_ids}
 use Rattle.amqp_txn_types.specs.declared.id.TransactionId.{TransactionId}
 use Rattle.amqp_txn_types.specs.declared.performatives.Frame.{Frame}
 use Rattle.amqp_record.specs.declared.entry.Entry.{Entry}
@@ -12,29 +16,29 @@ use Rattle.amqp_record.specs.Legal.{IsLegal}
 use Rattle.amqp_resource.specs.declared.held.Live.{Live}
 use Rattle.amqp_resource.specs.declared.held.Held.{Held}
 
+-- the live ids, each with what is kept for it
+abbrev pub LiveIds : Type 0
+LiveIds = List (TransactionId × Live)
+
+-- the open links, each with the live ids that were declared on it
+abbrev pub OpenLinks : Type 0 → Type 0
+OpenLinks S = List (ℕ × HashSet TransactionId S)
+
 -- the link that declared an id, if one did, and its frames
 abbrev pub Kept : Type 0
 Kept = Option ℕ × List Frame
 
+-- the same of one live id
+abbrev pub kept_of : Live → Kept
+kept_of one = (one.holder, one.frames)
+
 -- what is kept for an id
-abbrev pub look : List Live → TransactionId → Option Kept
-look [] t = None
-look (l ∷ ls) t = cond (same_id t l.id) (Some (l.holder, l.frames)) (look ls t)
-
--- no id stands twice
-abbrev pub Distinct : List Live → Type 0
-Distinct [] = Unit {0}
-Distinct (l ∷ ls) = (look ls l.id ≡ None) × Distinct ls
-
--- the id stands at the place
-abbrev pub StandsAt : List Live → ℕ → TransactionId → Type 0
-StandsAt [] i t = ⊥
-StandsAt (l ∷ ls) zero t = same_id t l.id ≡ true
-StandsAt (l ∷ ls) (suc i) t = StandsAt ls i t
+abbrev pub look : LiveIds → TransactionId → Option Kept
+look live t = option_map kept_of (lookup (same_id t) live)
 
 -- what is kept, without that of one id
-abbrev pub look_without : TransactionId → List Live → TransactionId → Option Kept
-look_without u ls t = cond (same_id t u) None (look ls t)
+abbrev pub look_without : TransactionId → LiveIds → TransactionId → Option Kept
+look_without u live t = cond (same_id t u) None (look live t)
 
 -- one frame more
 abbrev pub with_frame : Option Kept → Frame → Option Kept
@@ -46,19 +50,42 @@ abbrev pub is_on : ℕ → Option ℕ → Bool
 is_on k None = false
 is_on k (Some j) = j == k
 
+-- something is kept, and the link is the one that declared it
+abbrev pub is_kept_on : ℕ → Option Kept → Bool
+is_kept_on k None = false
+is_kept_on k (Some kept) = is_on k kept.0
+
 -- what is kept, unless it was declared on the link
 abbrev pub unless_on : ℕ → Option Kept → Option Kept
 unless_on k None = None
 unless_on k (Some kept) = cond (is_on k kept.0) None (Some kept)
 
--- the link is among these
-abbrev pub is_in : List ℕ → ℕ → Bool
-is_in ks k = list_any (λ j. j == k) ks
+-- the ids of an open link
+abbrev pub ids_on : {S : Type 0} → OpenLinks S → ℕ → Option (List TransactionId)
+ids_on links k = option_map keys (lookup (nat_eq k) links)
+
+-- the link is open
+abbrev pub is_in : {S : Type 0} → OpenLinks S → ℕ → Bool
+is_in links k = is_some (ids_on links k)
+
+-- the id is among those of a link
+abbrev pub is_among : TransactionId → Option (List TransactionId) → Bool
+is_among t None = false
+is_among t (Some ids) = list_any (same_id t) ids
+
+-- the ids of each link are the live ids that were declared on it
+abbrev pub Tied : Held → Type 0
+Tied h = (k : ℕ) (t : TransactionId) → is_among t (ids_on h.links.entries k) ≡ is_kept_on k (look h.live.entries t)
+
+-- there is room for one more live id, and for one more id of the link
+pub record HasRoom (h : Held) (k : ℕ) : Type 0 where
+  pub live : 0 < spare h.live
+  pub ids : IfSome (lookup (nat_eq k) h.links.entries) (λ ids. 0 < spare_ids ids)
 
 -- what is kept is as it was
 pub record SameHeld (old new : Held) : Type 0 where
-  pub live : new.live.items ≡ old.live.items
-  pub links : new.links.items ≡ old.links.items
+  pub live : (t : TransactionId) → look new.live.entries t ≡ look old.live.entries t
+  pub links : (k : ℕ) → ids_on new.links.entries k ≡ ids_on old.links.entries k
   pub opened : new.opened ≡ old.opened
 
 -- what the record says that is kept for an id: the link that declared it and its frames since
@@ -68,7 +95,7 @@ kept_by r t = cond (is_live r t) (Some (Some (home r t), frames_of r t)) None
 -- what is kept stands for the record: the record is legal, each id has what the record says, and so have the links
 pub record Stands (h : Held) (r : List Entry) : Type 0 where
   pub legal : IsLegal r
-  pub distinct : Distinct h.live.items
-  pub live : (t : TransactionId) → look h.live.items t ≡ kept_by r t
-  pub links : (k : ℕ) → is_in h.links.items k ≡ is_open r k
+  pub tied : Tied h
+  pub live : (t : TransactionId) → look h.live.entries t ≡ kept_by r t
+  pub links : (k : ℕ) → is_in h.links.entries k ≡ is_open r k
   pub opened : h.opened ≡ attached_count r

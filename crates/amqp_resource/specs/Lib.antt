@@ -1,4 +1,5 @@
 pub mod Held
+pub mod Posting
 pub mod Taking
 pub mod Committing
 pub mod Draws

@@ -41,7 +41,7 @@ opened_of x = x.held.opened
 
 -- the id is live on the session
 abbrev pub is_live_on : {S : Type 0} → TxnSession S → TransactionId → Bool
-is_live_on x t = is_kept x.held.live.items t
+is_live_on x t = is_kept x.held.live.entries t
 
 -- a session stands for a record: the record is legal, and the session's live ids with their frames and holders, and its links, are those of the record
 abbrev pub StandsFor : {S : Type 0} → TxnSession S → List Entry → Type 0

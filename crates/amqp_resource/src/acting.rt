@@ -37,7 +37,7 @@ fn control_step<S: LayerBelow, G: IdSource>(
     ensures source { OnErr result (ids.new ≡ ids.old) }
     ensures start { G.start ids.new ≡ G.start ids.old }
 {
-    if !has_link(held.links.as_slice(), link) {
+    if !has_link(&held.links, link) {
         return no_link_step(held, alloc, link, payload);
     }
     match decode(payload.as_slice()) {

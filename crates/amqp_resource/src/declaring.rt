@@ -11,11 +11,11 @@ ghost use Rattle.amqp_resource.specs.Draws.{DrewUnused, DrewLive};
 ghost use Rattle.amqp_resource.specs.Transacting.{AllocatedIn};
 ghost use Rattle.amqp_resource.specs.Steps.{StepsHere, StepCause, OnNoMemory, nothing_drawn};
 
-use crate::held::{Held, Live, place_of};
+use crate::held::{Held, LiveIds, add_live, declare_on, has_id, make_room};
 use crate::outcomes::no_draws;
 use amqp_below::{AllocTxnIdError, Drawn, IdSource};
 use amqp_record::{RejectText, Reply, StepError};
-use amqp_txn_types::{Frames, Payload, TransactionError, TransactionId};
+use amqp_txn_types::{Payload, TransactionError, TransactionId};
 use std::alloc::Global;
 
 /// A declare with a global id is rejected.
@@ -27,7 +27,7 @@ pub fn global_step(
     global: TransactionId,
 ) -> Result<(Drawn, Reply), StepError>
     requires message { message_of payload.now ≡ Some (messages.Declare (record { global_id = Some global })) }
-    requires opened { is_in held.now.links.items link ≡ true }
+    requires opened { is_in held.now.links.entries link ≡ true }
     ensures goes { StepsHere held.now held.now (steps.Control link payload.now) result }
     ensures cause { (n : ℕ) → StepCause n n (steps.Control link payload.now) result }
     ensures same { OnNoMemory result (SameHeld held.now held.now) }
@@ -43,19 +43,18 @@ pub fn global_step(
 }
 
 /// Draws up to 16 ids, to the first that isn't live.
-fn draw_unused<G: IdSource>(live: &[Live], ids: &mut G, drawn: &mut Drawn) -> Option<TransactionId>
+fn draw_unused<G: IdSource>(live: &LiveIds, ids: &mut G, drawn: &mut Drawn) -> Option<TransactionId>
     requires none { drawn.old.ids ≡ [] }
     requires room { 16 ≤ drawn.old.spare }
-    ensures unused { MatchOption result (DrewLive live.now drawn.new.ids) (λ id. DrewUnused live.now drawn.new.ids id) }
+    ensures unused { MatchOption result (DrewLive live.now.entries drawn.new.ids) (λ id. DrewUnused live.now.entries drawn.new.ids id) }
     ensures drew { Drew (G.next ids.old) (G.next ids.new) drawn.new.ids }
     ensures start { G.start ids.new ≡ G.start ids.old }
 {
     for _turn in 0..16usize {
         let id = ids.draw();
         drawn.push(id);
-        match place_of(live, id) {
-            None => return Some(id),
-            Some(_) => {}
+        if !has_id(live, id) {
+            return Some(id);
         }
     }
     None
@@ -70,7 +69,7 @@ pub fn declare_step<G: IdSource>(
     ids: &mut G,
 ) -> Result<(Drawn, Reply), StepError>
     requires message { message_of payload.now ≡ Some (messages.Declare (record { global_id = None })) }
-    requires opened { is_in held.old.links.items link ≡ true }
+    requires opened { is_in held.old.links.entries link ≡ true }
     ensures goes { StepsHere held.old held.new (steps.Control link payload.now) result }
     ensures cause { (n : ℕ) → StepCause n n (steps.Control link payload.now) result }
     ensures same { OnNoMemory result (SameHeld held.old held.new) }
@@ -82,16 +81,12 @@ pub fn declare_step<G: IdSource>(
     let Ok(()) = drawn.make_room() else {
         return Err(StepError::NoMemory);
     };
-    let Ok(()) = held.live.reserve(1) else {
+    let Ok(()) = make_room(held, link) else {
         return Err(StepError::NoMemory);
     };
-    match draw_unused(held.live.as_slice(), ids, &mut drawn) {
+    match draw_unused(&held.live, ids, &mut drawn) {
         Some(id) => {
-            held.live.push_reserved(Live {
-                id,
-                holder: Some(link),
-                frames: Frames::new(alloc),
-            });
+            declare_on(held, alloc, link, id);
             Ok((drawn, Reply::Declared(id)))
         }
         None => Ok((
@@ -121,13 +116,9 @@ pub fn allocate<G: IdSource>(
     let Ok(()) = held.live.reserve(1) else {
         return Err(AllocTxnIdError::NoMemory);
     };
-    match draw_unused(held.live.as_slice(), ids, &mut drawn) {
+    match draw_unused(&held.live, ids, &mut drawn) {
         Some(id) => {
-            held.live.push_reserved(Live {
-                id,
-                holder: None,
-                frames: Frames::new(alloc),
-            });
+            add_live(&mut held.live, alloc, None, id);
             Ok(drawn)
         }
         None => Err(AllocTxnIdError::IdsRepeat(drawn)),

@@ -1,19 +1,19 @@
 //! Discharges: a rollback lets its frames go, a commit hands them.
 
-ghost use Rattle.std.specs.Prelude.{◌≡◌, ◌≤◌, ◌<◌, true, Some, IfOk, length, slice_index_or};
+ghost use Rattle.std.specs.Prelude.{◌≡◌, ◌≤◌, true, Some, IfOk, length};
 ghost use Rattle.amqp_txn_codec.specs.Reading.{message_of};
 ghost use Rattle.amqp_txn_codec.specs.declared.message.ControlMessageBody.TheVariants as messages;
 ghost use Rattle.amqp_txn_types.specs.declared.small.TransactionError.TheVariants as transaction_errors;
 ghost use Rattle.amqp_record.specs.declared.step.Step.TheVariants as steps;
 ghost use Rattle.amqp_record.specs.declared.reply.Reply.TheVariants as replies;
 ghost use Rattle.amqp_record.specs.declared.reply.RejectText.TheVariants as texts;
-ghost use Rattle.amqp_resource.specs.declared.held.Live.{Live as OneLive};
-ghost use Rattle.amqp_resource.specs.Held.{Distinct, SameHeld, StandsAt, is_in};
-ghost use Rattle.amqp_resource.specs.Transacting.{CommittedIn, CommittedWith, RolledBackIn, step_error_of};
+ghost use Rattle.amqp_resource.specs.Draws.{is_kept};
+ghost use Rattle.amqp_resource.specs.Held.{SameHeld, is_in};
+ghost use Rattle.amqp_resource.specs.Transacting.{CommittedIn, CommittedWith, RolledBackIn, frames_kept, step_error_of};
 ghost use Rattle.amqp_resource.specs.Steps.{Steps, StepCause, OnNoMemory, OnOwnError, nothing_drawn};
 
 use crate::committing::hand_all;
-use crate::held::{Held, Live, is_declared_on, place_of, take_at};
+use crate::held::{Held, Live, find, has_id, is_declared_on, take};
 use crate::outcomes::{fault_of, no_draws};
 use amqp_below::{CommitFault, Drawn, Echoes, LayerBelow};
 use amqp_record::{RejectText, Reply, StepError, rolls_back};
@@ -31,30 +31,27 @@ fn absent() -> Reply
     }
 }
 
-/// Commits the id at the place: room for the answers first, then it ends and its frames are handed.
-fn commit_at<S: LayerBelow>(
+/// Commits a live id with so many frames: room for the answers first, then it ends and its frames are
+/// handed.
+fn commit_live<S: LayerBelow>(
     held: &mut Held,
     below: &mut S,
     alloc: Global,
-    at: usize,
     id: TransactionId,
+    count: usize,
 ) -> Result<Echoes, CommitFault>
-    requires at { at < length held.old.live.items }
-    requires stands { StandsAt held.old.live.items at id }
-    ensures gave { (d : OneLive) → CommittedWith held.old held.new (S.told below.old) (S.told below.new) id (slice_index_or held.old.live.items at d).frames (below.new ≡ below.old) result }
-    ensures distinct { Distinct held.old.live.items → Distinct held.new.live.items }
+    requires live { is_kept held.old.live.entries id ≡ true }
+    requires count { count ≡ length (frames_kept held.old.live.entries id) }
+    ensures gave { CommittedWith held.old held.new (S.told below.old) (S.told below.new) id (frames_kept held.old.live.entries id) (below.new ≡ below.old) result }
     ensures fixed { (S.told below.new).fixed ≡ (S.told below.old).fixed }
     ensures later { (S.told below.old).refusals ≤ (S.told below.new).refusals }
 {
-    let room = held.live[at].frames.len();
-    let Ok(echoes) = Vec::with_capacity(alloc, room) else {
+    let Ok(echoes) = Vec::with_capacity(alloc, count) else {
         return Err(CommitFault::NoMemory);
     };
-    let Live {
-        id: _,
-        holder: _,
-        frames,
-    } = take_at(&mut held.live, at, id);
+    let Some(Live { holder: _, frames }) = take(held, id) else {
+        unreachable!()
+    };
     match hand_all(below, frames.into_vec(), echoes) {
         Ok(echoes) => Ok(echoes),
         Err(refusal) => Err(CommitFault::Refused {
@@ -84,7 +81,7 @@ pub fn discharge_step<S: LayerBelow>(
     discharge: Discharge,
 ) -> Result<(Drawn, Reply), StepError>
     requires message { message_of payload.now ≡ Some (messages.Discharge discharge) }
-    requires opened { is_in held.old.links.items link ≡ true }
+    requires opened { is_in held.old.links.entries link ≡ true }
     ensures goes { Steps held.old held.new (S.told below.old) (S.told below.new) (steps.Control link payload.now) result }
     ensures cause { StepCause (S.told below.old).refusals (S.told below.new).refusals (steps.Control link payload.now) result }
     ensures same { OnNoMemory result (SameHeld held.old held.new) }
@@ -93,18 +90,19 @@ pub fn discharge_step<S: LayerBelow>(
     ensures later { (S.told below.old).refusals ≤ (S.told below.new).refusals }
     ensures draws { IfOk result (λ out. out.0 ≡ nothing_drawn) }
 {
-    let Some(at) = place_of(held.live.as_slice(), discharge.txn_id) else {
+    let Some(one) = find(&held.live, discharge.txn_id) else {
         return Ok((no_draws(alloc), absent()));
     };
-    let declared_here = is_declared_on(&held.live[at], link);
+    let declared_here = is_declared_on(one, link);
+    let count = one.frames.len();
     if !declared_here {
         return Ok((no_draws(alloc), absent()));
     }
     if rolls_back(discharge.fail) {
-        let _dropped = take_at(&mut held.live, at, discharge.txn_id);
+        let _dropped = take(held, discharge.txn_id);
         return Ok((no_draws(alloc), Reply::Accepted(Echoes::new(alloc))));
     }
-    match commit_at(held, below, alloc, at, discharge.txn_id) {
+    match commit_live(held, below, alloc, discharge.txn_id, count) {
         Ok(echoes) => Ok((no_draws(alloc), Reply::Accepted(echoes))),
         Err(fault) => Err(step_error_of(fault)),
     }
@@ -119,10 +117,11 @@ pub fn commit_kept<S: LayerBelow>(
 ) -> Result<Result<Echoes, TransactionError>, CommitFault>
     ensures { CommittedIn held.old held.new (S.told below.old) (S.told below.new) id (below.new ≡ below.old) result }
 {
-    let Some(at) = place_of(held.live.as_slice(), id) else {
+    let Some(one) = find(&held.live, id) else {
         return Ok(Err(TransactionError::UnknownId));
     };
-    match commit_at(held, below, alloc, at, id) {
+    let count = one.frames.len();
+    match commit_live(held, below, alloc, id, count) {
         Ok(echoes) => Ok(Ok(echoes)),
         Err(fault) => Err(fault),
     }
@@ -132,9 +131,9 @@ pub fn commit_kept<S: LayerBelow>(
 pub fn roll_back_kept(held: &mut Held, id: TransactionId) -> Result<Accepted, TransactionError>
     ensures { RolledBackIn held.old held.new id result }
 {
-    let Some(at) = place_of(held.live.as_slice(), id) else {
+    if !has_id(&held.live, id) {
         return Err(TransactionError::UnknownId);
-    };
-    let _dropped = take_at(&mut held.live, at, id);
+    }
+    let _dropped = take(held, id);
     Ok(Accepted)
 }

@@ -1,14 +1,16 @@
 //! Steps that are frames: plain ones, work under a transaction, and attaches of control links.
 
-ghost use Rattle.std.specs.Prelude.{◌≡◌, ◌≤◌, ◌<◌, ◌-◌, ◌^◌, [], true, false, Some, IfOk, MatchOption, cond, List};
+ghost use Rattle.std.specs.Prelude.{◌≡◌, ◌≤◌, ◌<◌, ◌-◌, ◌^◌, ◌++◌, ◌∷◌, [], true, false, Some, IfOk, IfSome, OnOk, OnErr, MatchOption, cond, is_some};
 ghost use Rattle.amqp_txn_types.specs.declared.performatives.Frame.TheVariants as frames;
 ghost use Rattle.amqp_txn_types.specs.Frames.{txn, coord, plain, attaches_coordinator};
 ghost use Rattle.amqp_record.specs.declared.step.Step.TheVariants as steps;
 ghost use Rattle.amqp_record.specs.Answers.{answered_under, presumed};
+ghost use Rattle.amqp_resource.specs.Draws.{is_kept};
 ghost use Rattle.amqp_resource.specs.Held.{SameHeld};
+ghost use Rattle.amqp_resource.specs.Posting.{Posted};
 ghost use Rattle.amqp_resource.specs.Steps.{Steps, StepCause, OnNoMemory, OnOwnError, nothing_drawn};
 
-use crate::held::{Held, keep_at, place_of, push_frame};
+use crate::held::{Held, LiveIds, open_link, push_frame};
 use crate::outcomes::{fault_of, no_draws};
 use crate::taking::{check_given, take_frame};
 use amqp_below::{Answers, Drawn, LayerBelow, SessionInnerError};
@@ -88,6 +90,40 @@ fn answers_under(alloc: Global, frame: &Frame, id: TransactionId) -> Result<Fram
     }
 }
 
+/// Keeps a copy of the frame, and gives what it is answered at once. For want of memory the list is
+/// as it was.
+fn keep_copy(
+    frames: &mut Frames,
+    alloc: Global,
+    frame: &Frame,
+    id: TransactionId,
+) -> Result<Frames, NoMemory>
+    ensures given { IfOk result (λ given. given ≡ answered_under id frame.now) }
+    ensures ok { OnOk result (frames.new ≡ frames.old ++ frame.now ∷ []) }
+    ensures err { OnErr result (frames.new ≡ frames.old) }
+{
+    let given = answers_under(alloc, frame, id)?;
+    push_frame(frames, frame.try_clone()?)?;
+    Ok(given)
+}
+
+/// Keeps a copy of the frame under the id, and gives what it is answered at once; `None` where the id
+/// isn't live.
+fn keep_under(
+    live: &mut LiveIds,
+    alloc: Global,
+    frame: &Frame,
+    id: TransactionId,
+) -> Option<Result<Frames, NoMemory>>
+    ensures live { is_some result ≡ is_kept live.old.entries id }
+    ensures posted { IfSome result (Posted live.old.entries live.new.entries frame.now id) }
+{
+    match live.get_mut(&id) {
+        Some(one) => Some(keep_copy(&mut one.frames, alloc, frame, id)),
+        None => None,
+    }
+}
+
 /// A frame under an id is kept.
 fn post_step<S: LayerBelow>(
     held: &mut Held,
@@ -105,19 +141,13 @@ fn post_step<S: LayerBelow>(
     ensures later { (S.told below.old).refusals ≤ (S.told below.new).refusals }
     ensures draws { IfOk result (λ out. out.0 ≡ nothing_drawn) }
 {
-    let Some(at) = place_of(held.live.as_slice(), id) else {
+    let Some(kept) = keep_under(&mut held.live, alloc, frame, id) else {
         return Err(StepError::Fault {
             error: SessionInnerError::UnknownTxnId,
             handed: 0,
         });
     };
-    let Ok(given) = answers_under(alloc, frame, id) else {
-        return Err(StepError::NoMemory);
-    };
-    let Ok(copy) = frame.try_clone() else {
-        return Err(StepError::NoMemory);
-    };
-    let Ok(()) = keep_at(&mut held.live, at, id, copy) else {
+    let Ok(given) = kept else {
         return Err(StepError::NoMemory);
     };
     match check_given(below, given.as_slice()) {
@@ -158,7 +188,7 @@ fn attach_step<S: LayerBelow>(
     match below.on_control_attach(attach) {
         Ok(frames) => {
             let link = held.opened;
-            held.links.push_reserved(link);
+            open_link(&mut held.links, alloc, link);
             held.opened += 1;
             Ok((no_draws(alloc), Reply::Attached { link, frames }))
         }

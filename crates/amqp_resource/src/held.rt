@@ -1,29 +1,40 @@
-//! What a session keeps: the live ids with their frames, and the open control links.
+//! What a session keeps: the live ids with their frames, and the open control links with their ids.
+//! An id or a link is found by its hash, and nothing here walks all of them.
 
-ghost use Rattle.std.specs.Prelude.{◌≡◌, ◌<◌, ◌↔◌, IsTrue, ◌∷◌, ◌++◌, [], ℕ, not, ◌==◌, length, OnOk, OnErr, IfSome, MatchOption, None, Some, cond, slice_index_or};
-ghost use Rattle.std.specs.List.{filter};
+ghost use Rattle.std.specs.Prelude.{◌≡◌, ◌<◌, ◌↔◌, IsTrue, ◌∷◌, ◌++◌, [], ℕ, true, false, ◌&&◌, ◌==◌, nat_eq, OnOk, OnErr, IfSome, None, Some, cond, option_copied};
+ghost use Rattle.std.specs.List.{list_any};
+ghost use Rattle.std.specs.Map.{lookup};
+ghost use Rattle.std.specs.Option.{option_map};
+ghost use Rattle.std.specs.HashMap.{spare};
+ghost use Rattle.std.specs.HashSet.{spare as spare_ids};
 ghost use Rattle.amqp_txn_types.specs.declared.id.TransactionId.{TransactionId as Id};
-ghost use Rattle.amqp_resource.specs.declared.held.Live.{Live as OneLive};
 ghost use Rattle.amqp_record.specs.Entries.{same_id};
 ghost use Rattle.amqp_resource.specs.Draws.{is_kept};
-ghost use Rattle.amqp_resource.specs.Held.{Stands, look, StandsAt, Distinct, look_without, with_frame, is_in, is_on};
+ghost use Rattle.amqp_resource.specs.Held.{HasRoom, SameHeld, Stands, Tied, ids_on, is_among, is_in, is_on, kept_of, look, look_without, unless_on};
 
 use amqp_txn_types::{Frame, Frames, NoMemory, TransactionId};
+use indexmap::{IndexMap, IndexSet};
+use std::alloc::Global;
 
-/// A live id, the link that declared it and the frames that came under it, as they came. An id that
-/// the session allocated by itself was declared on no link.
+/// What is kept for a live id: the link that declared it and the frames that came under it, as they
+/// came. An id that the session allocated by itself was declared on no link.
 #[derive(Drop)]
 pub struct Live {
-    pub id: TransactionId,
     pub holder: Option<u64>,
     pub frames: Frames,
 }
 
-/// What a session keeps. The links are the open ones; `opened` counts all that were.
+/// The live ids.
+pub type LiveIds = IndexMap<TransactionId, Live>;
+
+/// The open links, each with the live ids that were declared on it.
+pub type OpenLinks = IndexMap<u64, IndexSet<TransactionId>>;
+
+/// What a session keeps; `opened` counts all links that were opened.
 #[derive(Drop)]
 pub struct Held {
-    pub live: Vec<Live>,
-    pub links: Vec<u64>,
+    pub live: LiveIds,
+    pub links: OpenLinks,
     pub opened: u64,
 }
 
@@ -41,66 +52,17 @@ pub fn keeps_nothing(held: &Held) -> bool
 }
 
 /// Whether the id is live.
-pub fn has_id(live: &[Live], id: TransactionId) -> bool
-    ensures { result ≡ is_kept live.now id }
+pub fn has_id(live: &LiveIds, id: TransactionId) -> bool
+    ensures { result ≡ is_kept live.now.entries id }
 {
-    place_of(live, id).is_some()
+    live.contains_key(&id)
 }
 
-/// The place of an id, the first one.
-pub fn place_of(live: &[Live], id: TransactionId) -> Option<usize>
-    ensures place { MatchOption result (look live.now id ≡ None) (λ i. (i < length live.now) × StandsAt live.now i id) }
-    ensures kept { IfSome result (λ i. (d : OneLive) → look live.now id ≡ Some ((slice_index_or live.now i d).holder, (slice_index_or live.now i d).frames)) }
+/// What is kept for the id.
+pub fn find(live: &LiveIds, id: TransactionId) -> Option<&Live>
+    ensures { option_map kept_of (option_copied result) ≡ look live.now.entries id }
 {
-    for (i, one) in live.iter().enumerate() {
-        if id == one.id {
-            return Some(i);
-        }
-    }
-    None
-}
-
-/// Appends a frame. For want of memory it is let go, and the list is as it was.
-pub fn push_frame(frames: &mut Frames, frame: Frame) -> Result<(), NoMemory>
-    ensures ok { OnOk result (frames.new ≡ frames.old ++ frame ∷ []) }
-    ensures err { OnErr result (frames.new ≡ frames.old) }
-{
-    if let Err((_, error)) = frames.push(frame) {
-        return Err(error);
-    }
-    Ok(())
-}
-
-/// Keeps a frame for the id at the place.
-pub fn keep_at(
-    live: &mut Vec<Live>,
-    at: usize,
-    id: TransactionId,
-    frame: Frame,
-) -> Result<(), NoMemory>
-    requires at { at < length live.old.items }
-    requires stands { StandsAt live.old.items at id }
-    ensures ok { OnOk result (Distinct live.old.items → (t : Id) → look live.new.items t ≡ cond (same_id t id) (with_frame (look live.old.items t) frame) (look live.old.items t)) }
-    ensures distinct { Distinct live.old.items → Distinct live.new.items }
-    ensures err { OnErr result (live.new.items ≡ live.old.items) }
-{
-    let one = &mut live[at];
-    push_frame(&mut one.frames, frame)
-}
-
-/// Takes out the id at the place: nothing is kept for it any more.
-pub fn take_at(live: &mut Vec<Live>, at: usize, id: TransactionId) -> Live
-    requires at { at < length live.old.items }
-    requires stands { StandsAt live.old.items at id }
-    ensures taken { Distinct live.old.items → look live.old.items id ≡ Some (result.holder, result.frames) }
-    ensures value { result ≡ slice_index_or live.old.items at result }
-    ensures rest { (t : Id) → look live.new.items t ≡ look_without id live.old.items t }
-    ensures distinct { Distinct live.old.items → Distinct live.new.items }
-{
-    let taken = live.remove(at);
-    // No id stands twice, so this finds no other. With it the id is gone whatever stood there.
-    live.retain(|one| id != one.id);
-    taken
+    live.get(&id)
 }
 
 /// Whether the id was declared on the link.
@@ -113,23 +75,161 @@ pub fn is_declared_on(one: &Live, link: u64) -> bool
     }
 }
 
-/// Lets go what was declared on the link.
-pub fn drop_held_on(live: &mut Vec<Live>, link: u64)
-    ensures { live.new.items ≡ filter (λ l. not (is_on link l.holder)) live.old.items }
-{
-    live.retain(|one| !is_declared_on(one, link));
-}
-
-/// Closes a link.
-pub fn drop_link(links: &mut Vec<u64>, link: u64)
-    ensures { links.new.items ≡ filter (λ k. not (k == link)) links.old.items }
-{
-    links.retain(|one| *one != link);
-}
-
 /// Whether the link is open.
-pub fn has_link(links: &[u64], link: u64) -> bool
-    ensures { result ≡ is_in links.now link }
+pub fn has_link(links: &OpenLinks, link: u64) -> bool
+    ensures { result ≡ is_in links.now.entries link }
 {
-    links.iter().any(|one| *one == link)
+    links.contains_key(&link)
+}
+
+/// Appends a frame. For want of memory it is let go, and the list is as it was.
+pub fn push_frame(frames: &mut Frames, frame: Frame) -> Result<(), NoMemory>
+    ensures ok { OnOk result (frames.new ≡ frames.old ++ frame ∷ []) }
+    ensures err { OnErr result (frames.new ≡ frames.old) }
+{
+    let Ok(()) = frames.items.reserve(1) else {
+        return Err(NoMemory);
+    };
+    frames.items.push_reserved(frame);
+    Ok(())
+}
+
+/// Opens a link, for which there is room.
+pub fn open_link(links: &mut OpenLinks, alloc: Global, link: u64)
+    requires { 0 < spare links.old }
+    ensures { (k : ℕ) → ids_on links.new.entries k ≡ cond (link == k) (Some []) (ids_on links.old.entries k) }
+{
+    let Ok(_) = links.insert(link, IndexSet::new(alloc)) else {
+        unreachable!()
+    };
+}
+
+/// Makes room for one more id of a link.
+fn make_room_on(links: &mut OpenLinks, link: u64) -> Result<(), NoMemory>
+    ensures same { (k : ℕ) → ids_on links.new.entries k ≡ ids_on links.old.entries k }
+    ensures room { OnOk result (IfSome (lookup (nat_eq link) links.new.entries) (λ ids. 0 < spare_ids ids)) }
+{
+    match links.get_mut(&link) {
+        Some(ids) => match ids.reserve(1) {
+            Ok(()) => Ok(()),
+            Err(_) => Err(NoMemory),
+        },
+        None => Ok(()),
+    }
+}
+
+/// Makes room for one more live id, declared on the link.
+pub fn make_room(held: &mut Held, link: u64) -> Result<(), NoMemory>
+    ensures same { SameHeld held.old held.new }
+    ensures room { OnOk result (HasRoom held.new link) }
+{
+    let Ok(()) = held.live.reserve(1) else {
+        return Err(NoMemory);
+    };
+    make_room_on(&mut held.links, link)
+}
+
+/// Adds an id without frames, for which there is room.
+pub fn add_live(live: &mut LiveIds, alloc: Global, holder: Option<u64>, id: TransactionId)
+    requires { 0 < spare live.old }
+    ensures { (t : Id) → look live.new.entries t ≡ cond (same_id t id) (Some (holder, [])) (look live.old.entries t) }
+{
+    let one = Live {
+        holder,
+        frames: Frames::new(alloc),
+    };
+    let Ok(_) = live.insert(id, one) else {
+        unreachable!()
+    };
+}
+
+/// Adds an id to those of its link, for which there is room.
+fn add_id(ids: &mut IndexSet<TransactionId>, id: TransactionId)
+    requires { 0 < spare_ids ids.old }
+    ensures { (t : Id) → list_any (same_id t) ids.new.keys ≡ cond (same_id id t) true (list_any (same_id t) ids.old.keys) }
+{
+    let Ok(_) = ids.insert(id) else {
+        unreachable!()
+    };
+}
+
+/// Adds an id to those of an open link, for which there is room.
+fn add_on(links: &mut OpenLinks, link: u64, id: TransactionId)
+    requires room { IfSome (lookup (nat_eq link) links.old.entries) (λ ids. 0 < spare_ids ids) }
+    requires opened { is_in links.old.entries link ≡ true }
+    ensures links { (k : ℕ) → is_in links.new.entries k ≡ is_in links.old.entries k }
+    ensures ids { (k : ℕ) → (t : Id) → is_among t (ids_on links.new.entries k) ≡ cond (link == k && same_id id t) true (is_among t (ids_on links.old.entries k)) }
+{
+    if let Some(ids) = links.get_mut(&link) {
+        add_id(ids, id);
+    }
+}
+
+/// Declares an id that isn't live on an open link, for which there is room.
+pub fn declare_on(held: &mut Held, alloc: Global, link: u64, id: TransactionId)
+    requires room { HasRoom held.old link }
+    requires opened { is_in held.old.links.entries link ≡ true }
+    requires unused { look held.old.live.entries id ≡ None }
+    ensures live { (t : Id) → look held.new.live.entries t ≡ cond (same_id t id) (Some (Some link, [])) (look held.old.live.entries t) }
+    ensures links { (k : ℕ) → is_in held.new.links.entries k ≡ is_in held.old.links.entries k }
+    ensures tied { Tied held.old → Tied held.new }
+    ensures opened { held.new.opened ≡ held.old.opened }
+{
+    add_live(&mut held.live, alloc, Some(link), id);
+    add_on(&mut held.links, link, id);
+}
+
+/// Takes an id out of those of its link.
+fn drop_id(ids: &mut IndexSet<TransactionId>, id: TransactionId)
+    ensures { (t : Id) → list_any (same_id t) ids.new.keys ≡ cond (same_id id t) false (list_any (same_id t) ids.old.keys) }
+{
+    let _was_among = ids.swap_remove(&id);
+}
+
+/// Takes an id out of those of the link that declared it, if one did.
+fn drop_on(links: &mut OpenLinks, holder: Option<u64>, id: TransactionId)
+    ensures links { (k : ℕ) → is_in links.new.entries k ≡ is_in links.old.entries k }
+    ensures ids { (k : ℕ) → (t : Id) → is_among t (ids_on links.new.entries k) ≡ cond (is_on k holder && same_id id t) false (is_among t (ids_on links.old.entries k)) }
+{
+    let Some(link) = holder else {
+        return;
+    };
+    if let Some(ids) = links.get_mut(&link) {
+        drop_id(ids, id);
+    }
+}
+
+/// Takes out what is kept for the id: it is live no more, and none of its link's.
+pub fn take(held: &mut Held, id: TransactionId) -> Option<Live>
+    ensures taken { option_map kept_of result ≡ look held.old.live.entries id }
+    ensures rest { (t : Id) → look held.new.live.entries t ≡ look_without id held.old.live.entries t }
+    ensures links { (k : ℕ) → is_in held.new.links.entries k ≡ is_in held.old.links.entries k }
+    ensures tied { Tied held.old → Tied held.new }
+    ensures opened { held.new.opened ≡ held.old.opened }
+{
+    let taken = held.live.swap_remove(&id)?;
+    drop_on(&mut held.links, taken.holder, id);
+    Some(taken)
+}
+
+/// Lets the ids go with what is kept for them.
+fn drop_ids(live: &mut LiveIds, ids: &[TransactionId])
+    ensures { (t : Id) → look live.new.entries t ≡ cond (list_any (same_id t) ids.now) None (look live.old.entries t) }
+{
+    for id in ids {
+        drop(live.swap_remove(id));
+    }
+}
+
+/// Closes a link and lets go what was declared on it.
+pub fn end_link(held: &mut Held, link: u64)
+    ensures live { Tied held.old → (t : Id) → look held.new.live.entries t ≡ unless_on link (look held.old.live.entries t) }
+    ensures links { (k : ℕ) → is_in held.new.links.entries k ≡ cond (link == k) false (is_in held.old.links.entries k) }
+    ensures tied { Tied held.old → Tied held.new }
+    ensures opened { held.new.opened ≡ held.old.opened }
+{
+    let Some(ids) = held.links.swap_remove(&link) else {
+        return;
+    };
+    drop_ids(&mut held.live, ids.as_slice());
 }

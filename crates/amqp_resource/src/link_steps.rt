@@ -6,7 +6,7 @@ ghost use Rattle.amqp_record.specs.declared.step.Step.TheVariants as steps;
 ghost use Rattle.amqp_resource.specs.Held.{SameHeld, is_in};
 ghost use Rattle.amqp_resource.specs.Steps.{StepsHere, StepCause, OnNoMemory, nothing_drawn};
 
-use crate::held::{Held, drop_held_on, drop_link, has_link};
+use crate::held::{Held, end_link, has_link};
 use crate::outcomes::no_draws;
 use amqp_below::Drawn;
 use amqp_record::{Reply, StepError};
@@ -20,11 +20,10 @@ pub fn link_end_step(held: &mut Held, alloc: Global, link: u64) -> Result<(Drawn
     ensures same { OnNoMemory result (SameHeld held.old held.new) }
     ensures draws { IfOk result (λ out. out.0 ≡ nothing_drawn) }
 {
-    if !has_link(held.links.as_slice(), link) {
+    if !has_link(&held.links, link) {
         return Ok((no_draws(alloc), Reply::NoLink));
     }
-    drop_held_on(&mut held.live, link);
-    drop_link(&mut held.links, link);
+    end_link(held, link);
     Ok((no_draws(alloc), Reply::LinkEnded))
 }
 
@@ -36,14 +35,13 @@ pub fn close_step(
     payload: &Payload,
 ) -> Result<(Drawn, Reply), StepError>
     requires message { message_of payload.now ≡ None }
-    requires opened { is_in held.old.links.items link ≡ true }
+    requires opened { is_in held.old.links.entries link ≡ true }
     ensures goes { StepsHere held.old held.new (steps.Control link payload.now) result }
     ensures cause { (n : ℕ) → StepCause n n (steps.Control link payload.now) result }
     ensures same { OnNoMemory result (SameHeld held.old held.new) }
     ensures draws { IfOk result (λ out. out.0 ≡ nothing_drawn) }
 {
-    drop_held_on(&mut held.live, link);
-    drop_link(&mut held.links, link);
+    end_link(held, link);
     Ok((no_draws(alloc), Reply::LinkClosed(AmqpError::NotAllowed)))
 }
 
@@ -54,7 +52,7 @@ pub fn no_link_step(
     link: u64,
     payload: &Payload,
 ) -> Result<(Drawn, Reply), StepError>
-    requires { is_in held.now.links.items link ≡ false }
+    requires { is_in held.now.links.entries link ≡ false }
     ensures goes { StepsHere held.now held.now (steps.Control link payload.now) result }
     ensures cause { (n : ℕ) → StepCause n n (steps.Control link payload.now) result }
     ensures same { OnNoMemory result (SameHeld held.now held.now) }

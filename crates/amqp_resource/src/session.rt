@@ -19,6 +19,7 @@ use crate::held::{Held, has_id, keeps_nothing};
 use amqp_below::{Drawn, IdSource, LayerBelow};
 use amqp_record::{Drawn16, Reply, Step, StepError, StopCode, code_of_end, code_of_fault};
 use amqp_txn_types::{SessionState, TransactionId};
+use indexmap::IndexMap;
 use std::alloc::Global;
 
 /// A session that serves transactions over a layer below. Part 4 of the standard, section 4.4.
@@ -65,8 +66,8 @@ impl<S: LayerBelow> TxnSession<S> {
     {
         TxnSession {
             held: Held {
-                live: Vec::new(alloc),
-                links: Vec::new(alloc),
+                live: IndexMap::new(alloc),
+                links: IndexMap::new(alloc),
                 opened: 0,
             },
             below,
@@ -96,7 +97,7 @@ impl<S: LayerBelow> TxnSession<S> {
         ensures kept { result ≡ is_live_on self.now txn_id.now }
         ensures as_record { (r : List Entry) → StandsFor self.now r → result ≡ is_live r txn_id.now }
     {
-        has_id(self.held.live.as_slice(), *txn_id)
+        has_id(&self.held.live, *txn_id)
     }
 
     /// How many control links were opened so far.

@@ -1,25 +1,23 @@
-use Rattle.std.proofs.Common.{Some, ap, ◌∙◌, refl, subst, List, ◌++◌, ◌∷◌, [], ◌≡◌}
-use Rattle.amqp_txn_types.specs.declared.performatives.Frame.{Frame}
-use Rattle.amqp_resource.specs.declared.held.Live.{Live}
-use Rattle.amqp_resource.specs.Draws.{DrewUnused, DrewLive}
-use Rattle.amqp_resource.proofs.Going.{went-declared, went-repeat}
+use Rattle.std.proofs.Common.{ap, ◌∙◌, refl}
+use Rattle.std.specs.Prelude.{is_some}
+use Rattle.amqp_resource.proofs.Going.{stands-moved, went-declared, went-repeat}
 use Rattle.amqp_resource.proofs.declaring.declare_step.Goals as goal
+
+pub declare_on-requires-clause-opened : goal.declare_on-requires-clause-opened
+declare_on-requires-clause-opened g c = ap is_some (c.in-Ok-make_room.ensures.same.links c.args.link) ∙ c.requires.opened
 
 pub returns-in-Some-clause-goes : goal.returns-in-Some-clause-goes
 returns-in-Some-clause-goes g c r s told =
-    let P : List Live → Type 0 = λ ls. DrewUnused ls c.draw_unused.new.drawn.ids c.in-Some.id in
-    let drew : P c.as_slice.result.now = c.in-Some.ensures.unused in
-    let same : c.as_slice.result.now ≡ c.args.held.now.live.items = c.as_slice.ensures.value ∙ c.in-Ok-reserve.ensures.items in
-    went-declared c.args.held.now _ r c.args.link c.args.payload.now _ c.in-Some.id told c.requires.message c.requires.opened s
-    (subst P same drew)
-    (c.push_reserved.ensures.items ∙ ap (λ ls. ls ++ record { id = c.in-Some.id; holder = Some c.args.link; frames = c.new.result } ∷ []) c.in-Ok-reserve.ensures.items
-    ∙ ap (λ (fs : List Frame). c.args.held.now.live.items ++ record { id = c.in-Some.id; holder = Some c.args.link; frames = fs } ∷ []) c.new.ensures)
-    refl refl
+    let roomy = c.make_room-2.new.held in
+    let same = c.in-Ok-make_room.ensures.same in
+    let stands = stands-moved c.args.held.now roomy r s same in
+    let declared = c.declare_on.ensures in
+    went-declared roomy c.declare_on.new.held r c.args.link c.args.payload.now c.draw_unused.new.drawn c.in-Some.id told c.requires.message (ap is_some (same.links c.args.link) ∙ c.requires.opened) stands
+    c.in-Some.ensures.unused (declared.tied stands.tied) declared.live declared.links declared.opened
 
 pub returns-in-None-clause-goes : goal.returns-in-None-clause-goes
 returns-in-None-clause-goes g c r s told =
-    let P : List Live → Type 0 = λ ls. DrewLive ls c.draw_unused.new.drawn.ids in
-    let drew : P c.as_slice.result.now = c.in-None.ensures.unused in
-    let same : c.as_slice.result.now ≡ c.args.held.now.live.items = c.as_slice.ensures.value ∙ c.in-Ok-reserve.ensures.items in
-    went-repeat c.args.held.now _ r c.args.link c.args.payload.now _ told c.requires.message c.requires.opened s
-    (subst P same drew) c.in-Ok-reserve.ensures.items refl refl
+    let roomy = c.make_room-2.new.held in
+    let same = c.in-Ok-make_room.ensures.same in
+    went-repeat roomy roomy r c.args.link c.args.payload.now c.draw_unused.new.drawn told c.requires.message (ap is_some (same.links c.args.link) ∙ c.requires.opened) (stands-moved c.args.held.now roomy r s same)
+    c.in-None.ensures.unused (record { live = λ t. refl; links = λ k. refl; opened = refl })

@@ -5,12 +5,11 @@ use Rattle.amqp_txn_types.specs.declared.id.TransactionId.{TransactionId}
 use Rattle.amqp_below.specs.Ids.{Drew}
 use Rattle.amqp_below.proofs.Draws.{Drew-append, Drew-one}
 use Rattle.amqp_resource.specs.Draws.{is_kept}
-use Rattle.amqp_resource.proofs.Kept.{found}
 use Rattle.amqp_resource.proofs.Going.{all-snoc}
 use Rattle.amqp_resource.proofs.declaring.draw_unused.Goals as goal
 
-pub returns-in-None-clause-drew : goal.returns-in-None-clause-drew
-returns-in-None-clause-drew g c =
+pub returns-then-not-has_id-clause-drew : goal.returns-then-not-has_id-clause-drew
+returns-then-not-has_id-clause-drew g c =
     let P : List TransactionId → Type 0 = λ ds. Drew (g.G.IdSource.next c.args.ids.now) (g.G.IdSource.next c.draw-id.new.self) ds in
     subst P (sym c.push.ensures.ids)
     (Drew-append (g.G.IdSource.next c.args.ids.now) (g.G.IdSource.next c.loop-turn.ids) (g.G.IdSource.next c.draw-id.new.self) c.loop-turn.drawn.ids (c.draw-id.result ∷ [])
@@ -25,7 +24,7 @@ loop-turn-preserved g c =
     record {
       count = ap length items ∙ length-append c.loop-turn.drawn.ids (c.draw-id.result ∷ []) ∙ ap (λ n. n + 1) c.loop-turn.invariant.count;
       room = omega (arith, c.loop-turn.invariant.room, c.push.ensures.spare);
-      all = ap (list_all (is_kept c.args.live.now)) items ∙ all-snoc c.args.live.now c.loop-turn.drawn.ids c.draw-id.result c.loop-turn.invariant.all (found c.args.live.now c.in-Some.field-0 c.draw-id.result c.in-Some.ensures.place.1);
+      all = ap (list_all (is_kept c.args.live.now.entries)) items ∙ all-snoc c.args.live.now.entries c.loop-turn.drawn.ids c.draw-id.result c.loop-turn.invariant.all (sym c.has_id.ensures ∙ c.if-not-has_id.false);
       drew =
           subst (λ (ds : List TransactionId). Drew start end ds) (sym items)
           (Drew-append start mid end c.loop-turn.drawn.ids (c.draw-id.result ∷ []) c.loop-turn.invariant.drew (Drew-one mid end c.draw-id.result c.draw-id.ensures.drawn c.draw-id.ensures.rest));

@@ -1,12 +1,12 @@
-use Rattle.std.proofs.Common.{ap, sym, ◌∙◌, refl}
-use Rattle.amqp_resource.specs.Held.{is_in}
+use Rattle.std.proofs.Common.{sym, ◌∙◌}
 use Rattle.amqp_resource.proofs.Going.{went-link_end, went-no_link_end}
 use Rattle.amqp_resource.proofs.link_steps.link_end_step.Goals as goal
 
 pub returns-then-not-has_link-clause-goes : goal.returns-then-not-has_link-clause-goes
 returns-then-not-has_link-clause-goes c r s told =
-    rw c.no_draws.ensures (went-no_link_end c.args.held.now r c.args.link told (ap (λ ks. is_in ks c.args.link) (sym c.as_slice.ensures.value) ∙ sym c.has_link.ensures ∙ c.if-not-has_link.true) s)
+    rw c.no_draws.ensures (went-no_link_end c.args.held.now r c.args.link told (sym c.has_link.ensures ∙ c.if-not-has_link.true) s)
 
 pub returns-clause-goes : goal.returns-clause-goes
 returns-clause-goes c r s told =
-    rw c.no_draws-2.ensures (went-link_end c.args.held.now _ r c.args.link told (ap (λ ks. is_in ks c.args.link) (sym c.as_slice.ensures.value) ∙ sym c.has_link.ensures ∙ c.if-not-has_link.false) s c.drop_held_on.ensures c.drop_link.ensures refl)
+    let ended = c.end_link.ensures in
+    rw c.no_draws-2.ensures (went-link_end c.args.held.now c.end_link.new.held r c.args.link told (sym c.has_link.ensures ∙ c.if-not-has_link.false) s (ended.tied s.tied) (ended.live s.tied) ended.links ended.opened)
