@@ -7,7 +7,8 @@ use Rattle.amqp_txn_types.specs.declared.delivery.ConnectionStopReason.{Connecti
 use Rattle.amqp_below.specs.declared.relay.NameState.{NameState}
 use Rattle.amqp_below.specs.declared.session_errors.AllocLinkError.{AllocLinkError}
 use Rattle.amqp_below.specs.declared.session_errors.AllocLinkError.TheVariants as refusals
-use Rattle.amqp_below.specs.Told.{Checks, Fixed, Rose, Told}
+use Rattle.amqp_below.specs.Told.{Checks, Fixed, Told}
+use Rattle.amqp_txn_types.specs.Counts.{Rose}
 
 -- what a session keeps beside its links: its channel, and the first stop reason of each kind
 pub record Kept : Type 0 where

@@ -2,7 +2,8 @@
 use Rattle.std.specs.Prelude.{ℕ, ◌≡◌, ◌≤◌, ◌<◌, ◌-◌, ◌+◌, Option, Some, None, Result, Ok, Err, List, [], ◌++◌, length, take, drop, OnErr}
 use Rattle.amqp_below.specs.declared.source.Failed.{Failed}
 use Rattle.amqp_txn_types.specs.declared.items.NoMemory.{NoMemory}
-use Rattle.amqp_below.specs.Told.{Rose, grown}
+use Rattle.amqp_below.specs.Told.{grown}
+use Rattle.amqp_txn_types.specs.Counts.{Rose}
 
 -- where the octets are told, these n came first and the others are left
 abbrev pub MovesOn : Option (List ℕ) → Option (List ℕ) → List ℕ → ℕ → Type 0

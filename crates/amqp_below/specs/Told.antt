@@ -1,5 +1,5 @@
 -- What a layer below tells, and what each of its calls does to it.
-use Rattle.std.specs.Prelude.{ℕ, ◌≡◌, ◌+◌, ◌-◌, ◌^◌, ◌≤◌, min, cond, Option, Some, None, Result, Ok, Err, List, [], ◌∷◌, ◌++◌, length, OnOk, OnErr}
+use Rattle.std.specs.Prelude.{ℕ, ◌≡◌, ◌≤◌, cond, Option, Some, None, Result, Ok, Err, List, [], ◌∷◌, ◌++◌, length, OnOk, OnErr}
 use Rattle.std.specs.List.{zip}
 use Rattle.amqp_txn_types.specs.declared.performatives.Attach.{Attach}
 use Rattle.amqp_txn_types.specs.declared.performatives.Frame.{Frame}
@@ -8,6 +8,7 @@ use Rattle.amqp_below.specs.declared.inner_error.SessionInnerError.{SessionInner
 use Rattle.amqp_below.specs.Faults.{is_no_memory}
 use Rattle.amqp_below.specs.declared.refusal.Refusal.{Refusal}
 use Rattle.amqp_txn_types.specs.declared.small.SessionState.{SessionState}
+use Rattle.amqp_txn_types.specs.Counts.{Rose}
 
 -- what no call of a layer changes: the state of its session, and the numbers of the incoming frame calls that it is planned to refuse, none but in a recorder
 pub record Fixed : Type 0 where
@@ -36,10 +37,6 @@ planned numbers told = record {
 abbrev pub grown : {A : Type 0} → Option (List A) → List A → Option (List A)
 grown None more = None
 grown (Some xs) more = Some (xs ++ more)
-
--- a count rose, or stands at its last value
-abbrev pub Rose : ℕ → ℕ → Type 0
-Rose before now = min (before + 1) (2 ^ 64 - 1) ≤ now
 
 -- an Ok adds its pair
 abbrev pub taken_after : Option (List (Frame × List Frame)) → Frame → Result (List Frame) SessionInnerError → Option (List (Frame × List Frame))

@@ -3,10 +3,7 @@
 ghost use Rattle.std.specs.Prelude.{◌≡◌};
 ghost use Rattle.amqp_below.specs.Recording.{is_among};
 
-use amqp_txn_types::Items;
-
-/// Numbers of calls, which count from 1.
-pub type CallNumbers = Items<u64>;
+use amqp_txn_types::CallNumbers;
 
 /// Whether the number is one of these.
 pub(crate) fn is_among(numbers: &CallNumbers, number: u64) -> bool

@@ -53,7 +53,6 @@ mod tests;
 mod transacting;
 
 pub use answers::{Answers, Echoes};
-pub use call_numbers::CallNumbers;
 pub use drawn::Drawn;
 pub use ids::IdSource;
 pub use incoming::on_incoming_frame;

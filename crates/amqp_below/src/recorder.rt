@@ -5,14 +5,14 @@ ghost use Rattle.amqp_txn_types.specs.declared.performatives.Frame.TheVariants a
 ghost use Rattle.amqp_below.specs.Told.{Checks, Opens, Takes, planned};
 ghost use Rattle.amqp_below.specs.Recording.{IsFresh, PassesOn, RecordsCall, RecordsOpen, calls_of, inner_of, is_unused, own_of, plan_of};
 
-use crate::call_numbers::{CallNumbers, is_among};
+use crate::call_numbers::is_among;
 use crate::incoming::on_incoming_frame;
 use crate::inner_error::SessionInnerError;
 use crate::layer::LayerBelow;
 use crate::refusal::{Exchanges, Openings, Refusal, Refusals};
 use amqp_txn_types::{
-    Attach, Boxed, Detach, Disposition, Flow, Frame, Frames, NoMemory, Payload, SessionState,
-    Transfer, TryClone,
+    Attach, Boxed, CallNumbers, Detach, Disposition, Flow, Frame, Frames, NoMemory, Payload,
+    SessionState, Transfer, TryClone,
 };
 use std::alloc::Global;
 

@@ -1,7 +1,7 @@
 //! What no clause says: that the calls succeed where there is memory.
 
 use crate::*;
-use amqp_txn_types::{Binary, Detach, Frame, Handle, Items, TransactionId, TryClone};
+use amqp_txn_types::{Binary, CallNumbers, Detach, Frame, Handle, Items, TransactionId, TryClone};
 use std::test::Fail;
 
 fn detach(handle: u32) -> Detach {

@@ -45,7 +45,7 @@ pub trait HandleDeclare {
     ghost use Rattle.std.specs.Prelude.{◌≡◌, ◌≤◌, ℕ, Result, OnErr};
     ghost use Rattle.amqp_txn_types.specs.declared.id.TransactionId.{TransactionId as Id};
     ghost use Rattle.amqp_below.specs.Drawn.{DrawnIds};
-    ghost use Rattle.amqp_below.specs.Told.{Rose};
+    ghost use Rattle.amqp_txn_types.specs.Counts.{Rose};
     ghost use Rattle.amqp_below.specs.Transacting.{Allocates};
     ghost use Rattle.amqp_below.specs.declared.transacting.AllocTxnIdError.{AllocTxnIdError as Refused};
 
@@ -80,7 +80,7 @@ pub trait HandleDischarge {
     ghost use Rattle.amqp_txn_types.specs.declared.small.TransactionError.{TransactionError as Failure};
     ghost use Rattle.amqp_below.specs.declared.answers.Answers.{Answers as Echo};
     ghost use Rattle.amqp_below.specs.declared.transacting.CommitFault.{CommitFault as Fault};
-    ghost use Rattle.amqp_below.specs.Told.{Rose};
+    ghost use Rattle.amqp_txn_types.specs.Counts.{Rose};
     ghost use Rattle.amqp_below.specs.Transacting.{CommitRefused};
 
     /// How often it refused. The count never falls.

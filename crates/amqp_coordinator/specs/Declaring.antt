@@ -5,7 +5,7 @@ use Rattle.amqp_txn_types.specs.declared.id.TransactionId.{TransactionId}
 use Rattle.amqp_txn_codec.specs.declared.message.Declare.{Declare}
 use Rattle.amqp_below.specs.declared.transacting.AllocTxnIdError.{AllocTxnIdError}
 use Rattle.amqp_below.specs.Drawn.{DrawnIds}
-use Rattle.amqp_below.specs.Told.{Rose}
+use Rattle.amqp_txn_types.specs.Counts.{Rose}
 use Rattle.amqp_below.specs.Transacting.{Allocates}
 use Rattle.amqp_coordinator.specs.declared.errors.CoordinatorError.{CoordinatorError}
 use Rattle.amqp_coordinator.specs.declared.errors.CoordinatorError.TheVariants as errors

@@ -8,7 +8,7 @@ use Rattle.amqp_txn_types.specs.declared.small.TransactionError.TheVariants as c
 use Rattle.amqp_txn_codec.specs.declared.message.Discharge.{Discharge}
 use Rattle.amqp_below.specs.declared.answers.Answers.{Answers}
 use Rattle.amqp_below.specs.declared.transacting.CommitFault.{CommitFault}
-use Rattle.amqp_below.specs.Told.{Rose}
+use Rattle.amqp_txn_types.specs.Counts.{Rose}
 use Rattle.amqp_below.specs.Transacting.{CommitRefused}
 use Rattle.amqp_record.specs.Hands.{is_rollback}
 use Rattle.amqp_coordinator.specs.declared.errors.CoordinatorError.{CoordinatorError}

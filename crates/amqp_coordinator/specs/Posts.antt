@@ -1,17 +1,11 @@
 -- What a post is answered at once. Part 4 of the standard (OASIS AMQP 1.0), section 4.4.1
 -- (transactional posting).
-use Rattle.std.specs.Prelude.{ℕ, Bool, true, Option, Some, None}
+use Rattle.std.specs.Prelude.{Option}
 use Rattle.amqp_txn_types.specs.declared.id.TransactionId.{TransactionId}
 use Rattle.amqp_txn_types.specs.declared.performatives.Disposition.{Disposition}
 use Rattle.amqp_txn_types.specs.declared.performatives.Transfer.{Transfer}
-use Rattle.amqp_record.specs.Answers.{presumptive}
+use Rattle.amqp_record.specs.Answers.{presumed_disposition}
 
--- the presumptive disposition, unless the post is settled or has no delivery id
-abbrev pub presumed_disposition : Option Bool → Option ℕ → TransactionId → Option Disposition
-presumed_disposition (Some true) number t = None
-presumed_disposition settled None t = None
-presumed_disposition settled (Some n) t = Some (presumptive n t)
-
--- that of a transfer under the id
+-- the presumptive disposition of a transfer under the id
 abbrev pub presumed_of_post : TransactionId → Transfer → Option Disposition
 presumed_of_post t transfer = presumed_disposition transfer.settled transfer.delivery_id t

@@ -2,12 +2,10 @@
 
 ghost use Rattle.std.specs.Prelude.{◌≡◌, ◌∷◌, ◌++◌, [], List, drop, slice_get, OnErr, IfOk};
 ghost use Rattle.amqp_txn_types.specs.declared.frames.TxnWorkFrame.TheVariants as works;
-ghost use Rattle.amqp_coordinator.specs.Posts.{presumed_disposition, presumed_of_post};
+ghost use Rattle.amqp_coordinator.specs.Posts.{presumed_of_post};
 
-use amqp_txn_types::{
-    DeliveryState, Disposition, NoMemory, Outcome, Payload, Role, TransactionId,
-    TransactionalState, Transfer, TxnWorkFrame,
-};
+use amqp_record::presumed_disposition;
+use amqp_txn_types::{Disposition, NoMemory, Payload, TransactionId, Transfer, TxnWorkFrame};
 use std::alloc::Global;
 use std::collections::VecDeque;
 use std::marker::Model;
@@ -54,7 +52,7 @@ impl ResourceTransaction {
         ensures answer { IfOk result (λ answer. answer ≡ presumed_of_post txn_id transfer) }
         ensures err { OnErr result (self.new ≡ self.old) }
     {
-        let answer = presumed_of(txn_id, transfer.settled, transfer.delivery_id);
+        let answer = presumed_disposition(transfer.settled, transfer.delivery_id, txn_id);
         match self
             .frames
             .push_back(TxnWorkFrame::Post { transfer, payload })
@@ -71,29 +69,4 @@ impl ResourceTransaction {
     {
         self.frames.pop_front()
     }
-}
-
-/// The disposition that tells the presumptive outcome of a post with that `settled` and delivery id.
-fn presumed_of(
-    txn_id: TransactionId,
-    settled: Option<bool>,
-    delivery_id: Option<u32>,
-) -> Option<Disposition>
-    ensures { result ≡ presumed_disposition settled delivery_id txn_id }
-{
-    if settled == Some(true) {
-        return None;
-    }
-    let first = delivery_id?;
-    Some(Disposition {
-        role: Role::Receiver,
-        first,
-        last: None,
-        settled: true,
-        state: Some(DeliveryState::TransactionalState(TransactionalState {
-            txn_id,
-            outcome: Some(Outcome::Accepted),
-        })),
-        batchable: false,
-    })
 }

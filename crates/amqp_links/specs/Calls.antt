@@ -4,7 +4,7 @@ use Rattle.std.specs.List.{list_any}
 use Rattle.amqp_links.specs.declared.calls.Calls.{Calls}
 use Rattle.amqp_links.specs.declared.poll.Poll.{Poll}
 use Rattle.amqp_links.specs.declared.poll.Poll.TheVariants as polls
-use Rattle.amqp_links.specs.Counts.{counted}
+use Rattle.amqp_txn_types.specs.Counts.{counted}
 
 -- the next call is to fail: its number is in the list
 unfoldable pub is_failing : Calls → Bool

@@ -1,4 +1,3 @@
-pub mod Counts
 pub mod Polls
 pub mod Sending
 pub mod Receiving

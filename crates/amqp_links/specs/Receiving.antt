@@ -13,7 +13,7 @@ use Rattle.amqp_links.specs.declared.errors.RecvError.{RecvError}
 use Rattle.amqp_links.specs.declared.messages.ReceiverMessage.{ReceiverMessage}
 use Rattle.amqp_links.specs.declared.messages.ReceiverMessage.TheVariants as messages
 use Rattle.amqp_links.specs.declared.poll.Poll.{Poll}
-use Rattle.amqp_links.specs.Counts.{Rose}
+use Rattle.amqp_txn_types.specs.Counts.{Rose}
 use Rattle.amqp_links.specs.Polls.{polled, OnReadyErr}
 
 -- a map of properties, as the list of its pairs; no map is none

@@ -10,7 +10,7 @@ use Rattle.amqp_links.specs.declared.sendable.Sendable.{Sendable}
 use Rattle.amqp_links.specs.declared.sendable.Sent.{Sent}
 use Rattle.amqp_links.specs.declared.sendable.Sent.TheVariants as sendings
 use Rattle.amqp_links.specs.declared.poll.Poll.{Poll}
-use Rattle.amqp_links.specs.Counts.{Rose}
+use Rattle.amqp_txn_types.specs.Counts.{Rose}
 use Rattle.amqp_links.specs.Polls.{polled, OnReadyErr}
 
 -- what the peer answers to an unsettled send

@@ -3,11 +3,8 @@
 ghost use Rattle.std.specs.Prelude.{◌≡◌, ◌≤◌, []};
 ghost use Rattle.amqp_links.specs.Calls.{is_failing, begun, faulted};
 
-use amqp_txn_types::Items;
+use amqp_txn_types::CallNumbers;
 use std::alloc::Global;
-
-/// Numbers of calls, which count from 1.
-pub type CallNumbers = Items<u64>;
 
 /// The fallible calls of a wire, whichever they are: how many there were, how many failed, and the
 /// numbers of those that are to fail.

@@ -36,7 +36,6 @@ mod tests;
 mod wire_receiver;
 mod wire_sender;
 
-pub use calls::CallNumbers;
 pub use delivery::{Delivery, DeliveryInfo};
 pub use errors::{
     DetachError, DispositionError, FlowError, IllegalLinkStateError, LinkStateError,

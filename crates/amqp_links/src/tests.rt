@@ -2,9 +2,9 @@
 
 use crate::*;
 use amqp_txn_types::{
-    AmqpError, Binary, DeliveryState, Error, ErrorCondition, Fields, Items, LinkEnd, NoMemory,
-    OutputHandle, Payload, ReceiverSettleMode, Role, SenderSettleMode, Symbol, Text, Token,
-    TryClone, Value,
+    AmqpError, Binary, CallNumbers, DeliveryState, Error, ErrorCondition, Fields, Items, LinkEnd,
+    NoMemory, OutputHandle, Payload, ReceiverSettleMode, Role, SenderSettleMode, Symbol, Text,
+    Token, TryClone, Value,
 };
 use std::alloc::Global;
 use std::test::Fail;

@@ -7,7 +7,7 @@ ghost use Rattle.amqp_links.specs.Calls.{is_failing, FailsAsListed, after_call};
 ghost use Rattle.amqp_links.specs.Receiving.{Disposes, Receives, SetsCredit, SendsFlow, Inserts, Removes, included, inserted, removed};
 ghost use Rattle.amqp_links.specs.ReceiverWire.{ReceiverWire, after_put, received, after_credit, with_put};
 
-use crate::calls::{CallNumbers, Calls};
+use crate::calls::Calls;
 use crate::delivery::{Delivery, DeliveryInfo};
 use crate::errors::{
     DispositionError, FlowError, IllegalLinkStateError, LinkStateError, RecvError,
@@ -15,7 +15,9 @@ use crate::errors::{
 use crate::messages::{ReceiverMessage, ReceiverMessages};
 use crate::poll::Poll;
 use crate::receiver::ReceiverLink;
-use amqp_txn_types::{DeliveryState, Fields, LinkEnd, NoMemory, Symbol, TryClone, Value};
+use amqp_txn_types::{
+    CallNumbers, DeliveryState, Fields, LinkEnd, NoMemory, Symbol, TryClone, Value,
+};
 use std::alloc::Global;
 use std::collections::VecDeque;
 use std::marker::Model;

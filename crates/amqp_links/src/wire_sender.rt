@@ -10,13 +10,13 @@ ghost use Rattle.amqp_links.specs.Sending.{Sends, Looks, Closes as ClosesLink, s
 ghost use Rattle.amqp_links.specs.SenderWire.{SenderWire, after_send, after_close, answered, filled_at, given_at, looked, with_message};
 
 use crate::answer_slot::AnswerSlot;
-use crate::calls::{CallNumbers, Calls};
+use crate::calls::Calls;
 use crate::errors::{DetachError, LinkStateError, SendError};
 use crate::messages::{Closes, SentMessage, SentMessages};
 use crate::poll::Poll;
 use crate::sendable::{Sendable, Sent};
 use crate::sender::{Answer, SenderLink};
-use amqp_txn_types::{DeliveryState, Error, Items, LinkEnd, NoMemory, Token};
+use amqp_txn_types::{CallNumbers, DeliveryState, Error, Items, LinkEnd, NoMemory, Token};
 use std::alloc::Global;
 use std::marker::Model;
 

@@ -39,14 +39,22 @@ presumptive n t = record {
   batchable = false;
 }
 
--- what a post under an id is answered at once: its presumptive disposition, where it has a delivery
--- id and isn't settled
-abbrev pub presumed : Option Bool → Option ℕ → TransactionId → List Frame
-presumed (Some true) number t = []
-presumed settled None t = []
-presumed settled (Some n) t = frames.Disposition (presumptive n t) ∷ []
+-- the presumptive disposition of a post, where it has a delivery id and isn't settled
+abbrev pub presumed_disposition : Option Bool → Option ℕ → TransactionId → Option Disposition
+presumed_disposition (Some true) number t = None
+presumed_disposition settled None t = None
+presumed_disposition settled (Some n) t = Some (presumptive n t)
 
--- what a frame under a live id is answered at once: that disposition for a post, nothing for a
+-- a disposition as the one frame that tells it, or no frame
+abbrev pub told_by : Option Disposition → List Frame
+told_by None = []
+told_by (Some disposition) = frames.Disposition disposition ∷ []
+
+-- what a post under an id is answered at once
+abbrev pub presumed : Option Bool → Option ℕ → TransactionId → List Frame
+presumed settled number t = told_by (presumed_disposition settled number t)
+
+-- what a frame under a live id is answered at once: the presumptive disposition for a post that has one, nothing for a
 -- retirement (4.4.2, Transactional Retirement)
 abbrev pub answered_under : TransactionId → Frame → List Frame
 answered_under t (frames.Transfer transfer payload) = presumed transfer.settled transfer.delivery_id t

@@ -59,6 +59,7 @@ mod laws;
 mod legal_records;
 mod live_ids;
 mod open_links;
+mod presuming;
 mod reply;
 mod step;
 mod stop;
@@ -76,6 +77,7 @@ pub use laws::{
 pub use legal_records::{is_entry_after, is_legal, work};
 pub use live_ids::{entries_since, home, is_held_on, is_live, since};
 pub use open_links::{is_open, links_attached};
+pub use presuming::presumed_disposition;
 pub use reply::{RejectText, Reply};
 pub use step::{Step, Steps};
 pub use stop::{Driven, StepError, Stop, StopCode, code_of_end, code_of_fault};

@@ -11,7 +11,8 @@ use Rattle.amqp_txn_codec.specs.declared.message.ControlMessageBody.{ControlMess
 use Rattle.amqp_txn_codec.specs.declared.message.ControlMessageBody.TheVariants as messages
 use Rattle.amqp_txn_codec.specs.Reading.{message_of}
 use Rattle.amqp_below.specs.Drawn.{DrawnIds}
-use Rattle.amqp_below.specs.Told.{Told, Rose}
+use Rattle.amqp_below.specs.Told.{Told}
+use Rattle.amqp_txn_types.specs.Counts.{Rose}
 use Rattle.amqp_below.specs.Ids.{AreNext, Drew}
 use Rattle.amqp_record.specs.declared.entry.Entry.{Entry}
 use Rattle.amqp_record.specs.declared.step.Step.{Step}

@@ -42,14 +42,15 @@ use Rattle.amqp_record.specs.Opened.{opened_by, refused_by, refusal_of}
 use Rattle.amqp_record.proofs.Whole.{plain_none, hands-plain, hands-other_frame, hands-commit, hands-no_commit, not_held_no_commit, commits-at, commits-discharge, commits-rollback}
 use Rattle.amqp_resource.specs.declared.held.Held.{Held}
 use Rattle.amqp_resource.specs.declared.taking.TakeError.{TakeError}
-use Rattle.amqp_resource.specs.Held.{Kept, LiveIds, SameHeld, Stands, Tied, ids_on, is_among, is_in, is_kept_on, is_on, kept_by, look, look_without, unless_on, with_frame}
+use Rattle.amqp_resource.specs.Held.{Kept, LiveIds, SameHeld, Stands, Tied, ids_on, is_among, is_in, is_kept_on, is_on, kept_by, look, unless_on, with_frame}
 use Rattle.amqp_resource.specs.Draws.{is_kept, DrewLive, DrewUnused}
 use Rattle.amqp_resource.specs.Taking.{TookFrames, TakesFrame, taken_frames}
 use Rattle.amqp_resource.specs.Committing.{HandedSome, HandedPart, RefusedAt, given_of}
 use Rattle.amqp_below.specs.declared.transacting.CommitFault.{CommitFault}
 use Rattle.amqp_below.specs.declared.transacting.CommitFault.TheVariants as commit_faults
 use Rattle.amqp_resource.specs.Transacting.{CommittedWith, Ended, step_error_of}
-use Rattle.amqp_resource.specs.Steps.{Went, Refused, Stayed, StepGave, StepCause, OnNoMemory, OnOwnError, AddsRefusal, FrameMayFault, IsDead, IsPost, IsUnder, UnderDead, EndGave, ended_by, entry_of, fault_of, is_live_under, is_unknown, message_takes_memory, nothing_drawn, takes_memory}
+use Rattle.amqp_resource.specs.Steps.{Went, Refused, Stayed, StepGave, AddsRefusal, FrameMayFault, IsDead, IsPost, IsUnder, UnderDead, EndGave, ended_by, entry_of, fault_of, is_live_under, is_unknown, message_takes_memory, nothing_drawn, takes_memory}
+use Rattle.amqp_resource.proofs.Kept.{tied_same}
 use Rattle.amqp_resource.proofs.Handing.{grown-nil, refused_after-err}
 use Rattle.amqp_resource.proofs.Standing.{Quiet, stands-quiet, stands-post, stands-attached, stands-discharged, stands-closed, stands-declared}
 
@@ -78,7 +79,7 @@ went-steady g old new r s d reply a st h o f t = record {
 pub stands-moved : (h g : Held) (r : List Entry) → Stands h r → SameHeld h g → Stands g r
 stands-moved h g r s same = record {
   legal = s.legal;
-  tied = λ k t. ap (is_among t) (same.links k) ∙ s.tied k t ∙ sym (ap (is_kept_on k) (same.live t));
+  tied = tied_same h g same s.tied;
   live = λ t. same.live t ∙ s.live t;
   links = λ k. ap is_some (same.links k) ∙ s.links k;
   opened = same.opened ∙ s.opened;
@@ -112,7 +113,7 @@ refused_gives h old new r s error own handed k e f =
 
 -- ---- plain frames
 
-plain_no_coordinator : (frame : Frame) (o : Option TransactionId) → is_plain o (coord frame) ≡ true → coord frame ≡ false
+pub plain_no_coordinator : (frame : Frame) (o : Option TransactionId) → is_plain o (coord frame) ≡ true → coord frame ≡ false
 plain_no_coordinator frame None h = flip (coord frame) h
   where
     flip : (b : Bool) → not b ≡ true → b ≡ false
@@ -188,7 +189,7 @@ not_plain : (frame : Frame) (u : TransactionId) → txn frame ≡ Some u → pla
 not_plain frame u e = ap (λ o. is_plain o (coord frame)) e
 
 -- a frame more changes no holder
-tied-post : (h g : Held) (u : TransactionId) (frame : Frame) → Tied h → ((t : TransactionId) → look g.live.entries t ≡ cond (same_id t u) (with_frame (look h.live.entries t) frame) (look h.live.entries t)) → ((k : ℕ) → ids_on g.links.entries k ≡ ids_on h.links.entries k) → Tied g
+pub tied-post : (h g : Held) (u : TransactionId) (frame : Frame) → Tied h → ((t : TransactionId) → look g.live.entries t ≡ cond (same_id t u) (with_frame (look h.live.entries t) frame) (look h.live.entries t)) → ((k : ℕ) → ids_on g.links.entries k ≡ ids_on h.links.entries k) → Tied g
 tied-post h g u frame tied lg kg k t = ap (is_among t) (kg k) ∙ tied k t ∙ sym (ap (is_kept_on k) (lg t) ∙ same_holder (same_id t u) (look h.live.entries t))
   where
     same_holder : (b : Bool) (o : Option Kept) → is_kept_on k (cond b (with_frame o frame) o) ≡ is_kept_on k o
@@ -222,11 +223,11 @@ stayed-post h g r frame u e s at sg = record { stands = sg; takes = ap (is_live_
 
 -- ---- an attach to a coordinator
 
-txn-attach : (attach : Attach) → txn (frames.Attach attach) ≡ None
+pub txn-attach : (attach : Attach) → txn (frames.Attach attach) ≡ None
 unfolding txn
 txn-attach attach = refl
 
-coord-attach : (attach : Attach) → coord (frames.Attach attach) ≡ attaches_coordinator attach
+pub coord-attach : (attach : Attach) → coord (frames.Attach attach) ≡ attaches_coordinator attach
 unfolding coord
 coord-attach attach = refl
 
@@ -352,7 +353,7 @@ went-commit h g r k payload discharge fs echoes old new m rb o s at x t =
       refused = adds_nothing old.refused new.refused [] refl t.refused;
     }
 
-part_adds : (r : List Entry) (s : Step) (handed : List Frame) (at : ℕ) (own : SessionInnerError) (more : List Refusal) → RefusedAt handed at own more → AddsRefusal s handed at (fault_of own) more
+pub part_adds : (r : List Entry) (s : Step) (handed : List Frame) (at : ℕ) (own : SessionInnerError) (more : List Refusal) → RefusedAt handed at own more → AddsRefusal s handed at (fault_of own) more
 part_adds r s handed at own more (inl x) = (own, refl, inl x)
 part_adds r s handed at own more (inr x) = (own, refl, inr (x.0, inr x.1))
 

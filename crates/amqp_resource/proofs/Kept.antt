@@ -14,7 +14,7 @@ use Rattle.amqp_record.specs.Entries.{same_id}
 use Rattle.amqp_record.proofs.Ids.{same_id-eq, same_id-sym}
 use Rattle.amqp_resource.specs.declared.held.Live.{Live}
 use Rattle.amqp_resource.specs.declared.held.Held.{Held}
-use Rattle.amqp_resource.specs.Held.{Kept, LiveIds, OpenLinks, Tied, ids_on, is_among, is_in, is_kept_on, is_on, kept_of, look, look_without, unless_on, with_frame}
+use Rattle.amqp_resource.specs.Held.{Kept, LiveIds, OpenLinks, SameHeld, Tied, ids_on, is_among, is_kept_on, is_on, kept_of, look, look_without, unless_on, with_frame}
 use Rattle.amqp_resource.specs.Posting.{Posted}
 
 -- ---- one look-up changed
@@ -159,3 +159,29 @@ tied_ended h g link lg kg tied k t = ap (is_among t) (kg k) ∙ by_case (link ==
 pub in_updated : {X : Type 0} (b : Bool) (x o : Option X) → is_some (cond b x o) ≡ cond b (is_some x) (is_some o)
 in_updated true x o = refl
 in_updated false x o = refl
+
+-- ---- what is tied
+
+-- what is kept may stand in other memory
+pub tied_same : (h g : Held) → SameHeld h g → Tied h → Tied g
+tied_same h g same tied k t = ap (is_among t) (same.links k) ∙ tied k t ∙ sym (ap (is_kept_on k) (same.live t))
+
+-- a link is opened, on which nothing was declared
+pub tied_opened : (h g : Held) → Tied h → ((t : TransactionId) → is_kept_on h.opened (look h.live.entries t) ≡ false) → ((t : TransactionId) → look g.live.entries t ≡ look h.live.entries t) → ((k : ℕ) → ids_on g.links.entries k ≡ cond (h.opened == k) (Some []) (ids_on h.links.entries k)) → Tied g
+tied_opened h g tied none lg kg k t = ap (is_among t) (kg k) ∙ by_case (h.opened == k) refl ∙ sym (ap (is_kept_on k) (lg t))
+  where
+    by_case : (b : Bool) → (h.opened == k) ≡ b → is_among t (cond (h.opened == k) (Some []) (ids_on h.links.entries k)) ≡ is_kept_on k (look h.live.entries t)
+    by_case true x =
+        ap (λ b. is_among t (cond b (Some []) (ids_on h.links.entries k))) x
+        ∙ sym (ap (λ j. is_kept_on j (look h.live.entries t)) (sym (eqb-true h.opened k x)) ∙ none t)
+    by_case false x = ap (λ b. is_among t (cond b (Some []) (ids_on h.links.entries k))) x ∙ tied k t
+
+-- an id is allocated, on no link
+pub tied_added : (h g : Held) (id : TransactionId) → look h.live.entries id ≡ None → ((t : TransactionId) → look g.live.entries t ≡ cond (same_id t id) (Some (None, [])) (look h.live.entries t)) → ((k : ℕ) → ids_on g.links.entries k ≡ ids_on h.links.entries k) → Tied h → Tied g
+tied_added h g id unused lg kg tied k t = ap (is_among t) (kg k) ∙ tied k t ∙ by_case (same_id t id) refl ∙ sym (ap (is_kept_on k) (lg t))
+  where
+    by_case : (b : Bool) → same_id t id ≡ b → is_kept_on k (look h.live.entries t) ≡ is_kept_on k (cond (same_id t id) (Some (None, [])) (look h.live.entries t))
+    by_case true s =
+        ap (is_kept_on k) (look_same h.live.entries t id s ∙ unused)
+        ∙ sym (ap (λ b. is_kept_on k (cond b (Some (None, [])) (look h.live.entries t))) s)
+    by_case false s = sym (ap (λ b. is_kept_on k (cond b (Some (None, [])) (look h.live.entries t))) s)

@@ -5,3 +5,4 @@ pub mod Going
 pub mod Parts
 pub mod Complete
 pub mod Running
+pub mod Keeping

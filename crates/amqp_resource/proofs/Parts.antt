@@ -12,7 +12,8 @@ use Rattle.amqp_txn_codec.specs.Reading.{message_of}
 use Rattle.amqp_below.specs.declared.inner_error.SessionInnerError.{SessionInnerError}
 use Rattle.amqp_below.specs.declared.inner_error.SessionInnerError.TheVariants as faults
 use Rattle.amqp_below.specs.Drawn.{DrawnIds}
-use Rattle.amqp_below.specs.Told.{Told, Rose}
+use Rattle.amqp_below.specs.Told.{Told}
+use Rattle.amqp_txn_types.specs.Counts.{Rose}
 use Rattle.amqp_record.specs.declared.entry.Entry.{Entry}
 use Rattle.amqp_record.specs.declared.step.Step.{Step}
 use Rattle.amqp_record.specs.declared.step.Step.TheVariants as steps
@@ -194,6 +195,10 @@ same_session old new (Err (errors.Stopped code)) held below stop runs = tt
 same_session old new (Err errors.NoMemory) held below stop runs = record { held = held; below = below; stop = stop ∙ sym runs }
 
 -- ---- causes
+
+pub cause_attach : (before now : ℕ) (s : Step) (result : Result (DrawnIds × Reply) StepError) → StepCause before now s result → OnAttachRefused result (Rose before now)
+cause_attach before now s (Ok out) c = c
+cause_attach before now s (Err error) c = tt
 
 pub cause_rose : (before now : ℕ) (s : Step) (result : Result (DrawnIds × Reply) StepError) → StepCause before now s result → IfRefused result (λ error handed. Rose before now)
 cause_rose before now s (Ok out) c = tt

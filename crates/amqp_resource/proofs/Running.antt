@@ -10,7 +10,8 @@ use Rattle.amqp_txn_types.specs.declared.delivery.SessionStopReason.{SessionStop
 use Rattle.amqp_txn_types.specs.declared.performatives.Frame.{Frame}
 use Rattle.amqp_below.specs.declared.inner_error.SessionInnerError.TheVariants as faults
 use Rattle.amqp_below.specs.Drawn.{DrawnIds}
-use Rattle.amqp_below.specs.Told.{Told, grown, Rose}
+use Rattle.amqp_below.specs.Told.{Told, grown}
+use Rattle.amqp_txn_types.specs.Counts.{Rose}
 use Rattle.amqp_below.specs.Ids.{Drew}
 use Rattle.amqp_below.proofs.Draws.{Drew-append, Drew-none}
 use Rattle.amqp_record.specs.declared.entry.Entry.{Entry}

@@ -1,5 +1,5 @@
 -- What the record says is kept, with one entry more.
-use Rattle.std.proofs.Common.{◌≡◌, ℕ, ◌+◌, ◌<◌, Bool, true, false, cond, not, ◌&&◌, ◌||◌, Option, Some, None, List, [], ◌∷◌, ◌++◌, length, refl, sym, ◌∙◌, ap, arith, subst, append-nil, add-zero}
+use Rattle.std.proofs.Common.{◌≡◌, ℕ, ◌+◌, Bool, true, false, cond, not, ◌&&◌, Option, Some, None, List, [], ◌∷◌, ◌++◌, length, refl, sym, ◌∙◌, ap, arith, append-nil, add-zero}
 use Rattle.std.specs.Prelude.{◌==◌, is_some, nat_eq}
 use Rattle.std.proofs.lemmas.Bool.{ne_eqb, eqb-true, eq-eqb, and_right}
 use Rattle.amqp_txn_types.specs.declared.id.TransactionId.{TransactionId}
@@ -21,7 +21,7 @@ use Rattle.std.specs.HashSet.{keys}
 use Rattle.std.specs.Map.{lookup}
 use Rattle.std.specs.Option.{option_map}
 use Rattle.amqp_record.proofs.Ids.{same_id-refl}
-use Rattle.amqp_resource.proofs.Kept.{in_updated}
+use Rattle.amqp_resource.proofs.Kept.{in_updated, tied_opened}
 use Rattle.amqp_record.specs.Legal.{IsLegal}
 use Rattle.amqp_resource.specs.declared.held.Held.{Held}
 use Rattle.amqp_resource.specs.Held.{Kept, LiveIds, OpenLinks, Stands, kept_of, Tied, ids_on, is_among, is_in, is_kept_on, kept_by, look, look_without, with_frame, unless_on}
@@ -166,13 +166,7 @@ no_home k r t legal n = by_case (is_live r t) refl
     by_case false l = ap (λ b. is_kept_on k (cond b (Some (Some (home r t), frames_of r t)) None)) l
 
 tied-attached : (h g : Held) (r : List Entry) → Stands h r → ((t : TransactionId) → look g.live.entries t ≡ look h.live.entries t) → ((k : ℕ) → ids_on g.links.entries k ≡ cond (h.opened == k) (Some []) (ids_on h.links.entries k)) → Tied g
-tied-attached h g r s lg kg k t = ap (is_among t) (kg k) ∙ by_case (h.opened == k) refl ∙ sym (ap (is_kept_on k) (lg t))
-  where
-    by_case : (b : Bool) → (h.opened == k) ≡ b → is_among t (cond (h.opened == k) (Some []) (ids_on h.links.entries k)) ≡ is_kept_on k (look h.live.entries t)
-    by_case true x =
-        ap (λ b. is_among t (cond b (Some []) (ids_on h.links.entries k))) x
-        ∙ sym (ap (is_kept_on k) (s.live t) ∙ no_home k r t s.legal (sym (eqb-true h.opened k x) ∙ s.opened))
-    by_case false x = ap (λ b. is_among t (cond b (Some []) (ids_on h.links.entries k))) x ∙ s.tied k t
+tied-attached h g r s lg kg = tied_opened h g s.tied (λ t. ap (is_kept_on h.opened) (s.live t) ∙ no_home h.opened r t s.legal s.opened) lg kg
 
 -- an attached link
 pub stands-attached : (h g : Held) (r : List Entry) (e : Entry) (frames : List Frame) → Stands h r → Answer r e.step e.drawn.ids e.reply → e.reply ≡ replies.Attached h.opened frames → ((t : TransactionId) → declares t e ≡ false) → ((t : TransactionId) → discharges t e ≡ false) → ((t : TransactionId) → under t e ≡ false) → ((k : ℕ) → closes k e ≡ false) → ((t : TransactionId) → look g.live.entries t ≡ look h.live.entries t) → ((k : ℕ) → ids_on g.links.entries k ≡ cond (h.opened == k) (Some []) (ids_on h.links.entries k)) → g.opened ≡ h.opened + 1 → Stands g (r ++ e ∷ [])

@@ -14,7 +14,7 @@ use Rattle.amqp_below.specs.Told.{Told}
 use Rattle.amqp_record.specs.declared.stop.StopCode.{StopCode}
 use Rattle.amqp_record.specs.Stops.{fault_code}
 use Rattle.amqp_resource.specs.declared.session.TxnSession.{TxnSession}
-use Rattle.amqp_resource.specs.Session.{SameSession, below_of, held_of, stop_of, told_of}
+use Rattle.amqp_resource.specs.Session.{FitsTogether, SameSession, below_of, held_of, stop_of, told_of}
 use Rattle.amqp_resource.specs.Transacting.{AllocatedIn, CommittedIn, RolledBackIn}
 
 -- one fact where the session had stopped, another where it runs
@@ -27,10 +27,11 @@ pub record GoesOn {S : Type 0} (old new : TxnSession S) : Type 0 where
   pub below : below_of new ≡ below_of old
   pub stop : stop_of new ≡ None
 
--- an allocation
+-- an allocation; what the session keeps goes on to fit together
 abbrev pub AllocationGives : {S : Type 0} → TxnSession S → TxnSession S → Result DrawnIds AllocTxnIdError → Type 0
 AllocationGives old new result =
-    by_stop (stop_of old)
+    (FitsTogether old → FitsTogether new)
+    × by_stop (stop_of old)
     ((result ≡ Err allocations.NotImplemented) × SameSession old new)
     (AllocatedIn (held_of old) (held_of new) result × GoesOn old new)
 
@@ -39,16 +40,18 @@ abbrev pub StopAfterCommit : Result (Result (List Answers) TransactionError) Com
 StopAfterCommit (Err (commit_faults.Refused error handed)) stop = stop ≡ Some (fault_code error)
 StopAfterCommit _ stop = stop ≡ None
 
--- a commit
+-- a commit; what the session keeps goes on to fit together
 abbrev pub CommitGives : {S : Type 0} → (S → Told) → TxnSession S → TxnSession S → TransactionId → Result (Result (List Answers) TransactionError) CommitFault → Type 0
 CommitGives told old new id result =
-    by_stop (stop_of old)
+    (FitsTogether old → FitsTogether new)
+    × by_stop (stop_of old)
     ((result ≡ Ok (Err conditions.UnknownId)) × SameSession old new)
     (CommittedIn (held_of old) (held_of new) (told_of told old) (told_of told new) id (below_of new ≡ below_of old) result × StopAfterCommit result (stop_of new))
 
--- a rollback
+-- a rollback; what the session keeps goes on to fit together
 abbrev pub RollbackGives : {S : Type 0} → TxnSession S → TxnSession S → TransactionId → Result Accepted TransactionError → Type 0
 RollbackGives old new id result =
-    by_stop (stop_of old)
+    (FitsTogether old → FitsTogether new)
+    × by_stop (stop_of old)
     ((result ≡ Err conditions.UnknownId) × SameSession old new)
     (RolledBackIn (held_of old) (held_of new) id result × GoesOn old new)

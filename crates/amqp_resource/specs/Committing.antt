@@ -6,7 +6,8 @@ use Rattle.amqp_txn_types.specs.Frames.{stripped}
 use Rattle.amqp_below.specs.declared.answers.Answers.{Answers}
 use Rattle.amqp_below.specs.declared.inner_error.SessionInnerError.{SessionInnerError}
 use Rattle.amqp_below.specs.declared.refusal.Refusal.{Refusal}
-use Rattle.amqp_below.specs.Told.{Told, grown, Rose}
+use Rattle.amqp_below.specs.Told.{Told, grown}
+use Rattle.amqp_txn_types.specs.Counts.{Rose}
 use Rattle.amqp_record.specs.Answers.{WindowsFit}
 use Rattle.amqp_record.specs.Opened.{refusal_of}
 use Rattle.amqp_resource.specs.declared.committing.HandError.{HandError}
@@ -16,7 +17,7 @@ use Rattle.amqp_resource.specs.Taking.{TookFrames}
 abbrev pub given_of : List Answers → List (List Frame)
 given_of answers = map (λ (a : Answers). a.given) answers
 
--- these frames were handed, each with its answers
+-- these frames were handed, stripped, each with its answers
 pub record HandedSome (old new : Told) (kept : List Frame) (echoes : List Answers) : Type 0 where
   pub taken : new.taken ≡ grown old.taken (zip (map stripped kept) (given_of echoes))
   pub opened : new.opened ≡ old.opened

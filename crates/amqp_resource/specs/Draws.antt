@@ -13,7 +13,7 @@ pub record DrewLive (live : LiveIds) (ds : List TransactionId) : Type 0 where
   pub count : length ds ≡ 16
   pub all : list_all (is_kept live) ds ≡ true
 
--- ids that are kept, and then one that is not
+-- at most 16 ids: live ones, and then one that isn't
 pub record DrewUnused (live : LiveIds) (ds : List TransactionId) (t : TransactionId) : Type 0 where
   pub parts : (before : List TransactionId) × (ds ≡ before ++ t ∷ []) × (list_all (is_kept live) before ≡ true)
   pub count : length ds ≤ 16

@@ -45,12 +45,12 @@ abbrev pub with_frame : Option Kept → Frame → Option Kept
 with_frame None frame = None
 with_frame (Some kept) frame = Some (kept.0, kept.1 ++ frame ∷ [])
 
--- the link is the one that declared it
+-- a link declared it, and it is this one
 abbrev pub is_on : ℕ → Option ℕ → Bool
 is_on k None = false
 is_on k (Some j) = j == k
 
--- something is kept, and the link is the one that declared it
+-- something is kept, and this link declared it
 abbrev pub is_kept_on : ℕ → Option Kept → Bool
 is_kept_on k None = false
 is_kept_on k (Some kept) = is_on k kept.0

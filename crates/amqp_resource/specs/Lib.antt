@@ -5,8 +5,9 @@ pub mod Committing
 pub mod Draws
 pub mod Steps
 pub mod Complete
-pub mod Session
 pub mod Transacting
+pub mod Keeping
+pub mod Session
 pub mod Calls
 pub mod Drive
 pub mod Listed

@@ -13,6 +13,7 @@ use Rattle.amqp_record.specs.Stops.{fault_code, ended_code}
 use Rattle.amqp_resource.specs.declared.held.Held.{Held}
 use Rattle.amqp_resource.specs.declared.session.TxnSession.{TxnSession}
 use Rattle.amqp_resource.specs.Held.{Stands, SameHeld}
+use Rattle.amqp_resource.specs.Keeping.{Fits}
 use Rattle.amqp_resource.specs.Draws.{is_kept}
 
 -- what a session keeps
@@ -39,6 +40,10 @@ refusals_of x = x.refusals
 abbrev pub opened_of : {S : Type 0} → TxnSession S → ℕ
 opened_of x = x.held.opened
 
+-- what the session keeps fits together, as in a new one; each call of its own leaves it so
+abbrev pub FitsTogether : {S : Type 0} → TxnSession S → Type 0
+FitsTogether x = Fits (held_of x)
+
 -- the id is live on the session
 abbrev pub is_live_on : {S : Type 0} → TxnSession S → TransactionId → Bool
 is_live_on x t = is_kept x.held.live.entries t
@@ -47,7 +52,7 @@ is_live_on x t = is_kept x.held.live.entries t
 abbrev pub StandsFor : {S : Type 0} → TxnSession S → List Entry → Type 0
 StandsFor x r = Stands (held_of x) r
 
--- a session is as it was: its live ids with their links and frames, its open links and their count, the layer below and the stop
+-- a session is as it was: its live ids with their links and frames, its open links, how many were opened so far, the layer below and the stop
 pub record SameSession {S : Type 0} (old new : TxnSession S) : Type 0 where
   pub held : SameHeld (held_of old) (held_of new)
   pub below : below_of new ≡ below_of old

@@ -1,4 +1,4 @@
--- What one step does on a session that stands for a record.
+-- What one step is, what it does on a session that stands for a record, and when each answer may come.
 use Rattle.std.specs.Prelude.{ℕ, Bool, true, false, not, ◌&&◌, ◌≡◌, ◌≤◌, ◌⊎◌, ⊤, Option, Some, None, Result, Ok, Err, List, [], ◌∷◌, ◌++◌, length, take, slice_get, is_some, is_none, MatchBool}
 use Rattle.std.specs.List.{zip}
 use Rattle.amqp_txn_types.specs.declared.id.TransactionId.{TransactionId}
@@ -16,7 +16,8 @@ use Rattle.amqp_below.specs.declared.inner_error.SessionInnerError.{SessionInner
 use Rattle.amqp_below.specs.declared.inner_error.SessionInnerError.TheVariants as faults
 use Rattle.amqp_below.specs.declared.refusal.Refusal.{Refusal}
 use Rattle.amqp_below.specs.Drawn.{DrawnIds}
-use Rattle.amqp_below.specs.Told.{Told, grown, Rose}
+use Rattle.amqp_below.specs.Told.{Told, grown}
+use Rattle.amqp_txn_types.specs.Counts.{Rose}
 use Rattle.amqp_record.specs.declared.step.Step.{Step}
 use Rattle.amqp_record.specs.declared.step.Step.TheVariants as steps
 use Rattle.amqp_record.specs.declared.reply.Reply.{Reply}
@@ -61,7 +62,7 @@ ended_by (steps.RemoteEnd error) = Some (remote_end error)
 ended_by (steps.ConnectionStop reason) = Some (reasons.ConnectionStopped reason)
 ended_by _ = None
 
--- the id, if there is one, isn't live
+-- there is an id, and it isn't live
 abbrev pub IsDead : List Entry → Option TransactionId → Type 0
 IsDead r None = ⊥
 IsDead r (Some t) = is_live r t ≡ false

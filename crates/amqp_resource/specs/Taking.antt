@@ -4,7 +4,8 @@ use Rattle.std.specs.List.{zip}
 use Rattle.amqp_txn_types.specs.declared.performatives.Frame.{Frame}
 use Rattle.amqp_below.specs.declared.answers.Answers.{Answers}
 use Rattle.amqp_below.specs.declared.refusal.Refusal.{Refusal}
-use Rattle.amqp_below.specs.Told.{Told, grown, Rose}
+use Rattle.amqp_below.specs.Told.{Told, grown}
+use Rattle.amqp_txn_types.specs.Counts.{Rose}
 use Rattle.amqp_record.specs.Answers.{WindowFits}
 use Rattle.amqp_record.specs.Opened.{refusal_of}
 use Rattle.amqp_resource.specs.declared.taking.TakeError.{TakeError}

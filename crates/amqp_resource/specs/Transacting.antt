@@ -38,7 +38,7 @@ pub record Added (old new : Held) (id : TransactionId) : Type 0 where
   pub links : (k : ℕ) → ids_on new.links.entries k ≡ ids_on old.links.entries k
   pub opened : new.opened ≡ old.opened
 
--- the id is live no more, and each link has the other ids that it had; all else is as it was
+-- the id is live no more; the same links are open, and if the ids of each were the live ids declared on it they still are; all else is as it was
 pub record Ended (old new : Held) (id : TransactionId) : Type 0 where
   pub live : (t : TransactionId) → look new.live.entries t ≡ look_without id old.live.entries t
   pub links : (k : ℕ) → is_in new.links.entries k ≡ is_in old.links.entries k

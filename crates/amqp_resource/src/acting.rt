@@ -4,6 +4,7 @@ ghost use Rattle.std.specs.Prelude.{◌≡◌, ◌≤◌, ◌<◌, ◌-◌, ◌^
 ghost use Rattle.amqp_below.specs.Ids.{Drew};
 ghost use Rattle.amqp_record.specs.declared.step.Step.TheVariants as steps;
 ghost use Rattle.amqp_resource.specs.Held.{SameHeld};
+ghost use Rattle.amqp_resource.specs.Keeping.{Fits, Keeps};
 ghost use Rattle.amqp_resource.specs.Steps.{Steps, StepCause, AnswersEnd, OnNoMemory, OnOwnError, ended_by};
 
 use crate::declaring::{declare_step, global_step};
@@ -28,6 +29,7 @@ fn control_step<S: LayerBelow, G: IdSource>(
     ids: &mut G,
 ) -> Result<(Drawn, Reply), StepError>
     ensures goes { Steps held.old held.new (S.told below.old) (S.told below.new) (steps.Control link payload.now) result }
+    ensures keeps { Fits held.old → Keeps held.old held.new (S.told below.old) (S.told below.new) (steps.Control link payload.now) result }
     ensures cause { StepCause (S.told below.old).refusals (S.told below.new).refusals (steps.Control link payload.now) result }
     ensures same { OnNoMemory result (SameHeld held.old held.new) }
     ensures untouched { OnOwnError result (below.new ≡ below.old) }
@@ -68,6 +70,7 @@ pub fn act<S: LayerBelow, G: IdSource>(
 ) -> Result<(Drawn, Reply), StepError>
     requires room { held.old.opened < 2 ^ 64 - 1 }
     ensures goes { Steps held.old held.new (S.told below.old) (S.told below.new) step.now result }
+    ensures keeps { Fits held.old → Keeps held.old held.new (S.told below.old) (S.told below.new) step.now result }
     ensures cause { StepCause (S.told below.old).refusals (S.told below.new).refusals step.now result }
     ensures ended { AnswersEnd (ended_by step.now) result }
     ensures same { OnNoMemory result (SameHeld held.old held.new) }

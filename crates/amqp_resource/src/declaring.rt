@@ -5,10 +5,12 @@ ghost use Rattle.amqp_txn_codec.specs.Reading.{message_of};
 ghost use Rattle.amqp_txn_codec.specs.declared.message.ControlMessageBody.TheVariants as messages;
 ghost use Rattle.amqp_below.specs.Ids.{Drew};
 ghost use Rattle.amqp_below.specs.Transacting.{Allocates};
+ghost use Rattle.amqp_below.specs.Told.{Told};
 ghost use Rattle.amqp_record.specs.declared.step.Step.TheVariants as steps;
 ghost use Rattle.amqp_resource.specs.Held.{SameHeld, is_in};
 ghost use Rattle.amqp_resource.specs.Draws.{DrewUnused, DrewLive};
 ghost use Rattle.amqp_resource.specs.Transacting.{AllocatedIn};
+ghost use Rattle.amqp_resource.specs.Keeping.{Fits, Keeps};
 ghost use Rattle.amqp_resource.specs.Steps.{StepsHere, StepCause, OnNoMemory, nothing_drawn};
 
 use crate::held::{Held, LiveIds, add_live, declare_on, has_id, make_room};
@@ -29,6 +31,7 @@ pub fn global_step(
     requires message { message_of payload.now ≡ Some (messages.Declare (record { global_id = Some global })) }
     requires opened { is_in held.now.links.entries link ≡ true }
     ensures goes { StepsHere held.now held.now (steps.Control link payload.now) result }
+    ensures keeps { (told : Told) → Fits held.now → Keeps held.now held.now told told (steps.Control link payload.now) result }
     ensures cause { (n : ℕ) → StepCause n n (steps.Control link payload.now) result }
     ensures same { OnNoMemory result (SameHeld held.now held.now) }
     ensures draws { IfOk result (λ out. out.0 ≡ nothing_drawn) }
@@ -71,6 +74,7 @@ pub fn declare_step<G: IdSource>(
     requires message { message_of payload.now ≡ Some (messages.Declare (record { global_id = None })) }
     requires opened { is_in held.old.links.entries link ≡ true }
     ensures goes { StepsHere held.old held.new (steps.Control link payload.now) result }
+    ensures keeps { (told : Told) → Fits held.old → Keeps held.old held.new told told (steps.Control link payload.now) result }
     ensures cause { (n : ℕ) → StepCause n n (steps.Control link payload.now) result }
     ensures same { OnNoMemory result (SameHeld held.old held.new) }
     ensures drew { IfOk result (λ out. Drew (G.next ids.old) (G.next ids.new) out.0.ids) }
@@ -106,6 +110,7 @@ pub fn allocate<G: IdSource>(
     ids: &mut G,
 ) -> Result<Drawn, AllocTxnIdError>
     ensures gave { AllocatedIn held.old held.new result }
+    ensures fits { Fits held.old → Fits held.new }
     ensures drew { Allocates (G.next ids.old) (G.next ids.new) result }
     ensures start { G.start ids.new ≡ G.start ids.old }
 {

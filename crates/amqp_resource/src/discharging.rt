@@ -10,6 +10,7 @@ ghost use Rattle.amqp_record.specs.declared.reply.RejectText.TheVariants as text
 ghost use Rattle.amqp_resource.specs.Draws.{is_kept};
 ghost use Rattle.amqp_resource.specs.Held.{SameHeld, is_in};
 ghost use Rattle.amqp_resource.specs.Transacting.{CommittedIn, CommittedWith, RolledBackIn, frames_kept, step_error_of};
+ghost use Rattle.amqp_resource.specs.Keeping.{Fits, Keeps};
 ghost use Rattle.amqp_resource.specs.Steps.{Steps, StepCause, OnNoMemory, OnOwnError, nothing_drawn};
 
 use crate::committing::hand_all;
@@ -43,6 +44,7 @@ fn commit_live<S: LayerBelow>(
     requires live { is_kept held.old.live.entries id ≡ true }
     requires count { count ≡ length (frames_kept held.old.live.entries id) }
     ensures gave { CommittedWith held.old held.new (S.told below.old) (S.told below.new) id (frames_kept held.old.live.entries id) (below.new ≡ below.old) result }
+    ensures fits { Fits held.old → Fits held.new }
     ensures fixed { (S.told below.new).fixed ≡ (S.told below.old).fixed }
     ensures later { (S.told below.old).refusals ≤ (S.told below.new).refusals }
 {
@@ -83,6 +85,7 @@ pub fn discharge_step<S: LayerBelow>(
     requires message { message_of payload.now ≡ Some (messages.Discharge discharge) }
     requires opened { is_in held.old.links.entries link ≡ true }
     ensures goes { Steps held.old held.new (S.told below.old) (S.told below.new) (steps.Control link payload.now) result }
+    ensures keeps { Fits held.old → Keeps held.old held.new (S.told below.old) (S.told below.new) (steps.Control link payload.now) result }
     ensures cause { StepCause (S.told below.old).refusals (S.told below.new).refusals (steps.Control link payload.now) result }
     ensures same { OnNoMemory result (SameHeld held.old held.new) }
     ensures untouched { OnOwnError result (below.new ≡ below.old) }
@@ -115,7 +118,8 @@ pub fn commit_kept<S: LayerBelow>(
     alloc: Global,
     id: TransactionId,
 ) -> Result<Result<Echoes, TransactionError>, CommitFault>
-    ensures { CommittedIn held.old held.new (S.told below.old) (S.told below.new) id (below.new ≡ below.old) result }
+    ensures gave { CommittedIn held.old held.new (S.told below.old) (S.told below.new) id (below.new ≡ below.old) result }
+    ensures fits { Fits held.old → Fits held.new }
 {
     let Some(one) = find(&held.live, id) else {
         return Ok(Err(TransactionError::UnknownId));
@@ -129,7 +133,8 @@ pub fn commit_kept<S: LayerBelow>(
 
 /// Rolls an id back, whichever link declared it: it ends and its frames are let go.
 pub fn roll_back_kept(held: &mut Held, id: TransactionId) -> Result<Accepted, TransactionError>
-    ensures { RolledBackIn held.old held.new id result }
+    ensures gave { RolledBackIn held.old held.new id result }
+    ensures fits { Fits held.old → Fits held.new }
 {
     if !has_id(&held.live, id) {
         return Err(TransactionError::UnknownId);

@@ -11,7 +11,7 @@ ghost use Rattle.amqp_record.specs.Legal.{IsLegal};
 ghost use Rattle.amqp_record.specs.Opened.{opens};
 ghost use Rattle.amqp_resource.specs.Drive.{NextStep, RunLeaves, RunRefused, RunRose, RunTook, StopCause, StopsBy, StopsWith};
 ghost use Rattle.amqp_resource.specs.Steps.{IsFirstStop, UnderDead, ended_by};
-ghost use Rattle.amqp_resource.specs.Session.{IsFresh, told_of};
+ghost use Rattle.amqp_resource.specs.Session.{FitsTogether, IsFresh, told_of};
 
 use crate::session::TxnSession;
 use amqp_below::{IdSource, LayerBelow};
@@ -77,8 +77,9 @@ pub fn drive<S: LayerBelow, G: IdSource>(
         result.entries result.stop }
     ensures later { (told_of S.told session.old).refusals ≤ (told_of S.told session.new).refusals }
     ensures fixed { (told_of S.told session.new).fixed ≡ (told_of S.told session.old).fixed }
-    // The session stands for the record, or keeps the code of its stop.
+    // The session stands for the record, or keeps the code of its stop, and what it keeps fits together.
     ensures leaves { RunLeaves session.new result.entries result.stop }
+    ensures fits { FitsTogether session.new }
 {
     let alloc = session.allocator();
     let Ok(mut entries) = Vec::with_capacity(alloc, steps.len()) else {

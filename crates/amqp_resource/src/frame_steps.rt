@@ -8,16 +8,16 @@ ghost use Rattle.amqp_record.specs.Answers.{answered_under, presumed};
 ghost use Rattle.amqp_resource.specs.Draws.{is_kept};
 ghost use Rattle.amqp_resource.specs.Held.{SameHeld};
 ghost use Rattle.amqp_resource.specs.Posting.{Posted};
+ghost use Rattle.amqp_resource.specs.Keeping.{Fits, Keeps};
 ghost use Rattle.amqp_resource.specs.Steps.{Steps, StepCause, OnNoMemory, OnOwnError, nothing_drawn};
 
-use crate::held::{Held, LiveIds, open_link, push_frame};
+use crate::held::{Held, LiveIds, open_link};
 use crate::outcomes::{fault_of, no_draws};
 use crate::taking::{check_given, take_frame};
 use amqp_below::{Answers, Drawn, LayerBelow, SessionInnerError};
-use amqp_record::{Reply, StepError};
+use amqp_record::{Reply, StepError, presumed_disposition};
 use amqp_txn_types::{
-    Attach, DeliveryState, Disposition, Frame, Frames, NoMemory, Outcome, Role, TransactionId,
-    TransactionalState, Transfer, TryClone, is_coordinator, txn_of,
+    Attach, Frame, Frames, NoMemory, TransactionId, Transfer, TryClone, is_coordinator, txn_of,
 };
 use std::alloc::Global;
 
@@ -36,6 +36,7 @@ fn plain_step<S: LayerBelow>(
 ) -> Result<(Drawn, Reply), StepError>
     requires { plain frame.now ≡ true }
     ensures goes { Steps held.now held.now (S.told below.old) (S.told below.new) (steps.Frame frame.now) result }
+    ensures keeps { Fits held.now → Keeps held.now held.now (S.told below.old) (S.told below.new) (steps.Frame frame.now) result }
     ensures cause { StepCause (S.told below.old).refusals (S.told below.new).refusals (steps.Frame frame.now) result }
     ensures same { OnNoMemory result (SameHeld held.now held.now) }
     ensures untouched { OnOwnError result (below.new ≡ below.old) }
@@ -55,27 +56,13 @@ fn plain_step<S: LayerBelow>(
     }
 }
 
-/// The disposition of a post that has a delivery id and isn't settled, before its outcome is known.
+/// What a post under a live id is answered at once.
 fn presumed(alloc: Global, transfer: &Transfer, id: TransactionId) -> Result<Frames, NoMemory>
     ensures { IfOk result (λ given. given ≡ presumed transfer.now.settled transfer.now.delivery_id id) }
 {
     let mut given = Frames::new(alloc);
-    if transfer.settled == Some(true) {
-        return Ok(given);
-    }
-    if let Some(first) = transfer.delivery_id {
-        let disposition = Disposition {
-            role: Role::Receiver,
-            first,
-            last: None,
-            settled: true,
-            state: Some(DeliveryState::TransactionalState(TransactionalState {
-                txn_id: id,
-                outcome: Some(Outcome::Accepted),
-            })),
-            batchable: false,
-        };
-        push_frame(&mut given, Frame::Disposition(disposition))?;
+    if let Some(disposition) = presumed_disposition(transfer.settled, transfer.delivery_id, id) {
+        given.append(Frame::Disposition(disposition))?;
     }
     Ok(given)
 }
@@ -103,7 +90,7 @@ fn keep_copy(
     ensures err { OnErr result (frames.new ≡ frames.old) }
 {
     let given = answers_under(alloc, frame, id)?;
-    push_frame(frames, frame.try_clone()?)?;
+    frames.append(frame.try_clone()?)?;
     Ok(given)
 }
 
@@ -116,7 +103,7 @@ fn keep_under(
     id: TransactionId,
 ) -> Option<Result<Frames, NoMemory>>
     ensures live { is_some result ≡ is_kept live.old.entries id }
-    ensures posted { IfSome result (Posted live.old.entries live.new.entries frame.now id) }
+    ensures posted { MatchOption result (live.new.entries ≡ live.old.entries) (Posted live.old.entries live.new.entries frame.now id) }
 {
     match live.get_mut(&id) {
         Some(one) => Some(keep_copy(&mut one.frames, alloc, frame, id)),
@@ -134,6 +121,7 @@ fn post_step<S: LayerBelow>(
 ) -> Result<(Drawn, Reply), StepError>
     requires { txn frame.now ≡ Some id }
     ensures goes { Steps held.old held.new (S.told below.old) (S.told below.new) (steps.Frame frame.now) result }
+    ensures keeps { Fits held.old → Keeps held.old held.new (S.told below.old) (S.told below.new) (steps.Frame frame.now) result }
     ensures cause { StepCause (S.told below.old).refusals (S.told below.new).refusals (steps.Frame frame.now) result }
     ensures same { OnNoMemory result (SameHeld held.old held.new) }
     ensures untouched { OnOwnError result (below.new ≡ below.old) }
@@ -175,6 +163,7 @@ fn attach_step<S: LayerBelow>(
     requires coordinator { attaches_coordinator attach.now ≡ true }
     requires room { held.old.opened < 2 ^ 64 - 1 }
     ensures goes { Steps held.old held.new (S.told below.old) (S.told below.new) (steps.Frame (frames.Attach attach.now)) result }
+    ensures keeps { Fits held.old → Keeps held.old held.new (S.told below.old) (S.told below.new) (steps.Frame (frames.Attach attach.now)) result }
     ensures cause { StepCause (S.told below.old).refusals (S.told below.new).refusals (steps.Frame (frames.Attach attach.now)) result }
     ensures same { OnNoMemory result (SameHeld held.old held.new) }
     ensures untouched { OnOwnError result (below.new ≡ below.old) }
@@ -223,6 +212,7 @@ pub fn frame_step<S: LayerBelow>(
 ) -> Result<(Drawn, Reply), StepError>
     requires room { held.old.opened < 2 ^ 64 - 1 }
     ensures goes { Steps held.old held.new (S.told below.old) (S.told below.new) (steps.Frame frame.now) result }
+    ensures keeps { Fits held.old → Keeps held.old held.new (S.told below.old) (S.told below.new) (steps.Frame frame.now) result }
     ensures cause { StepCause (S.told below.old).refusals (S.told below.new).refusals (steps.Frame frame.now) result }
     ensures same { OnNoMemory result (SameHeld held.old held.new) }
     ensures untouched { OnOwnError result (below.new ≡ below.old) }

@@ -1,5 +1,6 @@
 //! What a session keeps: the live ids with their frames, and the open control links with their ids.
-//! An id or a link is found by its hash, and nothing here walks all of them.
+//! An id or a link is found by its hash. But for making room in a full table nothing here walks all of
+//! them.
 
 ghost use Rattle.std.specs.Prelude.{◌≡◌, ◌<◌, ◌↔◌, IsTrue, ◌∷◌, ◌++◌, [], ℕ, true, false, ◌&&◌, ◌==◌, nat_eq, OnOk, OnErr, IfSome, None, Some, cond, option_copied};
 ghost use Rattle.std.specs.List.{list_any};
@@ -12,7 +13,7 @@ ghost use Rattle.amqp_record.specs.Entries.{same_id};
 ghost use Rattle.amqp_resource.specs.Draws.{is_kept};
 ghost use Rattle.amqp_resource.specs.Held.{HasRoom, SameHeld, Stands, Tied, ids_on, is_among, is_in, is_on, kept_of, look, look_without, unless_on};
 
-use amqp_txn_types::{Frame, Frames, NoMemory, TransactionId};
+use amqp_txn_types::{Frames, NoMemory, TransactionId};
 use indexmap::{IndexMap, IndexSet};
 use std::alloc::Global;
 
@@ -80,18 +81,6 @@ pub fn has_link(links: &OpenLinks, link: u64) -> bool
     ensures { result ≡ is_in links.now.entries link }
 {
     links.contains_key(&link)
-}
-
-/// Appends a frame. For want of memory it is let go, and the list is as it was.
-pub fn push_frame(frames: &mut Frames, frame: Frame) -> Result<(), NoMemory>
-    ensures ok { OnOk result (frames.new ≡ frames.old ++ frame ∷ []) }
-    ensures err { OnErr result (frames.new ≡ frames.old) }
-{
-    let Ok(()) = frames.items.reserve(1) else {
-        return Err(NoMemory);
-    };
-    frames.items.push_reserved(frame);
-    Ok(())
 }
 
 /// Opens a link, for which there is room.

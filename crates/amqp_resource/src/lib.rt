@@ -37,6 +37,8 @@ mod link_steps;
 mod outcomes;
 mod session;
 mod taking;
+#[cfg(test)]
+mod tests;
 mod transacting;
 
 pub use counting::{CountIds, numbered_id};

@@ -3,7 +3,7 @@
 ghost use Rattle.std.specs.Prelude.{◌≡◌, ◌≤◌, ◌<◌, ◌-◌, ◌^◌, ◌↔◌, ◌∷◌, ◌++◌, [], List, None, Some, Err, IfSome, IfOk, IfErr, OnErr, IsTrue, true};
 ghost use Rattle.amqp_txn_types.specs.declared.id.TransactionId.{TransactionId as Id};
 ghost use Rattle.amqp_below.specs.declared.inner_error.SessionInnerError.TheVariants as faults;
-ghost use Rattle.amqp_below.specs.Told.{Rose};
+ghost use Rattle.amqp_txn_types.specs.Counts.{Rose};
 ghost use Rattle.amqp_below.specs.Ids.{Drew};
 ghost use Rattle.amqp_record.specs.declared.entry.Entry.{Entry};
 ghost use Rattle.amqp_record.specs.declared.stop.StepError.TheVariants as errors;
@@ -12,7 +12,8 @@ ghost use Rattle.amqp_record.specs.Live.{is_live};
 ghost use Rattle.amqp_record.specs.Answers.{Answer};
 ghost use Rattle.amqp_resource.specs.Steps.{entry_of, ended_by, takes_memory, AnswersEnd, IfEnded, IfRefused, IfUnknown, IsControlAttach, IsFirstStop, MayFault, OnAttachRefused, OnNoMemory, OnOwnError, OpenedBy, RefusedAdds, RefusedBy, TookFirst, TookHands, UnderDead};
 ghost use Rattle.amqp_resource.specs.Complete.{InOrder, Completed};
-ghost use Rattle.amqp_resource.specs.Session.{ForEachRecord, IsFresh, SameSession, StandsFor, StopAfter, below_of, is_live_on, opened_of, refusals_of, stop_of, told_of};
+ghost use Rattle.amqp_resource.specs.Keeping.{AnswerKeeps, UnderUnkept};
+ghost use Rattle.amqp_resource.specs.Session.{FitsTogether, ForEachRecord, IsFresh, SameSession, StandsFor, StopAfter, below_of, held_of, is_live_on, opened_of, refusals_of, stop_of, told_of};
 
 use crate::acting::act;
 use crate::held::{Held, has_id, keeps_nothing};
@@ -63,6 +64,7 @@ impl<S: LayerBelow> TxnSession<S> {
         ensures stop { stop_of result ≡ None }
         ensures below { below_of result ≡ below }
         ensures refusals { refusals_of result ≡ 0 }
+        ensures fits { FitsTogether result }
     {
         TxnSession {
             held: Held {
@@ -192,6 +194,15 @@ impl<S: LayerBelow> TxnSession<S> {
         ensures untouched { OnOwnError result (below_of self.new ≡ below_of self.old) }
         ensures later { (told_of S.told self.old).refusals ≤ (told_of S.told self.new).refusals }
         ensures fixed { (told_of S.told self.new).fixed ≡ (told_of S.told self.old).fixed }
+        // On every session that runs and whose parts fit together, also one that stands for no record: the
+        // answer by what is kept, what it leaves of each id and of the links, and what was done below.
+        ensures fits { FitsTogether self.old → FitsTogether self.new }
+        ensures keeps { stop_of self.old ≡ None → FitsTogether self.old → AnswerKeeps (held_of self.old) (held_of self.new)
+            (told_of S.told self.old) (told_of S.told self.new) step.now result }
+        ensures dead { stop_of self.old ≡ None → FitsTogether self.old → UnderUnkept (held_of self.old) step.now →
+            result ≡ Err (errors.Fault faults.UnknownTxnId 0) }
+        ensures attach_rose { OnAttachRefused result
+            (Rose (told_of S.told self.old).refusals (told_of S.told self.new).refusals) }
         // The session's own transactional calls have no part in it.
         ensures refusals { refusals_of self.new ≡ refusals_of self.old }
         // The stop that is kept.

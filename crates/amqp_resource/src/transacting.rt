@@ -2,8 +2,8 @@
 //! (discharging).
 //!
 //! An id that they allocate is declared on no link: a control message that discharges it is rejected,
-//! and no end of a link aborts it. While one is live the session stands for no record of steps, so what
-//! is proved of a step by its record says nothing then. What is proved of these calls holds always.
+//! and no end of a link aborts it. While one is live the session stands for no record of steps; what a
+//! step does then is said by what is kept (`keeps`). The clauses of these calls need no record.
 
 use crate::declaring::allocate;
 use crate::discharging::{commit_kept, roll_back_kept};

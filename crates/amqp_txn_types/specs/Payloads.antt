@@ -1,4 +1,4 @@
--- Where the octets of a payload stand.
+-- The octets of a payload, wherever they stand.
 use Rattle.std.specs.Prelude.{ℕ, List}
 use Rattle.amqp_txn_types.specs.declared.payload.Octets.{Octets}
 use Rattle.amqp_txn_types.specs.declared.payload.Octets.TheVariants as places

@@ -4,7 +4,8 @@ ghost use Rattle.std.specs.Prelude.{◌≡◌, ◌↔◌, [], length, slice_get,
 ghost use Rattle.std.specs.Cmp.Lexicographic.{pointwise};
 ghost use Rattle.indexmap.specs.IndexMap.{insert_entry, shift_remove_entry};
 
-use crate::items::{Binary, NoMemory, TryClone};
+use crate::binary::Binary;
+use crate::items::{NoMemory, TryClone};
 use crate::text::{Symbol, Text};
 use indexmap::IndexMap;
 use std::alloc::Global;

@@ -86,7 +86,7 @@ impl PartialEq for TransactionId {
     ghost laws = { partial_equiv_from_equiv nat_list_eq_equiv };
 
     fn eq(&self, other: &Self) -> bool {
-        self.as_ref() == other.as_ref()
+        self.len == other.len && self.octets == other.octets
     }
 }
 

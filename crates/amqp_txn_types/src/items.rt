@@ -1,6 +1,6 @@
 //! Lists that a contract sees as lists, copies that may want memory, and want of memory itself.
 
-ghost use Rattle.std.specs.Prelude.{◌≡◌, ◌↔◌, List, [], ◌∷◌, ◌++◌, length, slice_get, option_copied, IsTrue, OnOk, IfOk, IfErr};
+ghost use Rattle.std.specs.Prelude.{◌≡◌, ◌↔◌, List, [], ◌∷◌, ◌++◌, length, slice_get, option_copied, IsTrue, OnOk, OnErr, IfOk, IfErr};
 ghost use Rattle.std.specs.Cmp.Lexicographic.{pointwise, lists_per};
 
 use std::alloc::{AllocError, Global};
@@ -30,8 +30,8 @@ pub trait TryClone {
 
 /// A list that grows at its end, and that a contract sees as the list of its items.
 ///
-/// The lists of this crate and of those above it are this one at a type of items: [`Binary`],
-/// `Symbols`, `Frames`, `LinkFlows`. It keeps the allocator that it was made with.
+/// The lists of this crate and of those above it are this one at a type of items: `Symbols`,
+/// `Frames`, `LinkFlows`. It keeps the allocator that it was made with.
 #[derive(Debug, Drop)]
 pub struct Items<T> {
     /// The items as a vector: open to callers that make room first and push later.
@@ -101,10 +101,24 @@ impl<T> Items<T> {
         ensures ok { OnOk result (self.new ≡ self.old ++ item ∷ []) }
         ensures err { IfErr result (λ refused. (refused.0 ≡ item) × (self.new ≡ self.old)) }
     {
-        match self.items.push(item) {
-            Ok(()) => Ok(()),
-            Err(failed) => Err((failed.value, NoMemory)),
-        }
+        let Ok(()) = self.items.reserve(1) else {
+            return Err((item, NoMemory));
+        };
+        self.items.push_reserved(item);
+        Ok(())
+    }
+}
+
+impl<T: Drop> Items<T> {
+    /// Appends the item. For want of memory, the only error, the item is let go, and the list is as
+    /// it was.
+    pub fn append(&mut self, item: T) -> Result<(), NoMemory>
+        ensures ok { OnOk result (self.new ≡ self.old ++ item ∷ []) }
+        ensures err { OnErr result (self.new ≡ self.old) }
+    {
+        self.items.reserve(1)?;
+        self.items.push_reserved(item);
+        Ok(())
     }
 }
 
@@ -128,8 +142,8 @@ impl<T: PartialEq> PartialEq for Items<T> {
     }
 }
 
-/// A string of octets. Part 1 of the standard, section 1.6.19 (binary).
-pub type Binary = Items<u8>;
+/// Numbers of calls, which count from 1.
+pub type CallNumbers = Items<u64>;
 
 impl Items<u8> {
     /// A copy of the octets. The only error is want of memory.

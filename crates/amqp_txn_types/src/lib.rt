@@ -29,6 +29,7 @@
 //! most 32 octets, and a copy equals its original.
 #![tactic(auto)]
 
+mod binary;
 mod boxed;
 mod capability;
 mod delivery;
@@ -44,6 +45,7 @@ mod small;
 mod tests;
 mod text;
 
+pub use binary::Binary;
 pub use boxed::Boxed;
 pub use capability::TxnCapability;
 pub use delivery::{
@@ -53,7 +55,7 @@ pub use delivery::{
 pub use fields::{Fields, Value};
 pub use frames::{TxnWorkFrame, frame_of, is_coordinator, strip, txn_of};
 pub use id::{IdTooLong, TransactionId};
-pub use items::{Binary, Items, NoMemory, TryClone};
+pub use items::{CallNumbers, Items, NoMemory, TryClone};
 pub use payload::Payload;
 pub use performatives::{
     Attach, Begin, Coordinator, Detach, Disposition, End, Flow, Frame, Frames, LinkEnd, LinkFlow,

@@ -13,7 +13,7 @@ use std::marker::Model;
 /// The octets of a message, or of a part of one, as a transfer brings them.
 ///
 /// Part 2 of the standard, section 2.7.5 (transfer). What is in them is the sender's: sections,
-/// by part 3, section 3.2 (message format). A payload never grows. One of at most 32 octets stands in
+/// by part 3, section 3.2 (message format). A payload never grows. One of at most 30 octets stands in
 /// place, so that a short message takes no memory; a copy of a longer one shares its octets.
 #[derive(Debug, Drop)]
 pub struct Payload {

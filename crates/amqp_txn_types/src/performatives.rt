@@ -3,10 +3,11 @@
 
 ghost use Rattle.std.specs.Prelude.{◌≡◌, None};
 
+use crate::binary::Binary;
 use crate::boxed::Boxed;
 use crate::delivery::{DeliveryState, Error};
 use crate::fields::Fields;
-use crate::items::{Binary, Items, NoMemory, TryClone};
+use crate::items::{Items, NoMemory, TryClone};
 use crate::payload::Payload;
 use crate::small::{Handle, InputHandle, OutputHandle, ReceiverSettleMode, Role, SenderSettleMode};
 use crate::text::{Symbol, Text};

@@ -4,10 +4,10 @@ ghost use Rattle.std.specs.Prelude.{◌≡◌, ◌<◌, length, MatchOption};
 
 use std::marker::Model;
 
-/// At most 32 octets, in place: to make, copy or drop them takes no memory.
+/// At most 30 octets, in place: to make, copy or drop them takes no memory.
 #[derive(Debug, Drop)]
 pub(crate) struct ShortOctets {
-    octets: [u8; 32],
+    octets: [u8; 30],
     len: u8,
 }
 
@@ -18,19 +18,19 @@ impl Model for ShortOctets {
 
     ghost view = { λ s. take s.len s.octets };
 
-    ghost invariant = { λ s. s.len ≤ 32 };
+    ghost invariant = { λ s. s.len ≤ 30 };
 }
 
 impl ShortOctets {
-    /// The octets in place; `None` where there are more than 32.
+    /// The octets in place; `None` where there are more than 30.
     pub(crate) fn new(octets: &[u8]) -> Option<Self>
-        ensures { MatchOption result (32 < length octets.now) (λ short. short ≡ octets.now) }
+        ensures { MatchOption result (30 < length octets.now) (λ short. short ≡ octets.now) }
     {
         let len = octets.len();
-        if len > 32 {
+        if len > 30 {
             return None;
         }
-        let mut block = [0; 32];
+        let mut block = [0; 30];
         block[..len].copy_from_slice(octets);
         Some(ShortOctets {
             octets: block,

@@ -163,6 +163,29 @@ fn lists_grow_at_their_end(rt: HostRuntime) -> Result<(), Fail> {
 }
 
 #[test]
+fn octets_in_place_grow_into_a_list(rt: HostRuntime) -> Result<(), Fail> {
+    let mut octets = Binary::from_slice(rt.alloc(), b"\x01\x02")?;
+    octets.push(3)?;
+    octets.push(4)?;
+    assert_eq!(rt; octets.as_slice(), b"\x01\x02\x03\x04".as_slice());
+    assert_eq!(rt;
+        (octets.len(), octets.get(3), octets.get(4)),
+        (4, Some(4), None)
+    );
+    assert_copied(&rt, octets)?;
+    let mut long = Binary::from_slice(rt.alloc(), &[7; 31])?;
+    long.push(8)?;
+    assert_eq!(rt; long.get(31), Some(8));
+    assert_copied(&rt, long)?;
+    let mut numbers = Items::<u64>::new(rt.alloc());
+    numbers.append(1)?;
+    numbers.append(2)?;
+    assert_eq!(rt; numbers.as_slice(), [1, 2].as_slice());
+    assert!(rt; Binary::new(rt.alloc()).is_empty());
+    Ok(())
+}
+
+#[test]
 fn fields_keep_the_order_of_insertion(rt: HostRuntime) -> Result<(), Fail> {
     let b = Symbol::from_str(rt.alloc(), "b")?;
     let a = Symbol::from_str(rt.alloc(), "a")?;

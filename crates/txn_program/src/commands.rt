@@ -11,8 +11,8 @@ ghost use Rattle.txn_program.specs.Running.{IsRun, IsRunOf, LeftUnread, PlanLeft
 use crate::running::{Ran, answered, out_of_memory, run_input, run_made};
 use crate::status;
 use crate::words::{Command, command_of};
-use amqp_below::{CallNumbers, LayerBelow, Recorder, SureSink, SureSource};
-use amqp_txn_types::Text;
+use amqp_below::{LayerBelow, Recorder, SureSink, SureSource};
+use amqp_txn_types::{CallNumbers, Text};
 use std::alloc::Global;
 
 /// The top call: does what the words ask for, and answers with a status.

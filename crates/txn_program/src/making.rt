@@ -19,7 +19,7 @@ pub(crate) fn made(alloc: Global, count: u32) -> Result<Steps, NoMemory>
 {
     let mut steps = Steps::new(alloc);
     steps.items.reserve(5 * count as usize + 1)?;
-    push(&mut steps, made_attach(alloc)?)?;
+    steps.append(made_attach(alloc)?)?;
     push_transactions(alloc, &mut steps, count)?;
     Ok(steps)
 }
@@ -50,11 +50,11 @@ fn push_pair(alloc: Global, steps: &mut Steps, number: u32, delivery: u32) -> Re
     requires delivery { delivery ≤ 60000 }
     ensures { OnOk result (steps.new ≡ steps.old ++ made_pair number delivery) }
 {
-    push(steps, made_declare(alloc)?)?;
-    push(steps, made_declare(alloc)?)?;
+    steps.append(made_declare(alloc)?)?;
+    steps.append(made_declare(alloc)?)?;
     push_posts(alloc, steps, number, delivery)?;
-    push(steps, made_discharge(alloc, number)?)?;
-    push(steps, made_discharge(alloc, number + 1)?)
+    steps.append(made_discharge(alloc, number)?)?;
+    steps.append(made_discharge(alloc, number + 1)?)
 }
 
 /// Appends the posts of two transactions: three times one of each.
@@ -78,8 +78,8 @@ fn push_two_posts(
     requires delivery { delivery ≤ 70000 }
     ensures { OnOk result (steps.new ≡ steps.old ++ two_posts number delivery) }
 {
-    push(steps, made_post(alloc, number, delivery)?)?;
-    push(steps, made_post(alloc, number + 1, delivery + 1)?)
+    steps.append(made_post(alloc, number, delivery)?)?;
+    steps.append(made_post(alloc, number + 1, delivery + 1)?)
 }
 
 /// Appends the steps of a transaction alone.
@@ -88,23 +88,11 @@ fn push_alone(alloc: Global, steps: &mut Steps, number: u32, delivery: u32) -> R
     requires delivery { delivery ≤ 60000 }
     ensures { OnOk result (steps.new ≡ steps.old ++ made_alone number delivery) }
 {
-    push(steps, made_declare(alloc)?)?;
-    push(steps, made_post(alloc, number, delivery)?)?;
-    push(steps, made_post(alloc, number, delivery + 1)?)?;
-    push(steps, made_post(alloc, number, delivery + 2)?)?;
-    push(steps, made_discharge(alloc, number)?)
-}
-
-fn push(steps: &mut Steps, step: Step) -> Result<(), NoMemory>
-    ensures { OnOk result (steps.new ≡ steps.old ++ step ∷ []) }
-{
-    match steps.push(step) {
-        Ok(()) => Ok(()),
-        Err((step, error)) => {
-            drop(step);
-            Err(error)
-        }
-    }
+    steps.append(made_declare(alloc)?)?;
+    steps.append(made_post(alloc, number, delivery)?)?;
+    steps.append(made_post(alloc, number, delivery + 1)?)?;
+    steps.append(made_post(alloc, number, delivery + 2)?)?;
+    steps.append(made_discharge(alloc, number)?)
 }
 
 /// The attach of the control link.

@@ -7,8 +7,7 @@ ghost use Rattle.txn_program.specs.Words.{IsWithin, call_of, command_of, count_o
 
 use crate::cutting::cut_at;
 use crate::line_words::{is_text, number_of};
-use amqp_below::CallNumbers;
-use amqp_txn_types::{Items, NoMemory, Text, TransactionId};
+use amqp_txn_types::{CallNumbers, Items, NoMemory, Text, TransactionId};
 use hex::FromHexError;
 use std::alloc::Global;
 

@@ -1,5 +1,6 @@
 use Rattle.std.proofs.Common.{◌≡◌, refl, Err}
 use Rattle.amqp_resource.proofs.Parts.{answers_end, local_error, own_holds, remote_error}
+use Rattle.amqp_resource.proofs.Keeping.{keeps-end}
 use Rattle.amqp_resource.proofs.acting.act.Goals as goal
 
 pub returns-in-LinkEnd-clause-goes : goal.returns-in-LinkEnd-clause-goes
@@ -19,3 +20,15 @@ returns-in-ConnectionStop-clause-ended g c = rw c.in-ConnectionStop.is (answers_
 
 pub returns-in-RemoteEnd-clause-untouched : goal.returns-in-RemoteEnd-clause-untouched
 returns-in-RemoteEnd-clause-untouched g c = own_holds (Err c.end_remotely.result) (c.args.below.now ≡ c.args.below.now) refl
+
+pub returns-in-LinkEnd-clause-keeps : goal.returns-in-LinkEnd-clause-keeps
+returns-in-LinkEnd-clause-keeps g c f = rw c.in-LinkEnd.is (c.link_end_step.ensures.keeps _ f)
+
+pub returns-in-LocalEnd-clause-keeps : goal.returns-in-LocalEnd-clause-keeps
+returns-in-LocalEnd-clause-keeps g c f = rw c.in-LocalEnd.is (keeps-end c.args.held.now _ _ _ _ _ c.end_locally.ensures refl (λ u. u) f)
+
+pub returns-in-RemoteEnd-clause-keeps : goal.returns-in-RemoteEnd-clause-keeps
+returns-in-RemoteEnd-clause-keeps g c f = rw c.in-RemoteEnd.is (keeps-end c.args.held.now _ _ _ _ _ c.end_remotely.ensures refl (λ u. u) f)
+
+pub returns-in-ConnectionStop-clause-keeps : goal.returns-in-ConnectionStop-clause-keeps
+returns-in-ConnectionStop-clause-keeps g c f = rw c.in-ConnectionStop.is (keeps-end c.args.held.now _ _ _ _ _ c.end_with_connection.ensures refl (λ u. u) f)

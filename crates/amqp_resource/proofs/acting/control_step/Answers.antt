@@ -23,3 +23,15 @@ returns-in-Ok-Declare-None-clause-goes g c r s = c.declare_step.ensures.goes r s
 
 pub returns-in-Ok-Declare-None-clause-cause : goal.returns-in-Ok-Declare-None-clause-cause
 returns-in-Ok-Declare-None-clause-cause g c = c.declare_step.ensures.cause _
+
+pub returns-then-not-has_link-clause-keeps : goal.returns-then-not-has_link-clause-keeps
+returns-then-not-has_link-clause-keeps g c f = c.no_link_step.ensures.keeps _ f
+
+pub returns-in-Err-clause-keeps : goal.returns-in-Err-clause-keeps
+returns-in-Err-clause-keeps g c f = c.close_step.ensures.keeps _ f
+
+pub returns-in-Ok-Declare-Some-clause-keeps : goal.returns-in-Ok-Declare-Some-clause-keeps
+returns-in-Ok-Declare-Some-clause-keeps g c f = c.global_step.ensures.keeps _ f
+
+pub returns-in-Ok-Declare-None-clause-keeps : goal.returns-in-Ok-Declare-None-clause-keeps
+returns-in-Ok-Declare-None-clause-keeps g c f = c.declare_step.ensures.keeps _ f

@@ -2,6 +2,11 @@ use Rattle.std.proofs.Common.{Some, List, ap, sym, ◌∙◌}
 use Rattle.amqp_txn_types.specs.declared.performatives.Frame.{Frame}
 use Rattle.amqp_resource.specs.Transacting.{frames_in}
 use Rattle.amqp_resource.proofs.Going.{fault_goes, went-absent, went-rollback, went-commit, not_kept, held_elsewhere, held_here}
+use Rattle.std.proofs.Common.{refl}
+use Rattle.amqp_resource.proofs.Keeping.{keeps-discharged, keeps-fault, keeps-rejected, same_held}
+use Rattle.amqp_record.specs.declared.reply.RejectText.TheVariants as texts
+use Rattle.amqp_resource.specs.Held.{is_kept_on}
+use Rattle.amqp_below.specs.Drawn.{DrawnIds}
 use Rattle.amqp_resource.proofs.discharging.discharge_step.Goals as goal
 
 pub returns-in_default-clause-goes : goal.returns-in_default-clause-goes
@@ -43,3 +48,36 @@ returns-in-Err-clause-goes g c r s =
     (held_here c.args.held.now c.args.discharge.txn_id one.holder one.frames c.args.link (sym c.in-Some.ensures) (sym c.is_declared_on-declared_here.ensures ∙ c.if-not-declared_here.false)
     ∙ ap (λ (fs : List Frame). Some (Some c.args.link, fs)) (ap frames_in c.in-Some.ensures))
     c.in-Err.ensures.gave)
+
+pub returns-in_default-clause-keeps : goal.returns-in_default-clause-keeps
+returns-in_default-clause-keeps g c f =
+    rw c.absent.ensures (keeps-rejected c.args.held.now c.args.held.now _ c.args.link c.args.payload.now _ _ texts.Absent c.requires.message c.requires.opened
+    (ap (is_kept_on c.args.link) (sym c.in_default.ensures), ap (λ (x : DrawnIds). x.ids) c.no_draws.ensures) (same_held c.args.held.now) f)
+
+pub returns-then-not-declared_here-clause-keeps : goal.returns-then-not-declared_here-clause-keeps
+returns-then-not-declared_here-clause-keeps g c f =
+    rw c.absent-then-not-declared_here.ensures (keeps-rejected c.args.held.now c.args.held.now _ c.args.link c.args.payload.now _ _ texts.Absent c.requires.message c.requires.opened
+    (ap (is_kept_on c.args.link) (sym c.in-Some.ensures) ∙ sym c.is_declared_on-declared_here.ensures ∙ c.if-not-declared_here.true, ap (λ (x : DrawnIds). x.ids) c.no_draws-then-not-declared_here.ensures) (same_held c.args.held.now) f)
+
+pub returns-then-rolls_back-clause-keeps : goal.returns-then-rolls_back-clause-keeps
+returns-then-rolls_back-clause-keeps g c f =
+    let ended = c.take-dropped.ensures in
+    rw c.new.ensures (keeps-discharged c.args.held.now c.take-dropped.new.held _ _ c.args.link c.args.payload.now c.args.discharge _ _ _ c.no_draws-then-rolls_back.ensures c.requires.message
+    (sym c.rolls_back.ensures ∙ c.if-rolls_back.true) c.requires.opened
+    (ap (is_kept_on c.args.link) (sym c.in-Some.ensures) ∙ sym c.is_declared_on-declared_here.ensures ∙ c.if-not-declared_here.false)
+    (record { live = ended.rest; links = ended.links; tied = ended.tied; opened = ended.opened }) (refl, refl) f)
+
+pub returns-in-Ok-clause-keeps : goal.returns-in-Ok-clause-keeps
+returns-in-Ok-clause-keeps g c f =
+    let gave = c.in-Ok.ensures.gave in
+    keeps-discharged c.args.held.now c.commit_live.new.held (g.S.LayerBelow.told c.args.below.now) (g.S.LayerBelow.told c.commit_live.new.below) c.args.link c.args.payload.now c.args.discharge _ _ c.in-Ok.echoes c.no_draws-in-Ok.ensures c.requires.message
+    (sym c.rolls_back.ensures ∙ c.if-rolls_back.false) c.requires.opened
+    (ap (is_kept_on c.args.link) (sym c.in-Some.ensures) ∙ sym c.is_declared_on-declared_here.ensures ∙ c.if-not-declared_here.false)
+    gave.0 gave.1.handed f
+
+pub returns-in-Err-clause-keeps : goal.returns-in-Err-clause-keeps
+returns-in-Err-clause-keeps g c f =
+    rw c.step_error_of.ensures (keeps-fault c.args.held.now c.commit_live.new.held (g.S.LayerBelow.told c.args.below.now) (g.S.LayerBelow.told c.commit_live.new.below) c.args.link c.args.payload.now c.args.discharge _ c.in-Err.fault c.requires.message
+    (sym c.rolls_back.ensures ∙ c.if-rolls_back.false) c.requires.opened
+    (ap (is_kept_on c.args.link) (sym c.in-Some.ensures) ∙ sym c.is_declared_on-declared_here.ensures ∙ c.if-not-declared_here.false)
+    c.in-Err.ensures.gave f)

@@ -6,8 +6,9 @@ use Rattle.amqp_resource.specs.Steps.{entry_of}
 use Rattle.amqp_resource.specs.Session.{held_of, below_of, stop_of}
 use Rattle.amqp_resource.specs.Drive.{Left}
 use Rattle.amqp_resource.proofs.Parts.{end_is, own_weaker}
-use Rattle.amqp_resource.proofs.Running.{Broke, broke_ended, broke_refused, broke_took, broke_unknown, failed, left-more, ran-more, ran-nil, some_step, stops_by}
+use Rattle.amqp_resource.proofs.Running.{Broke, broke_cause, broke_ended, broke_refused, broke_took, broke_unknown, failed, left-more, ran-more, ran-nil, some_step, stops_by}
 use Rattle.amqp_resource.proofs.driving.drive.Given.{Over}
+use Rattle.amqp_resource.proofs.Keeping.{fits-stands}
 use Rattle.amqp_resource.proofs.driving.drive.Goals as goal
 
 pub loop-step-init : goal.loop-step-init
@@ -81,6 +82,11 @@ left g c =
     let popped : c.loop-step.rest.items ≡ c.in-Some.step ∷ c.pop_front.new.self.items = c.in-Some.ensures.items in
     subst (λ (ss : List Step). Left c.args.steps c.loop-step.entries.items ss) popped c.loop-step.invariant.left
 
+pub returns-in-Err-clause-cause : goal.returns-in-Err-clause-cause
+returns-in-Err-clause-cause g c =
+    let by = stops_by c.in-Err.error c.stop_by-stop.result.0 c.stop_by-stop.result.1 c.stop_by-stop.ensures in
+    rw (c.driven-in-Err.ensures, by.0) (broke_cause _ _ _ c.loop-step.entries.items c.in-Some.step c.in-Err.error _ c.args.steps c.pop_front.new.self.items (left g c) (broke g c))
+
 pub returns-in-Err-clause-unknown : goal.returns-in-Err-clause-unknown
 returns-in-Err-clause-unknown g c =
     let by = stops_by c.in-Err.error c.stop_by-stop.result.0 c.stop_by-stop.result.1 c.stop_by-stop.ensures in
@@ -107,3 +113,12 @@ returns-in_default-clause-taken g c =
 
 pub returns-in_default-clause-cause : goal.returns-in_default-clause-cause
 returns-in_default-clause-cause g c = rw (c.driven.ensures, c.new.ensures.items) (some_step c.args.steps (λ empty. let some = c.in_default.ensures.succeeds (c.len.ensures ∙ empty) in cc some))
+
+pub returns-in_default-clause-fits : goal.returns-in_default-clause-fits
+returns-in_default-clause-fits g c = fits-stands (held_of c.args.session.now) [] c.requires.stands
+
+pub returns-in-Err-clause-fits : goal.returns-in-Err-clause-fits
+returns-in-Err-clause-fits g c = c.in-Err.ensures.fits (fits-stands (held_of c.loop-step.session) c.loop-step.entries.items c.loop-step.invariant.ran.stands)
+
+pub returns-clause-fits : goal.returns-clause-fits
+returns-clause-fits g c = fits-stands (held_of c.loop-step.session) c.loop-step.entries.items c.loop-step.invariant.ran.stands

@@ -1,5 +1,5 @@
 use Rattle.std.proofs.Common.{ap}
-use Rattle.amqp_resource.proofs.Parts.{gave_answer, gave_stands, gave_taken, gave_part, gave_opened, opened_none, gave_refused, gave_last, gave_unknown, gave_unknown_only, gave_cause, gave_attach, gave_memory, cause_rose, cause_ended, cause_first, own_weaker}
+use Rattle.amqp_resource.proofs.Parts.{gave_answer, gave_stands, gave_taken, gave_part, gave_opened, opened_none, gave_refused, gave_last, gave_unknown, gave_unknown_only, gave_cause, gave_attach, gave_memory, cause_attach, cause_rose, cause_ended, cause_first, own_weaker}
 use Rattle.amqp_resource.proofs.Complete.{complete, drew_next}
 use Rattle.amqp_resource.proofs.session.TxnSession.step.Goals as goal
 
@@ -57,3 +57,15 @@ pub returns-clause-complete : goal.returns-clause-complete
 returns-clause-complete g c e r s n i =
     complete _ _ _ _ _ _ r _ n _ (c.act-result.ensures.goes r s) c.act-result.ensures.cause
     (drew_next _ _ _ c.act-result.ensures.drew) i
+
+pub returns-clause-fits : goal.returns-clause-fits
+returns-clause-fits g c f = let kept = c.act-result.ensures.keeps f in kept.fits
+
+pub returns-clause-keeps : goal.returns-clause-keeps
+returns-clause-keeps g c e f = let kept = c.act-result.ensures.keeps f in kept.answer
+
+pub returns-clause-dead : goal.returns-clause-dead
+returns-clause-dead g c e f u = let kept = c.act-result.ensures.keeps f in kept.unknown u
+
+pub returns-clause-attach_rose : goal.returns-clause-attach_rose
+returns-clause-attach_rose g c = cause_attach _ _ _ _ c.act-result.ensures.cause
