@@ -16,7 +16,7 @@ use Rattle.amqp_txn_codec.specs.Sections.{Kind, IsDescriptor, by_octet, by_numbe
 use Rattle.amqp_txn_codec.specs.Fields.{IsId, short, long, IsGlobalId, null, some_id, IsFail, unsaid, yes, long_yes, no, long_no, IsList, empty, short_list, long_list, IsDeclare, no_field, global_id, IsDischarge, only_id, id_and_fail}
 use Rattle.amqp_txn_codec.specs.Messages.{declare_list, discharge_list, SpellsMessage}
 use Rattle.amqp_txn_codec.specs.Walks.{Finds, LeavesAfter, AfterDescriptor, AfterSection, TakesOptional, AfterId, AfterList, FoundOctet, FoundNumber, FoundId, FoundCut, FoundList, FoundFields, message_kind, FoundKind, AfterBody, GivesMessage, declare, discharge, WalksTo}
-use Rattle.amqp_txn_codec.specs.Reading.{and_then, is, behind, cut, octet_at, number_at, behind_value, behind_descriptor, behind_section, behind_skipped, sized_list, list_at, sized_id, id_at, id_alone, fail_of, declare_of, discharge_of, declare_at, discharge_at, body_at, message_of}
+use Rattle.amqp_txn_codec.specs.Reading.{and_then, same_octets, behind_text, cut, octet_at, number_at, behind_value, behind_descriptor, behind_section, behind_skipped, sized_list, list_at, sized_id, id_at, id_alone, fail_of, declare_of, discharge_of, declare_at, discharge_at, body_at, message_of}
 use Rattle.amqp_txn_codec.specs.Canon.{canon, HoldsShortIds}
 use Rattle.amqp_txn_codec.proofs.Messages.{canon-spells}
 use Rattle.amqp_txn_codec.proofs.Values.{octets_by-more, zero_is_not_plain, described-out, plain-out}
@@ -75,32 +75,32 @@ finds-by P None to back = λ x p. cc (back x p)
 finds-by P (Some x) to back = to x refl
 
 -- tests of texts
-is-in : (octets text : List ℕ) → is octets text ≡ true → octets ≡ text
-unfolding is
+is-in : (octets text : List ℕ) → same_octets octets text ≡ true → octets ≡ text
+unfolding same_octets
 is-in octets text h = same_text octets text (sym h)
 
-is-out : (octets text : List ℕ) → octets ≡ text → is octets text ≡ true
-unfolding is
+is-out : (octets text : List ℕ) → octets ≡ text → same_octets octets text ≡ true
+unfolding same_octets
 is-out octets text e = rw e (nat_list_eq_equiv.refl text)
 
 -- what follows a text
-behind-in : (text octets rest : List ℕ) → behind text octets ≡ Some rest → octets ≡ text ++ rest
-unfolding behind
+behind-in : (text octets rest : List ℕ) → behind_text text octets ≡ Some rest → octets ≡ text ++ rest
+unfolding behind_text
 behind-in text octets rest h =
     let found = only-in _ _ rest h in
     let front : text ≡ take (length text) octets = same_text text (take (length text) octets) (sym found.0) in
     let back : drop (length text) octets ≡ rest = some-in (drop (length text) octets) rest found.1 in
     sym (take-append-drop (length text) octets) ∙ ap (λ (l : List ℕ). l ++ drop (length text) octets) (sym front) ∙ ap (λ (l : List ℕ). text ++ l) back
 
-behind-out : (text octets rest : List ℕ) → octets ≡ text ++ rest → behind text octets ≡ Some rest
-unfolding behind
+behind-out : (text octets rest : List ℕ) → octets ≡ text ++ rest → behind_text text octets ≡ Some rest
+unfolding behind_text
 behind-out text octets rest e =
     let front : take (length text) octets ≡ text = rw e (take-append_seam text rest) in
     let back : drop (length text) octets ≡ rest = rw e (drop-append_seam text rest) in
     if-out (starts_with nat_eq octets text) (Some (drop (length text) octets)) None rest (rw front (nat_list_eq_equiv.refl text)) (ap (λ (l : List ℕ). Some l) back)
 
-behind-none : (text octets : List ℕ) → starts_with nat_eq octets text ≡ false → behind text octets ≡ None
-unfolding behind
+behind-none : (text octets : List ℕ) → starts_with nat_eq octets text ≡ false → behind_text text octets ≡ None
+unfolding behind_text
 behind-none text octets e = rw e refl
 
 -- the next octets
@@ -203,7 +203,7 @@ descriptor-in : (kind : Kind) (octets rest : List ℕ) → behind_descriptor kin
 unfolding behind_descriptor
 descriptor-in kind octets rest h = one (or-in _ _ rest h)
   where
-    three : (behind (0xa3 ∷ length kind.1 ∷ kind.1) octets ≡ Some rest) ⊎ (behind (0xb3 ∷ to_be_bytes w32 (length kind.1) ++ kind.1) octets ≡ Some rest) → AfterDescriptor kind.0 kind.1 octets rest
+    three : (behind_text (0xa3 ∷ length kind.1 ∷ kind.1) octets ≡ Some rest) ⊎ (behind_text (0xb3 ∷ to_be_bytes w32 (length kind.1) ++ kind.1) octets ≡ Some rest) → AfterDescriptor kind.0 kind.1 octets rest
     three (inl e) = name-found kind.0 kind.1 octets rest (behind-in (0xa3 ∷ length kind.1 ∷ kind.1) octets rest e)
     three (inr e) = record {
       spelling = 0xb3 ∷ to_be_bytes w32 (length kind.1) ++ kind.1;
@@ -211,11 +211,11 @@ descriptor-in kind octets rest h = one (or-in _ _ rest h)
       front = behind-in (0xb3 ∷ to_be_bytes w32 (length kind.1) ++ kind.1) octets rest e;
     }
 
-    two : (behind (0x80 ∷ to_be_bytes w64 kind.0) octets ≡ Some rest) ⊎ (option_or (behind (0xa3 ∷ length kind.1 ∷ kind.1) octets) (behind (0xb3 ∷ to_be_bytes w32 (length kind.1) ++ kind.1) octets) ≡ Some rest) → AfterDescriptor kind.0 kind.1 octets rest
+    two : (behind_text (0x80 ∷ to_be_bytes w64 kind.0) octets ≡ Some rest) ⊎ (option_or (behind_text (0xa3 ∷ length kind.1 ∷ kind.1) octets) (behind_text (0xb3 ∷ to_be_bytes w32 (length kind.1) ++ kind.1) octets) ≡ Some rest) → AfterDescriptor kind.0 kind.1 octets rest
     two (inl e) = number-found kind.0 kind.1 octets rest (behind-in (0x80 ∷ to_be_bytes w64 kind.0) octets rest e)
     two (inr e) = three (or-in _ _ rest e)
 
-    one : (behind (0x53 ∷ kind.0 ∷ []) octets ≡ Some rest) ⊎ (option_or (behind (0x80 ∷ to_be_bytes w64 kind.0) octets) (option_or (behind (0xa3 ∷ length kind.1 ∷ kind.1) octets) (behind (0xb3 ∷ to_be_bytes w32 (length kind.1) ++ kind.1) octets)) ≡ Some rest) → AfterDescriptor kind.0 kind.1 octets rest
+    one : (behind_text (0x53 ∷ kind.0 ∷ []) octets ≡ Some rest) ⊎ (option_or (behind_text (0x80 ∷ to_be_bytes w64 kind.0) octets) (option_or (behind_text (0xa3 ∷ length kind.1 ∷ kind.1) octets) (behind_text (0xb3 ∷ to_be_bytes w32 (length kind.1) ++ kind.1) octets)) ≡ Some rest) → AfterDescriptor kind.0 kind.1 octets rest
     one (inl e) = octet-found kind.0 kind.1 octets rest (behind-in (0x53 ∷ kind.0 ∷ []) octets rest e)
     one (inr e) = two (or-in _ _ rest e)
 
@@ -317,7 +317,7 @@ list-in : (octets : List ℕ) (found : ℕ × List ℕ × List ℕ) → list_at 
 unfolding list_at
 list-in octets found h = one (or-in _ _ found h)
   where
-    two : (and_then (behind (0xc0 ∷ []) octets) (sized_list octet_at 1) ≡ Some found) ⊎ (and_then (behind (0xd0 ∷ []) octets) (sized_list number_at 4) ≡ Some found) → FoundList octets found
+    two : (and_then (behind_text (0xc0 ∷ []) octets) (sized_list octet_at 1) ≡ Some found) ⊎ (and_then (behind_text (0xd0 ∷ []) octets) (sized_list number_at 4) ≡ Some found) → FoundList octets found
     two (inl e) =
         let code = and-in _ _ found e in
         let l = sized_list-in octet_at 1 code.0 found code.2 in
@@ -328,7 +328,7 @@ list-in octets found h = one (or-in _ _ found h)
         let l = sized_list-in number_at 4 code.0 found code.2 in
         long-listed octets (λ x f. apart 0x45 0xd0 _ _ octets refl f begins) (λ x f. apart 0xc0 0xd0 _ _ octets refl f begins) code.0 l.counted l.others l.size l.count (Some found) begins (number-in code.0 (l.size, l.counted) l.first) (number-in l.counted (l.count, l.others) l.second) l.fields
 
-    one : (option_map (λ (others : List ℕ). (0, [], others)) (behind (0x45 ∷ []) octets) ≡ Some found) ⊎ (option_or (and_then (behind (0xc0 ∷ []) octets) (sized_list octet_at 1)) (and_then (behind (0xd0 ∷ []) octets) (sized_list number_at 4)) ≡ Some found) → FoundList octets found
+    one : (option_map (λ (others : List ℕ). (0, [], others)) (behind_text (0x45 ∷ []) octets) ≡ Some found) ⊎ (option_or (and_then (behind_text (0xc0 ∷ []) octets) (sized_list octet_at 1)) (and_then (behind_text (0xd0 ∷ []) octets) (sized_list number_at 4)) ≡ Some found) → FoundList octets found
     one (inl e) =
         let code = map-in _ _ found e in
         subst (FoundList octets) code.2 (list-empty octets code.0 (behind-in (0x45 ∷ []) octets code.0 code.1))
@@ -388,7 +388,7 @@ id-in : (octets : List ℕ) (found : List ℕ × List ℕ) → id_at octets ≡ 
 unfolding id_at
 id-in octets found h = by (or-in _ _ found h)
   where
-    by : (and_then (behind (0xa0 ∷ []) octets) (sized_id octet_at) ≡ Some found) ⊎ (and_then (behind (0xb0 ∷ []) octets) (sized_id number_at) ≡ Some found) → FoundId octets found
+    by : (and_then (behind_text (0xa0 ∷ []) octets) (sized_id octet_at) ≡ Some found) ⊎ (and_then (behind_text (0xb0 ∷ []) octets) (sized_id number_at) ≡ Some found) → FoundId octets found
     by (inl e) =
         let code = and-in _ _ found e in
         let i = sized_id-in octet_at code.0 found code.2 in
@@ -433,30 +433,30 @@ fail-in : (octets : List ℕ) (fail : Option Bool) → fail_of octets ≡ Some f
 unfolding fail_of
 fail-in octets fail h = one (if-in _ _ _ fail h)
   where
-    spelled : (said : Option Bool) (text : List ℕ) → IsFail said text → is octets text ≡ true → Some said ≡ Some fail → IsFail fail octets
+    spelled : (said : Option Bool) (text : List ℕ) → IsFail said text → same_octets octets text ≡ true → Some said ≡ Some fail → IsFail fail octets
     spelled said text f e g = subst (λ (x : Option Bool). IsFail x octets) (some-in said fail g) (subst (IsFail said) (sym (is-in octets text e)) f)
 
-    five : (is octets (0x56 ∷ 0 ∷ []) ≡ true) × (Some (Some false) ≡ Some fail) → IsFail fail octets
+    five : (same_octets octets (0x56 ∷ 0 ∷ []) ≡ true) × (Some (Some false) ≡ Some fail) → IsFail fail octets
     five e = spelled (Some false) (0x56 ∷ 0 ∷ []) long_no e.0 e.1
 
-    four : ((is octets (0x42 ∷ []) ≡ true) × (Some (Some false) ≡ Some fail)) ⊎ ((is octets (0x42 ∷ []) ≡ false) × ((if is octets (0x56 ∷ 0 ∷ []) then Some (Some false) else None) ≡ Some fail)) → IsFail fail octets
+    four : ((same_octets octets (0x42 ∷ []) ≡ true) × (Some (Some false) ≡ Some fail)) ⊎ ((same_octets octets (0x42 ∷ []) ≡ false) × ((if same_octets octets (0x56 ∷ 0 ∷ []) then Some (Some false) else None) ≡ Some fail)) → IsFail fail octets
     four (inl e) = spelled (Some false) (0x42 ∷ []) no e.0 e.1
     four (inr e) = five (only-in _ _ fail e.1)
 
-    three : ((is octets (0x56 ∷ 1 ∷ []) ≡ true) × (Some (Some true) ≡ Some fail)) ⊎ ((is octets (0x56 ∷ 1 ∷ []) ≡ false) × ((if is octets (0x42 ∷ []) then Some (Some false) else (if is octets (0x56 ∷ 0 ∷ []) then Some (Some false) else None)) ≡ Some fail)) → IsFail fail octets
+    three : ((same_octets octets (0x56 ∷ 1 ∷ []) ≡ true) × (Some (Some true) ≡ Some fail)) ⊎ ((same_octets octets (0x56 ∷ 1 ∷ []) ≡ false) × ((if same_octets octets (0x42 ∷ []) then Some (Some false) else (if same_octets octets (0x56 ∷ 0 ∷ []) then Some (Some false) else None)) ≡ Some fail)) → IsFail fail octets
     three (inl e) = spelled (Some true) (0x56 ∷ 1 ∷ []) long_yes e.0 e.1
     three (inr e) = four (if-in _ _ _ fail e.1)
 
-    two : ((is octets (0x41 ∷ []) ≡ true) × (Some (Some true) ≡ Some fail)) ⊎ ((is octets (0x41 ∷ []) ≡ false) × ((if is octets (0x56 ∷ 1 ∷ []) then Some (Some true) else (if is octets (0x42 ∷ []) then Some (Some false) else (if is octets (0x56 ∷ 0 ∷ []) then Some (Some false) else None))) ≡ Some fail)) → IsFail fail octets
+    two : ((same_octets octets (0x41 ∷ []) ≡ true) × (Some (Some true) ≡ Some fail)) ⊎ ((same_octets octets (0x41 ∷ []) ≡ false) × ((if same_octets octets (0x56 ∷ 1 ∷ []) then Some (Some true) else (if same_octets octets (0x42 ∷ []) then Some (Some false) else (if same_octets octets (0x56 ∷ 0 ∷ []) then Some (Some false) else None))) ≡ Some fail)) → IsFail fail octets
     two (inl e) = spelled (Some true) (0x41 ∷ []) yes e.0 e.1
     two (inr e) = three (if-in _ _ _ fail e.1)
 
-    one : ((is octets (0x40 ∷ []) ≡ true) × (Some None ≡ Some fail)) ⊎ ((is octets (0x40 ∷ []) ≡ false) × ((if is octets (0x41 ∷ []) then Some (Some true) else (if is octets (0x56 ∷ 1 ∷ []) then Some (Some true) else (if is octets (0x42 ∷ []) then Some (Some false) else (if is octets (0x56 ∷ 0 ∷ []) then Some (Some false) else None)))) ≡ Some fail)) → IsFail fail octets
+    one : ((same_octets octets (0x40 ∷ []) ≡ true) × (Some None ≡ Some fail)) ⊎ ((same_octets octets (0x40 ∷ []) ≡ false) × ((if same_octets octets (0x41 ∷ []) then Some (Some true) else (if same_octets octets (0x56 ∷ 1 ∷ []) then Some (Some true) else (if same_octets octets (0x42 ∷ []) then Some (Some false) else (if same_octets octets (0x56 ∷ 0 ∷ []) then Some (Some false) else None)))) ≡ Some fail)) → IsFail fail octets
     one (inl e) = spelled None (0x40 ∷ []) unsaid e.0 e.1
     one (inr e) = two (if-in _ _ _ fail e.1)
 
 fail-out : (fail : Option Bool) (octets : List ℕ) → IsFail fail octets → fail_of octets ≡ Some fail
-unfolding fail_of is
+unfolding fail_of same_octets
 fail-out fail octets unsaid = refl
 fail-out fail octets yes = refl
 fail-out fail octets long_yes = refl
@@ -472,7 +472,7 @@ declare-in zero fields id h =
     subst (IsDeclare 0 fields) (some-in None id tested.1) here
 declare-in (suc zero) fields id h = by (if-in _ _ _ id h)
   where
-    by : ((is fields (0x40 ∷ []) ≡ true) × (Some None ≡ Some id)) ⊎ ((is fields (0x40 ∷ []) ≡ false) × (option_map (λ (i : List ℕ). Some i) (id_alone fields) ≡ Some id)) → IsDeclare 1 fields id
+    by : ((same_octets fields (0x40 ∷ []) ≡ true) × (Some None ≡ Some id)) ⊎ ((same_octets fields (0x40 ∷ []) ≡ false) × (option_map (λ (i : List ℕ). Some i) (id_alone fields) ≡ Some id)) → IsDeclare 1 fields id
     by (inl e) =
         let here : IsGlobalId None fields = subst (IsGlobalId None) (sym (is-in fields (0x40 ∷ []) e.0)) null in
         global_id id fields (subst (λ (x : Option (List ℕ)). IsGlobalId x fields) (some-in None id e.1) here)
@@ -481,18 +481,18 @@ declare-in (suc zero) fields id h = by (if-in _ _ _ id h)
         global_id id fields (subst (λ (x : Option (List ℕ)). IsGlobalId x fields) alone.2 (some_id alone.0 fields (alone-in fields alone.0 alone.1)))
 declare-in (suc (suc count)) fields id h = cc
 
-id-not_null : (id octets : List ℕ) → IsId id octets → is octets (0x40 ∷ []) ≡ false
-unfolding is
+id-not_null : (id octets : List ℕ) → IsId id octets → same_octets octets (0x40 ∷ []) ≡ false
+unfolding same_octets
 id-not_null id octets (short i fits) = refl
 id-not_null id octets (long i fits) = refl
 
 global_id-out : (id : Option (List ℕ)) (octets : List ℕ) → IsGlobalId id octets → declare_of 1 octets ≡ Some id
-unfolding declare_of is
+unfolding declare_of same_octets
 global_id-out id octets null = refl
 global_id-out id octets (some_id i o a) = rw (id-not_null i o a) (map-out _ _ i (alone-out o i a))
 
 declare-out : (count : ℕ) (fields : List ℕ) (id : Option (List ℕ)) → IsDeclare count fields id → declare_of count fields ≡ Some id
-unfolding declare_of is
+unfolding declare_of same_octets
 declare-out count fields id no_field = refl
 declare-out count fields id (global_id i f g) = global_id-out i f g
 

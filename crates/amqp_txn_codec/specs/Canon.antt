@@ -2,9 +2,12 @@ use Rattle.std.specs.Prelude.{◌≡◌, ℕ, ◌+◌, Bool, true, false, List, 
 use Rattle.amqp_txn_codec.specs.declared.message.ControlMessageBody.{ControlMessageBody}
 use Rattle.amqp_txn_codec.specs.declared.message.ControlMessageBody.TheVariants as messages
 
--- the body alone, with a list of so many fields: an id, and the octets of the field behind it, if any
+-- the body alone, with a list of so many fields: an id, and the octets of the field behind it, if
+-- any
 unfoldable pub with_id : ℕ → ℕ → List ℕ → List ℕ → List ℕ
-with_id code count id tail = 0 ∷ 0x53 ∷ 0x77 ∷ 0 ∷ 0x53 ∷ code ∷ 0xc0 ∷ (length id + length tail + 3) ∷ count ∷ 0xa0 ∷ length id ∷ (id ++ tail)
+with_id code count id tail =
+    0 ∷ 0x53 ∷ 0x77 ∷ 0 ∷ 0x53 ∷ code ∷ 0xc0 ∷ (length id + length tail + 3) ∷ count ∷
+    0xa0 ∷ length id ∷ (id ++ tail)
 
 -- the canonical spelling of a declare
 unfoldable pub canon_declare : Option (List ℕ) → List ℕ
@@ -17,7 +20,8 @@ canon_discharge id None = with_id 0x32 1 id []
 canon_discharge id (Some true) = with_id 0x32 2 id (0x41 ∷ [])
 canon_discharge id (Some false) = with_id 0x32 2 id (0x42 ∷ [])
 
--- the canonical spelling, the one that is written: no section but the body, and descriptors by the number in one octet
+-- the canonical spelling, the one that is written: no section but the body, and descriptors by the
+-- number in one octet
 abbrev pub canon : ControlMessageBody → List ℕ
 canon (messages.Declare d) = canon_declare d.global_id
 canon (messages.Discharge d) = canon_discharge d.txn_id d.fail

@@ -5,3 +5,4 @@ pub mod Messages
 pub mod Canon
 pub mod Reading
 pub mod Walks
+pub mod Discharges

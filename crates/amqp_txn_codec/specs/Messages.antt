@@ -14,14 +14,25 @@ discharge_list = (0x32, codes "amqp:discharge:list")
 
 -- the octets are the list of this message: 0, its descriptor and the list
 pub data IsMessageList : ControlMessageBody → List ℕ → Type 0 where
-  declare : (descriptor list fields : List ℕ) (count : ℕ) (global_id : Option (List ℕ)) → IsDescriptor declare_list.0 declare_list.1 descriptor → IsList count fields list → IsDeclare count fields global_id → IsMessageList (messages.Declare (record { global_id = global_id })) (0 ∷ descriptor ++ list)
-  discharge : (descriptor list fields : List ℕ) (count : ℕ) (txn_id : List ℕ) (fail : Option Bool) → IsDescriptor discharge_list.0 discharge_list.1 descriptor → IsList count fields list → IsDischarge count fields txn_id fail → IsMessageList (messages.Discharge (record { txn_id = txn_id; fail = fail })) (0 ∷ descriptor ++ list)
+  declare : (descriptor list fields : List ℕ) (count : ℕ) (global_id : Option (List ℕ))
+      → IsDescriptor declare_list.0 declare_list.1 descriptor
+      → IsList count fields list → IsDeclare count fields global_id
+      → IsMessageList (messages.Declare (record { global_id = global_id }))
+      (0 ∷ descriptor ++ list)
+  discharge : (descriptor list fields : List ℕ) (count : ℕ) (txn_id : List ℕ) (fail : Option Bool)
+      → IsDescriptor discharge_list.0 discharge_list.1 descriptor
+      → IsList count fields list → IsDischarge count fields txn_id fail
+      → IsMessageList (messages.Discharge (record { txn_id = txn_id; fail = fail }))
+      (0 ∷ descriptor ++ list)
 
 -- the octets are the body with this message: 0, the descriptor of amqp-value and the message's list
 pub data IsBody : ControlMessageBody → List ℕ → Type 0 where
-  amqp_value : (message : ControlMessageBody) (descriptor list : List ℕ) → IsDescriptor body.0 body.1 descriptor → IsMessageList message list → IsBody message (0 ∷ descriptor ++ list)
+  amqp_value : (message : ControlMessageBody) (descriptor list : List ℕ)
+      → IsDescriptor body.0 body.1 descriptor → IsMessageList message list
+      → IsBody message (0 ∷ descriptor ++ list)
 
--- the octets spell this message: sections that are skipped, the body, and a footer or none (part 3 of the standard, section 3.2)
+-- the octets spell this message: sections that are skipped, the body, and a footer or none (part 3
+-- of the standard, section 3.2)
 pub record SpellsMessage (bytes : List ℕ) (message : ControlMessageBody) : Type 0 where
   pub before : List ℕ
   pub middle : List ℕ

@@ -1,7 +1,8 @@
-use Rattle.std.specs.Prelude.{◌≡◌, ℕ, ◌+◌, ◌/◌, List, [], ◌∷◌, ◌++◌, length, Option, Some, None, if◌then◌else◌, ◌==◌, ◌||◌}
+use Rattle.std.specs.Prelude.{◌≡◌, ℕ, ◌+◌, ◌/◌, ◌≤◌, slice_range, List, [], ◌∷◌, ◌++◌, length, Option, Some, None, if◌then◌else◌, ◌==◌, ◌||◌}
 use Rattle.std.specs.Int.{from_be_bytes, w32}
 
--- what follows a constructor: a fixed number of octets, or a size in one or in four octets and that many octets
+-- what follows a constructor: a fixed number of octets, or a size in one or in four octets and that
+-- many octets
 pub data Width : Type 0 where
   Fixed : ℕ → Width
   OneOctet : Width
@@ -20,12 +21,14 @@ width_of high =
     if high == 10 || high == 12 || high == 14 then OneOctet else
     if high == 11 || high == 13 || high == 15 then FourOctets else NoValue
 
--- how many octets follow a constructor of this width, as far as they say it themselves; a size is big-endian and doesn't count itself
+-- how many octets follow a constructor of this width, as far as they say it themselves; a size is
+-- big-endian and doesn't count itself
 abbrev pub octets_by : Width → List ℕ → Option ℕ
 octets_by (Fixed n) octets = Some n
 octets_by OneOctet [] = None
 octets_by OneOctet (n ∷ octets) = Some (n + 1)
-octets_by FourOctets (a ∷ b ∷ c ∷ d ∷ octets) = Some (from_be_bytes w32 (a ∷ b ∷ c ∷ d ∷ []) + 4)
+octets_by FourOctets (a ∷ b ∷ c ∷ d ∷ octets) =
+    Some (from_be_bytes w32 (a ∷ b ∷ c ∷ d ∷ []) + 4)
 octets_by FourOctets octets = None
 octets_by NoValue octets = None
 
@@ -33,7 +36,15 @@ octets_by NoValue octets = None
 abbrev pub octets_after : ℕ → List ℕ → Option ℕ
 octets_after constructor octets = octets_by (width_of (constructor / 16)) octets
 
--- the octets are one value: a constructor and as many octets as it says, or 0 and two values, the descriptor and what it describes (part 1 of the standard, section 1.2)
+-- the octets are one value: a constructor and as many octets as it says, or 0 and two values, the
+-- descriptor and what it describes (part 1 of the standard, section 1.2)
 pub data IsValue : List ℕ → Type 0 where
-  plain : (constructor : ℕ) (octets : List ℕ) → octets_after constructor octets ≡ Some (length octets) → IsValue (constructor ∷ octets)
-  described : (descriptor value : List ℕ) → IsValue descriptor → IsValue value → IsValue (0 ∷ descriptor ++ value)
+  plain : (constructor : ℕ) (octets : List ℕ)
+      → octets_after constructor octets ≡ Some (length octets) → IsValue (constructor ∷ octets)
+  described : (descriptor value : List ℕ)
+      → IsValue descriptor → IsValue value → IsValue (0 ∷ descriptor ++ value)
+
+-- between these places lies one value
+abbrev pub IsValueBetween : List ℕ → ℕ → ℕ → Type 0
+IsValueBetween octets at end =
+    (at ≤ end) × (end ≤ length octets) × IsValue (slice_range octets at end)

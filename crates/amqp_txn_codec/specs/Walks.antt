@@ -7,7 +7,8 @@ use Rattle.amqp_txn_codec.specs.Sections.{Kind, IsDescriptor, leading, body, foo
 use Rattle.amqp_txn_codec.specs.Fields.{IsId, IsList, IsDeclare, IsDischarge}
 use Rattle.amqp_txn_codec.specs.Messages.{declare_list, discharge_list}
 
--- the same grammar as the code walks it, by what is left behind each part; a law says that it is the grammar of whole octets
+-- the same grammar as the code walks it, by what is left behind each part; a law says that it is
+-- the grammar of whole octets
 
 -- what a reader found is so, and where it found nothing nothing is so
 abbrev pub Finds : {X : Type 0} → (X → Type 0) → Option X → Type 0
@@ -17,7 +18,9 @@ Finds {X} IsSo (Some x) = IsSo x
 -- behind count values at the front, rest is left
 abbrev pub LeavesAfter : ℕ → List ℕ → List ℕ → Type 0
 LeavesAfter zero octets rest = octets ≡ rest
-LeavesAfter (suc count) octets rest = (value others : List ℕ) × (octets ≡ value ++ others) × IsValue value × LeavesAfter count others rest
+LeavesAfter (suc count) octets rest =
+    (value others : List ℕ) × (octets ≡ value ++ others) × IsValue value
+    × LeavesAfter count others rest
 
 -- what is left behind one value of octets is what is left behind count values of later
 pub record IsSameRest (count : ℕ) (later octets : List ℕ) : Type 0 where
@@ -42,7 +45,8 @@ pub record AfterSection (number : ℕ) (name octets rest : List ℕ) : Type 0 wh
 abbrev pub SkipsTo : List Kind → List ℕ → List ℕ → Type 0
 SkipsTo [] octets rest = octets ≡ rest
 SkipsTo (kind ∷ kinds) octets rest =
-    SkipsTo kinds octets rest ⊎ ((mid : List ℕ) × AfterSection kind.0 kind.1 octets mid × SkipsTo kinds mid rest)
+    SkipsTo kinds octets rest
+    ⊎ ((mid : List ℕ) × AfterSection kind.0 kind.1 octets mid × SkipsTo kinds mid rest)
 
 -- a section of this kind begins
 pub record Begins (kind : Kind) (octets : List ℕ) : Type 0 where
@@ -53,7 +57,9 @@ pub record Begins (kind : Kind) (octets : List ℕ) : Type 0 where
 
 -- the section is taken where there is one
 abbrev pub TakesOptional : Kind → List ℕ → List ℕ → Type 0
-TakesOptional kind octets rest = AfterSection kind.0 kind.1 octets rest ⊎ ((rest ≡ octets) × ((other : List ℕ) → AfterSection kind.0 kind.1 octets other → ⊥))
+TakesOptional kind octets rest =
+    AfterSection kind.0 kind.1 octets rest
+    ⊎ ((rest ≡ octets) × ((other : List ℕ) → AfterSection kind.0 kind.1 octets other → ⊥))
 
 -- behind the id at the front, rest is left
 pub record AfterId (octets id rest : List ℕ) : Type 0 where
@@ -95,7 +101,8 @@ FoundList octets found = AfterList octets found.0 found.1 found.2
 
 -- the same behind the list's count, where so many octets of the size are already read
 abbrev pub FoundFields : ℕ → ℕ → ℕ → List ℕ → ℕ × List ℕ × List ℕ → Type 0
-FoundFields size within count octets found = (found.0 ≡ count) × (octets ≡ found.1 ++ found.2) × (length found.1 + within ≡ size)
+FoundFields size within count octets found =
+    (found.0 ≡ count) × (octets ≡ found.1 ++ found.2) × (length found.1 + within ≡ size)
 
 -- the id and the fail of a discharge
 abbrev pub FoundDischarge : ℕ → List ℕ → List ℕ × Option Bool → Type 0
@@ -108,10 +115,12 @@ message_kind false = discharge_list
 
 -- whether a declare's descriptor was found or a discharge's, and the rest
 abbrev pub FoundKind : List ℕ → Bool × List ℕ → Type 0
-FoundKind octets found = AfterDescriptor (message_kind found.0).0 (message_kind found.0).1 octets found.1
+FoundKind octets found =
+    AfterDescriptor (message_kind found.0).0 (message_kind found.0).1 octets found.1
 
 -- behind the body at the front, rest is left; it is the list of a declare or of a discharge
-pub record AfterBody (octets : List ℕ) (declares : Bool) (count : ℕ) (fields rest : List ℕ) : Type 0 where
+pub record AfterBody (octets : List ℕ) (declares : Bool) (count : ℕ) (fields rest : List ℕ)
+    : Type 0 where
   pub inner : List ℕ
   pub value : List ℕ
   pub described : List ℕ
@@ -128,8 +137,13 @@ FoundBody octets found = AfterBody octets found.0 found.1 found.2 found.3
 
 -- the message that the fields give
 pub data GivesMessage : Bool → ℕ → List ℕ → ControlMessageBody → Type 0 where
-  declare : (count : ℕ) (fields : List ℕ) (global_id : Option (List ℕ)) → IsDeclare count fields global_id → GivesMessage true count fields (messages.Declare (record { global_id = global_id }))
-  discharge : (count : ℕ) (fields txn_id : List ℕ) (fail : Option Bool) → IsDischarge count fields txn_id fail → GivesMessage false count fields (messages.Discharge (record { txn_id = txn_id; fail = fail }))
+  declare : (count : ℕ) (fields : List ℕ) (global_id : Option (List ℕ))
+      → IsDeclare count fields global_id
+      → GivesMessage true count fields (messages.Declare (record { global_id = global_id }))
+  discharge : (count : ℕ) (fields txn_id : List ℕ) (fail : Option Bool)
+      → IsDischarge count fields txn_id fail
+      → GivesMessage false count fields
+      (messages.Discharge (record { txn_id = txn_id; fail = fail }))
 
 -- the octets are walked through: the leading sections, the body, and a footer or none
 pub record WalksTo (bytes : List ℕ) (message : ControlMessageBody) : Type 0 where

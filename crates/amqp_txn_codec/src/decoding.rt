@@ -7,7 +7,7 @@ ghost use Rattle.amqp_txn_codec.specs.Reading.{message_of};
 ghost use Rattle.amqp_txn_codec.specs.Sections.{body, footer};
 ghost use Rattle.amqp_txn_codec.specs.Walks.{Finds, AfterDescriptor, SkipsTo, FoundKind, FoundBody, GivesMessage, WalksTo};
 
-use crate::fields::{after_list, declared, discharged, is};
+use crate::fields::{after_list, declared, discharged, same_octets};
 use crate::message::{ControlMessageBody, Declare, Discharge, NotControl};
 use crate::section::{after_descriptor, after_leading, after_optional, after_prefix};
 
@@ -21,9 +21,11 @@ use crate::section::{after_descriptor, after_leading, after_optional, after_pref
 /// the table share one.
 pub fn decode(bytes: &[u8]) -> Result<ControlMessageBody, NotControl>
     // The message is the one that the octets spell by the grammar.
-    ensures exact { (message : ControlMessageBody) → (SpellsMessage bytes.now message ↔ (result ≡ Ok message)) }
+    ensures exact { (message : ControlMessageBody)
+        → (SpellsMessage bytes.now message ↔ (result ≡ Ok message)) }
     // The same by the function that contracts above speak of.
-    ensures message { MatchResult result (λ m. message_of bytes.now ≡ Some m) (λ _. message_of bytes.now ≡ None) }
+    ensures message { MatchResult result
+        (λ m. message_of bytes.now ≡ Some m) (λ _. message_of bytes.now ≡ None) }
 {
     match message_in(bytes) {
         Some(message) => Ok(message),
@@ -44,7 +46,8 @@ fn message_in(bytes: &[u8]) -> Option<ControlMessageBody>
 
 /// Whether the body declares, the count and the octets of its fields, and what follows it.
 fn after_body(octets: &[u8]) -> Option<(bool, u32, &[u8], &[u8])>
-    ensures { Finds (FoundBody octets.now) (option_map (λ found. (found.0, found.1, found.2.now, found.3.now)) result) }
+    ensures { Finds (FoundBody octets.now)
+        (option_map (λ found. (found.0, found.1, found.2.now, found.3.now)) result) }
 {
     let inner = after_prefix(&[0], octets)?;
     let value = after_amqp_value(inner)?;
@@ -62,7 +65,8 @@ fn after_amqp_value(octets: &[u8]) -> Option<&[u8]>
 
 /// Whether the descriptor is that of a declare, or else that of a discharge, and what follows it.
 fn after_kind(octets: &[u8]) -> Option<(bool, &[u8])>
-    ensures { Finds (FoundKind octets.now) (option_map (λ found. (found.0, found.1.now)) result) }
+    ensures { Finds (FoundKind octets.now)
+        (option_map (λ found. (found.0, found.1.now)) result) }
 {
     if let Some(list) = after_descriptor(0x31, b"amqp:declare:list", octets) {
         return Some((true, list));
@@ -75,7 +79,7 @@ fn after_kind(octets: &[u8]) -> Option<(bool, &[u8])>
 fn is_end(octets: &[u8]) -> bool
     ensures { IsTrue result ↔ SkipsTo (footer ∷ []) octets.now [] }
 {
-    is(after_optional(0x78, b"amqp:footer:map", octets), b"")
+    same_octets(after_optional(0x78, b"amqp:footer:map", octets), b"")
 }
 
 fn message_from(declares: bool, count: u32, fields: &[u8]) -> Option<ControlMessageBody>

@@ -12,7 +12,8 @@ use std::alloc::Global;
 fn append(out: &mut [u8], at: usize, octets: &[u8]) -> usize
     requires { at + length octets.now ≤ length out.old }
     ensures place { result ≡ at + length octets.now }
-    ensures after { out.new ≡ take at out.old ++ (octets.now ++ drop (at + length octets.now) out.old) }
+    ensures after { out.new
+        ≡ take at out.old ++ (octets.now ++ drop (at + length octets.now) out.old) }
 {
     let end = at + octets.len();
     out[at..end].copy_from_slice(octets);

@@ -9,7 +9,8 @@ use amqp_txn_types::TransactionId;
 
 /// A number in one octet, and what follows it.
 fn octet_at(octets: &[u8]) -> Option<(u8, &[u8])>
-    ensures { Finds (FoundOctet octets.now) (option_map (λ found. (found.0, found.1.now)) result) }
+    ensures { Finds (FoundOctet octets.now)
+        (option_map (λ found. (found.0, found.1.now)) result) }
 {
     match octets.split_first() {
         Some((first, rest)) => Some((*first, rest)),
@@ -19,7 +20,8 @@ fn octet_at(octets: &[u8]) -> Option<(u8, &[u8])>
 
 /// A number in four octets, big-endian, and what follows it.
 fn number_at(octets: &[u8]) -> Option<(u32, &[u8])>
-    ensures { Finds (FoundNumber octets.now) (option_map (λ found. (found.0, found.1.now)) result) }
+    ensures { Finds (FoundNumber octets.now)
+        (option_map (λ found. (found.0, found.1.now)) result) }
 {
     match octets.split_first_chunk::<4>() {
         Some((first, rest)) => Some((u32::from_be_bytes(*first), rest)),
@@ -28,7 +30,7 @@ fn number_at(octets: &[u8]) -> Option<(u32, &[u8])>
 }
 
 /// Whether the octets are these.
-pub(crate) fn is(octets: &[u8], spelled: &[u8]) -> bool
+pub(crate) fn same_octets(octets: &[u8], spelled: &[u8]) -> bool
     ensures { IsTrue result ↔ (octets.now ≡ spelled.now) }
 {
     octets == spelled
@@ -38,19 +40,19 @@ pub(crate) fn is(octets: &[u8], spelled: &[u8]) -> bool
 fn fail_of(octets: &[u8]) -> Option<Option<bool>>
     ensures { Finds (λ fail. IsFail fail octets.now) result }
 {
-    if is(octets, b"\x40") {
+    if same_octets(octets, b"\x40") {
         return Some(None);
     }
-    if is(octets, b"\x41") {
+    if same_octets(octets, b"\x41") {
         return Some(Some(true));
     }
-    if is(octets, b"\x56\x01") {
+    if same_octets(octets, b"\x56\x01") {
         return Some(Some(true));
     }
-    if is(octets, b"\x42") {
+    if same_octets(octets, b"\x42") {
         return Some(Some(false));
     }
-    if is(octets, b"\x56\x00") {
+    if same_octets(octets, b"\x56\x00") {
         return Some(Some(false));
     }
     None
@@ -58,7 +60,8 @@ fn fail_of(octets: &[u8]) -> Option<Option<bool>>
 
 /// An id of that length, at most 32, and what follows it.
 fn cut_at(len: usize, octets: &[u8]) -> Option<(&[u8], &[u8])>
-    ensures { Finds (FoundCut len octets.now) (option_map (λ found. (found.0.now, found.1.now)) result) }
+    ensures { Finds (FoundCut len octets.now)
+        (option_map (λ found. (found.0.now, found.1.now)) result) }
 {
     if len > 32 || len > octets.len() {
         return None;
@@ -68,7 +71,8 @@ fn cut_at(len: usize, octets: &[u8]) -> Option<(&[u8], &[u8])>
 
 /// The octets of the id at the front, and the rest.
 fn after_id(octets: &[u8]) -> Option<(&[u8], &[u8])>
-    ensures { Finds (FoundId octets.now) (option_map (λ found. (found.0.now, found.1.now)) result) }
+    ensures { Finds (FoundId octets.now)
+        (option_map (λ found. (found.0.now, found.1.now)) result) }
 {
     if let Some(others) = after_prefix(&[0xa0], octets) {
         let (len, others) = octet_at(others)?;
@@ -91,7 +95,8 @@ fn id_of(octets: &[u8]) -> TransactionId
 
 /// The fields of a list and what follows it, where so many octets of its size are the count.
 fn fields_of(size: usize, within: usize, count: u32, octets: &[u8]) -> Option<(u32, &[u8], &[u8])>
-    ensures { Finds (FoundFields size within count octets.now) (option_map (λ found. (found.0, found.1.now, found.2.now)) result) }
+    ensures { Finds (FoundFields size within count octets.now)
+        (option_map (λ found. (found.0, found.1.now, found.2.now)) result) }
 {
     if size < within || size - within > octets.len() {
         return None;
@@ -102,7 +107,8 @@ fn fields_of(size: usize, within: usize, count: u32, octets: &[u8]) -> Option<(u
 
 /// The count and the octets of the fields of a list in any of its forms, and what follows it.
 pub(crate) fn after_list(octets: &[u8]) -> Option<(u32, &[u8], &[u8])>
-    ensures { Finds (FoundList octets.now) (option_map (λ found. (found.0, found.1.now, found.2.now)) result) }
+    ensures { Finds (FoundList octets.now)
+        (option_map (λ found. (found.0, found.1.now, found.2.now)) result) }
 {
     if let Some(rest) = after_prefix(&[0x45], octets) {
         return Some((0, &[], rest));
@@ -123,16 +129,20 @@ pub(crate) fn declared(count: u32, fields: &[u8]) -> Option<Option<TransactionId
     ensures { Finds (IsDeclare count fields.now) result }
 {
     if count == 0 {
-        return if is(fields, b"") { Some(None) } else { None };
+        return if same_octets(fields, b"") {
+            Some(None)
+        } else {
+            None
+        };
     }
     if count != 1 {
         return None;
     }
-    if is(fields, b"\x40") {
+    if same_octets(fields, b"\x40") {
         return Some(None);
     }
     let (octets, rest) = after_id(fields)?;
-    if is(rest, b"") {
+    if same_octets(rest, b"") {
         Some(Some(id_of(octets)))
     } else {
         None
@@ -146,7 +156,7 @@ pub(crate) fn discharged(count: u32, fields: &[u8]) -> Option<(TransactionId, Op
     let (octets, rest) = after_id(fields)?;
     let id = id_of(octets);
     if count == 1 {
-        return if is(rest, b"") {
+        return if same_octets(rest, b"") {
             Some((id, None))
         } else {
             None

@@ -15,12 +15,14 @@ pub fn no_value_begins_another()
 
 /// Octets spell at most one message.
 pub fn octets_spell_one_message()
-    ensures { (bytes : List ℕ) (m l : ControlMessageBody) → SpellsMessage bytes m → SpellsMessage bytes l → m ≡ l }
+    ensures { (bytes : List ℕ) (m l : ControlMessageBody)
+        → SpellsMessage bytes m → SpellsMessage bytes l → m ≡ l }
 {}
 
 /// The message that is read from octets, as a function, is the one that they spell.
 pub fn spelled_messages_are_read()
-    ensures { (bytes : List ℕ) (m : ControlMessageBody) → (SpellsMessage bytes m ↔ (message_of bytes ≡ Some m)) }
+    ensures { (bytes : List ℕ) (m : ControlMessageBody)
+        → (SpellsMessage bytes m ↔ (message_of bytes ≡ Some m)) }
 {}
 
 /// The canonical spelling of a message spells it.
@@ -30,5 +32,7 @@ pub fn canonical_spelling_spells()
 
 /// Octets behind a message that make a longer one are one footer, and the message is the same.
 pub fn only_a_footer_may_follow()
-    ensures { (bytes more : List ℕ) (m l : ControlMessageBody) → SpellsMessage bytes m → SpellsMessage (bytes ++ more) l → (m ≡ l) × IsFooterOrNone more }
+    ensures { (bytes more : List ℕ) (m l : ControlMessageBody)
+        → SpellsMessage bytes m → SpellsMessage (bytes ++ more) l
+        → (m ≡ l) × IsFooterOrNone more }
 {}

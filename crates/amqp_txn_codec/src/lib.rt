@@ -34,5 +34,5 @@ pub use laws::{
     canonical_spelling_spells, no_value_begins_another, octets_spell_one_message,
     only_a_footer_may_follow, spelled_messages_are_read,
 };
-pub use message::{ControlMessageBody, Declare, Discharge, NotControl};
+pub use message::{ControlMessageBody, Declare, Discharge, NotControl, rolls_back};
 pub use value::skip_value;

@@ -1,5 +1,8 @@
 //! The two control messages.
 
+ghost use Rattle.std.specs.Prelude.{◌≡◌};
+ghost use Rattle.amqp_txn_codec.specs.Discharges.{is_rollback};
+
 use amqp_txn_types::TransactionId;
 use thiserror::Error as ThisError;
 
@@ -36,3 +39,15 @@ pub enum ControlMessageBody {
 #[derive(Clone, Copy, Debug, PartialEq, Eq, ThisError)]
 #[error("the octets are no control message")]
 pub struct NotControl;
+
+/// Whether a discharge with this `fail` rolls back; else it commits.
+///
+/// Part 4 of the standard, section 4.5.3 (discharge).
+pub fn rolls_back(fail: Option<bool>) -> bool
+    ensures { result ≡ is_rollback fail }
+{
+    match fail {
+        Some(true) => true,
+        _ => false,
+    }
+}

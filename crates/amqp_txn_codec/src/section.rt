@@ -15,7 +15,8 @@ pub(crate) fn after_prefix<'a>(prefix: &[u8], octets: &'a [u8]) -> Option<&'a [u
 
 /// What follows two prefixes.
 fn after_both<'a>(first: &[u8], second: &[u8], octets: &'a [u8]) -> Option<&'a [u8]>
-    ensures { Finds (λ rest. octets.now ≡ first.now ++ (second.now ++ rest)) (option_copied result) }
+    ensures { Finds (λ rest. octets.now ≡ first.now ++ (second.now ++ rest))
+        (option_copied result) }
 {
     after_prefix(second, after_prefix(first, octets)?)
 }
@@ -62,7 +63,8 @@ pub(crate) fn after_optional<'a>(number: u8, name: &[u8], octets: &'a [u8]) -> &
 /// What follows the sections before the body, each of which may be left out.
 pub(crate) fn after_leading(octets: &[u8]) -> &[u8]
     ensures skips { SkipsTo leading octets.now result.now }
-    ensures only { (rest : List ℕ) → Begins body rest → SkipsTo leading octets.now rest → result.now ≡ rest }
+    ensures only { (rest : List ℕ) → Begins body rest → SkipsTo leading octets.now rest
+        → result.now ≡ rest }
 {
     // Clients leave these sections out, so that the body begins at once.
     if after_prefix(&[0, 0x53, 0x77], octets).is_some() {

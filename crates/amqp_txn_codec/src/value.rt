@@ -1,7 +1,7 @@
 //! Values, of which only the end matters.
 
 ghost use Rattle.std.specs.Prelude.{◌≡◌, ◌<◌, ◌≤◌, List, length, drop, slice_range, IfSome, IfNone, ℕ, option_copied};
-ghost use Rattle.amqp_txn_codec.specs.Values.{octets_after, IsValue};
+ghost use Rattle.amqp_txn_codec.specs.Values.{octets_after, IsValueBetween};
 ghost use Rattle.amqp_txn_codec.specs.Walks.{Finds, LeavesAfter};
 
 /// The place after the value that begins at `at`: a constructor and what its width says, or 0, a
@@ -10,10 +10,14 @@ ghost use Rattle.amqp_txn_codec.specs.Walks.{Finds, LeavesAfter};
 /// Part 1 of the standard, section 1.2 (type encodings). None comes exactly where no value begins
 /// there, or where it doesn't end within `bytes`. It takes no memory, goes over the octets once,
 /// and its stack is constant however deep values lie within values.
+///
+/// # Requires
+///
+/// That `at` is at most the length of `bytes`.
 pub fn skip_value(bytes: &[u8], at: usize) -> Option<usize>
     requires { at ≤ length bytes.now }
-    ensures found { IfSome result (λ end. (at ≤ end) × (end ≤ length bytes.now) × IsValue (slice_range bytes.now at end)) }
-    ensures none { IfNone result ((end : ℕ) → at ≤ end → end ≤ length bytes.now → ¬ IsValue (slice_range bytes.now at end)) }
+    ensures found { IfSome result (IsValueBetween bytes.now at) }
+    ensures none { IfNone result ((end : ℕ) → ¬ IsValueBetween bytes.now at end) }
 {
     let rest = after_value(&bytes[at..])?;
     Some(bytes.len() - rest.len())

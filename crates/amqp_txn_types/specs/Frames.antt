@@ -33,18 +33,18 @@ abbrev pub attaches_coordinator : Attach → Bool
 attaches_coordinator a = targets_coordinator a.target
 
 -- a coordinator attach: the frame that opens a control link (4.2, Declaring a Transaction)
-unfoldable pub coord : Frame → Bool
-coord (frames.Attach a) = attaches_coordinator a
-coord _ = false
+unfoldable pub is_coordinator_attach : Frame → Bool
+is_coordinator_attach (frames.Attach a) = attaches_coordinator a
+is_coordinator_attach _ = false
 
 -- plain, by the id and whether it attaches to a coordinator
-abbrev pub is_plain : Option (List ℕ) → Bool → Bool
-is_plain None coordinator = not coordinator
-is_plain (Some t) coordinator = false
+abbrev pub is_plain_by : Option (List ℕ) → Bool → Bool
+is_plain_by None coordinator = not coordinator
+is_plain_by (Some t) coordinator = false
 
 -- a plain frame: neither under a transaction nor a coordinator attach
-abbrev pub plain : Frame → Bool
-plain f = is_plain (txn f) (coord f)
+abbrev pub is_plain_frame : Frame → Bool
+is_plain_frame f = is_plain_by (txn f) (is_coordinator_attach f)
 
 -- a transfer (part 2, 2.7.5, Transfer)
 abbrev pub is_transfer : Frame → Bool
@@ -77,6 +77,10 @@ is_under_txn _ = false
 -- strip: a frame without its transaction, as it is handed on; a disposition under a transaction
 -- is settled then (4.4.2, retirement), and a frame under none stays as it is
 unfoldable pub stripped : Frame → Frame
-stripped (frames.Transfer transfer payload) = frames.Transfer (record transfer { state = stripped_state transfer.state }) payload
-stripped (frames.Disposition d) = frames.Disposition (record d { state = stripped_state d.state; settled = if is_under_txn d.state then true else d.settled })
+stripped (frames.Transfer transfer payload) =
+    frames.Transfer (record transfer { state = stripped_state transfer.state }) payload
+stripped (frames.Disposition d) = frames.Disposition (record d {
+  state = stripped_state d.state;
+  settled = if is_under_txn d.state then true else d.settled;
+})
 stripped f = f

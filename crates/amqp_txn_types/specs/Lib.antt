@@ -1,3 +1,4 @@
+pub mod Thinly
 pub mod Padded
 pub mod Frames
 pub mod Works
@@ -5,3 +6,6 @@ pub mod Symbols
 pub mod Payloads
 pub mod Binaries
 pub mod Counts
+pub mod Growing
+pub mod Ids
+pub mod Presumptive

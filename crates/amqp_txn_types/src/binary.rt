@@ -11,8 +11,9 @@ use std::marker::Model;
 
 /// A string of octets. Part 1 of the standard, section 1.6.19 (binary).
 ///
-/// One that `from_slice` makes of at most 30 octets stands in place, so that to make or copy it takes no
-/// memory: the tags of deliveries are mostly such ones. `new` and `from_vec` make one in a list.
+/// One that `from_slice` makes of at most 30 octets stands in place, so that to make or copy it
+/// takes no memory: the tags of deliveries are mostly such ones. `new` and `from_vec` make one in a
+/// list.
 #[derive(Debug, Drop)]
 pub struct Binary {
     octets: Octets,
@@ -99,8 +100,8 @@ impl Binary {
         }
     }
 
-    /// Appends the octet; a string in place moves into a list. For want of memory the octet comes back,
-    /// and the string is as it was.
+    /// Appends the octet; a string in place moves into a list. For want of memory the octet comes
+    /// back, and the string is as it was.
     pub fn push(&mut self, octet: u8) -> Result<(), (u8, NoMemory)>
         ensures ok { OnOk result (self.new ≡ self.old ++ octet ∷ []) }
         ensures err { IfErr result (λ refused. (refused.0 ≡ octet) × (self.new ≡ self.old)) }

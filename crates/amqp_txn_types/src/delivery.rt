@@ -1,13 +1,13 @@
 //! Delivery states, outcomes and errors.
 
-use crate::boxed::Boxed;
 use crate::fields::Fields;
 use crate::id::TransactionId;
 use crate::items::{NoMemory, TryClone};
 use crate::small::{AmqpError, ConnectionError, LinkError, SessionError, TransactionError};
 use crate::text::{Symbol, Text};
 
-/// The outcome of a declare: the transaction's id. Part 4 of the standard, section 4.5.5 (declared).
+/// The outcome of a declare: the transaction's id. Part 4 of the standard, section 4.5.5
+/// (declared).
 #[derive(Clone, Copy, Debug, PartialEq)]
 pub struct Declared {
     /// The id that the resource gave.
@@ -39,7 +39,7 @@ impl TryClone for Error {
 #[derive(Debug, Drop, PartialEq)]
 pub struct Rejected {
     /// Why it can't.
-    pub error: Option<Boxed<Error>>,
+    pub error: Option<Error>,
 }
 
 impl TryClone for Rejected {
@@ -58,7 +58,7 @@ pub struct Modified {
     /// Whether the message must not come to this receiver again.
     pub undeliverable_here: Option<bool>,
     /// Annotations to be put in place of those of the message.
-    pub message_annotations: Option<Boxed<Fields>>,
+    pub message_annotations: Option<Fields>,
 }
 
 impl TryClone for Modified {

@@ -1,6 +1,6 @@
 //! Fields in the order of insertion, which a contract sees as a list of pairs.
 
-ghost use Rattle.std.specs.Prelude.{◌≡◌, ◌↔◌, [], length, slice_get, option_map, nat_eq, IsTrue, OnOk, IfErr};
+ghost use Rattle.std.specs.Prelude.{◌≡◌, ◌↔◌, [], length, slice_get, option_map, nat_eq, IsTrue, OnOk, IfOk, IfErr};
 ghost use Rattle.std.specs.Cmp.Lexicographic.{pointwise};
 ghost use Rattle.indexmap.specs.IndexMap.{insert_entry, shift_remove_entry};
 
@@ -10,6 +10,7 @@ use crate::text::{Symbol, Text};
 use indexmap::IndexMap;
 use std::alloc::Global;
 use std::marker::Model;
+use thin::Thin;
 
 /// A value of [`Fields`], as far as these messages need values.
 ///
@@ -50,20 +51,23 @@ impl TryClone for Value {
 ///
 /// Part 2 of the standard, section 2.8.13 (fields). A contract sees it as the list of its pairs,
 /// in order; no two have the same key. Two maps are equal where these lists are, so the order
-/// counts. It keeps the allocator that it was made with.
+/// counts. It is one pointer wide, and keeps the allocator that it was made with.
 #[derive(Debug, Drop)]
 pub struct Fields {
-    map: IndexMap<Symbol, Value>,
+    map: Thin<IndexMap<Symbol, Value>>,
 }
+
+const _: () = prove!(size_of::<Fields>() == 8);
 
 impl Model for Fields {
     ghost use Rattle.std.specs.Prelude.{List};
     ghost use Rattle.amqp_txn_types.specs.declared.text.Symbol.{Symbol};
     ghost use Rattle.amqp_txn_types.specs.declared.fields.Value.{Value as FieldValue};
+    ghost use Rattle.amqp_txn_types.specs.Thinly.{entries_of};
 
     ghost Value = { List (Symbol × FieldValue) };
 
-    ghost view = { λ f. f.map.entries };
+    ghost view = { λ f. entries_of f.map };
 }
 
 impl Fields {
@@ -72,7 +76,7 @@ impl Fields {
         ensures { result ≡ [] }
     {
         Fields {
-            map: IndexMap::new(alloc),
+            map: Thin::none(alloc),
         }
     }
 
@@ -80,21 +84,30 @@ impl Fields {
     pub fn len(&self) -> usize
         ensures { result ≡ length self.now }
     {
-        self.map.len()
+        match self.map.as_ref() {
+            None => 0,
+            Some(map) => map.len(),
+        }
     }
 
     /// Whether there are none.
     pub fn is_empty(&self) -> bool
         ensures { IsTrue result ↔ (self.now ≡ []) }
     {
-        self.map.is_empty()
+        match self.map.as_ref() {
+            None => true,
+            Some(map) => map.is_empty(),
+        }
     }
 
     /// The pair at `index`, counted from 0; `None` from the length on.
     pub fn get(&self, index: usize) -> Option<(&Symbol, &Value)>
         ensures { option_map (λ p. (p.0.now, p.1.now)) result ≡ slice_get self.now index }
     {
-        self.map.get_index(index)
+        match self.map.as_ref() {
+            None => None,
+            Some(map) => map.get_index(index),
+        }
     }
 
     /// Puts the value under the key. A new key goes last; a key that is there keeps its place and
@@ -103,9 +116,19 @@ impl Fields {
         ensures ok { OnOk result (self.new ≡ insert_entry (pointwise nat_eq) self.old key value) }
         ensures err { IfErr result (λ refused. (refused.0 ≡ (key, value)) × (self.new ≡ self.old)) }
     {
-        match self.map.insert(key, value) {
-            Ok(_) => Ok(()),
-            Err(failed) => Err((failed.value, NoMemory)),
+        if self.map.is_none() {
+            let alloc = self.map.allocator();
+            match Thin::some(alloc, IndexMap::new(alloc)) {
+                Ok(map) => self.map = map,
+                Err(_) => return Err(((key, value), NoMemory)),
+            }
+        }
+        match self.map.as_mut() {
+            None => unreachable!(),
+            Some(map) => match map.insert(key, value) {
+                Ok(_) => Ok(()),
+                Err(failed) => Err((failed.value, NoMemory)),
+            },
         }
     }
 
@@ -114,11 +137,14 @@ impl Fields {
     pub fn remove(&mut self, key: &Symbol)
         ensures { self.new ≡ shift_remove_entry (pointwise nat_eq key.now) self.old }
     {
-        let _ = self.map.shift_remove(key);
+        if let Some(map) = self.map.as_mut() {
+            let _ = map.shift_remove(key);
+        }
     }
 
     fn insert_copy(&mut self, key: &Symbol, value: &Value) -> Result<(), NoMemory>
-        ensures { OnOk result (self.new ≡ insert_entry (pointwise nat_eq) self.old key.now value.now) }
+        ensures { OnOk result
+            (self.new ≡ insert_entry (pointwise nat_eq) self.old key.now value.now) }
     {
         match self.insert(key.try_clone()?, value.try_clone()?) {
             Ok(()) => Ok(()),
@@ -129,13 +155,23 @@ impl Fields {
 
 impl TryClone for Fields {
     fn try_clone(&self) -> Result<Self, NoMemory> {
-        let mut copy = Fields::new(*self.map.allocator());
-        for index in 0..self.map.len() {
-            let (key, value) = self.map.get_index(index).unwrap();
-            copy.insert_copy(key, value)?;
+        let alloc = self.map.allocator();
+        match self.map.as_ref() {
+            None => Ok(Fields::new(alloc)),
+            Some(map) => copied(alloc, map),
         }
-        Ok(copy)
     }
+}
+
+fn copied(alloc: Global, map: &IndexMap<Symbol, Value>) -> Result<Fields, NoMemory>
+    ensures { IfOk result (λ copy. copy ≡ map.now.entries) }
+{
+    let mut copy = Fields::new(alloc);
+    for index in 0..map.len() {
+        let (key, value) = map.get_index(index).unwrap();
+        copy.insert_copy(key, value)?;
+    }
+    Ok(copy)
 }
 
 impl PartialEq for Fields {
@@ -146,9 +182,15 @@ impl PartialEq for Fields {
 
     ghost eq = { pointwise (λ p q. pointwise nat_eq p.0 q.0 && ⟦<Value as PartialEq>⟧.eq p.1 q.1) };
 
-    ghost laws = { lists_per (and_per (on_per (λ p. p.0) (partial_equiv_from_equiv nat_list_eq_equiv)) (on_per (λ p. p.1) value_laws.laws-law)) };
+    ghost laws = { lists_per (and_per
+        (on_per (λ p. p.0) (partial_equiv_from_equiv nat_list_eq_equiv))
+        (on_per (λ p. p.1) value_laws.laws-law)) };
 
     fn eq(&self, other: &Self) -> bool {
-        self.map.as_slice() == other.map.as_slice()
+        match (self.map.as_ref(), other.map.as_ref()) {
+            (None, None) => true,
+            (Some(mine), Some(theirs)) => mine.as_slice() == theirs.as_slice(),
+            (Some(map), None) | (None, Some(map)) => map.is_empty(),
+        }
     }
 }

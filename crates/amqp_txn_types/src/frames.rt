@@ -91,6 +91,20 @@ pub fn strip(work: TxnWorkFrame) -> Frame
     }
 }
 
+/// Any frame as [`strip`] leaves it: one that is no frame of transactional work stays as it is.
+#[tactic(auto, unfolding(crate::specs::Frames::stripped))]
+pub fn strip_frame(frame: Frame) -> Frame
+    ensures { result ≡ stripped frame }
+{
+    match frame {
+        Frame::Transfer { transfer, payload } => strip(TxnWorkFrame::Post { transfer, payload }),
+        Frame::Disposition(disposition) => strip(TxnWorkFrame::Retire(disposition)),
+        Frame::Attach(attach) => Frame::Attach(attach),
+        Frame::Flow(flow) => Frame::Flow(flow),
+        Frame::Detach(detach) => Frame::Detach(detach),
+    }
+}
+
 /// The id in the transactional state of a transfer or a disposition; `None` for a frame without
 /// such a state, and for every other frame.
 ///

@@ -28,7 +28,7 @@ pub struct IdTooLong;
 pub struct TransactionId {
     // Zeros past the length.
     octets: [u8; 32],
-    len: usize,
+    len: u32,
 }
 
 impl Model for TransactionId {
@@ -61,7 +61,7 @@ impl TransactionId {
         padded[..len].copy_from_slice(octets);
         Ok(TransactionId {
             octets: padded,
-            len,
+            len: len as u32,
         })
     }
 
@@ -70,7 +70,7 @@ impl TransactionId {
         ensures id { result.now ≡ self.now }
         ensures short { length self.now ≤ 32 }
     {
-        &self.octets[..self.len]
+        &self.octets[..self.len as usize]
     }
 }
 

@@ -1,10 +1,13 @@
 //! Lists that a contract sees as lists, copies that may want memory, and want of memory itself.
 
-ghost use Rattle.std.specs.Prelude.{◌≡◌, ◌↔◌, List, [], ◌∷◌, ◌++◌, length, slice_get, option_copied, IsTrue, OnOk, OnErr, IfOk, IfErr};
+ghost use Rattle.std.specs.Prelude.{◌≡◌, ◌↔◌, List, [], ◌∷◌, ◌++◌, length, slice_get, option_copied, IsTrue, OnOk, OnErr, IfOk, IfErr, ◌<◌, ◌^◌};
+ghost use Rattle.std.specs.Iterator.Runs.{EveryRun, ItemsMapTo};
+ghost use Rattle.std.specs.Slice.Iter.{iter_rest, iter_steps};
 ghost use Rattle.std.specs.Cmp.Lexicographic.{pointwise, lists_per};
 
-use std::alloc::{AllocError, Global};
+use std::alloc::{AllocError, AllocFailed, Global};
 use std::marker::Model;
+use std::slice;
 use thiserror::Error as ThisError;
 
 /// Want of memory: an allocation failed. What was to grow is as it was before.
@@ -14,6 +17,12 @@ pub struct NoMemory;
 
 impl From<AllocError> for NoMemory {
     fn from(_error: AllocError) -> Self {
+        NoMemory
+    }
+}
+
+impl<T: Drop> From<AllocFailed<T>> for NoMemory {
+    fn from(_failed: AllocFailed<T>) -> Self {
         NoMemory
     }
 }
@@ -34,7 +43,10 @@ pub trait TryClone {
 /// `Frames`, `LinkFlows`. It keeps the allocator that it was made with.
 #[derive(Debug, Drop)]
 pub struct Items<T> {
-    /// The items as a vector: open to callers that make room first and push later.
+    /// The items as a vector.
+    ///
+    /// It is open to callers that make room first and push later: a contract that sees the list
+    /// as its items can't speak of its room.
     pub items: Vec<T>,
 }
 
@@ -89,6 +101,16 @@ impl<T> Items<T> {
         self.items.as_slice()
     }
 
+    /// The items, lent one by one in order.
+    pub fn iter(&self) -> slice::Iter<'_, T>
+        ensures rest { iter_rest result ≡ self.now }
+        ensures bound { length (iter_rest result) < 2 ^ 64 }
+        ensures runs { EveryRun (iter_steps {A = T})
+            (λ run. ItemsMapTo run (λ item. item.now) (iter_rest run.from)) }
+    {
+        self.as_slice().iter()
+    }
+
     /// The items, to be moved out one by one.
     pub fn into_vec(self) -> Vec<T>
         ensures { result.items ≡ self }
@@ -106,6 +128,22 @@ impl<T> Items<T> {
         };
         self.items.push_reserved(item);
         Ok(())
+    }
+}
+
+/// `for item in &list` lends the items in order, as [`Items::iter`] does.
+impl<'a, T> IntoIterator for &'a Items<T> {
+    type Item = &'a T;
+
+    type IntoIter = slice::Iter<'a, T>;
+
+    ghost into_iter_gives = { λ list items. (iter_rest items ≡ list.now)
+        × (length (iter_rest items) < 2 ^ 64)
+        × EveryRun (iter_steps {A = T})
+        (λ run. ItemsMapTo run (λ item. item.now) (iter_rest run.from)) };
+
+    fn into_iter(self) -> slice::Iter<'a, T> {
+        self.iter()
     }
 }
 

@@ -23,15 +23,16 @@
 //! let handed = strip(work); // a disposition that is settled and Accepted
 //! ```
 //!
-//! It stands on no other crate of this repository; payloads are over `bytes`, and fields over
-//! `indexmap`. It carries the promise on small types: strip, the frame of a work, the transaction
-//! of a frame and the coordinator attach are exactly their definitions in `specs/`, an id has at
-//! most 32 octets, and a copy equals its original.
+//! It stands on `thin`, which keeps a text, a list of symbols and fields to one pointer each, so
+//! that a frame has at most 248 octets; payloads are over `bytes`, and fields over `indexmap`. It
+//! carries the promise on small types: strip, the frame of a work, the transaction of a frame and
+//! the coordinator attach are exactly their definitions in `specs/`, an id has at most 32 octets,
+//! and a copy equals its original.
 #![tactic(auto)]
 
 mod binary;
-mod boxed;
 mod capability;
+mod counts;
 mod delivery;
 mod fields;
 mod frames;
@@ -39,31 +40,35 @@ mod id;
 mod items;
 mod payload;
 mod performatives;
+mod presumptive;
 mod short_octets;
 mod small;
+mod symbols;
 #[cfg(test)]
 mod tests;
 mod text;
 
 pub use binary::Binary;
-pub use boxed::Boxed;
 pub use capability::TxnCapability;
+pub use counts::{count_refusal, refuse};
 pub use delivery::{
     ConnectionStopReason, Declared, DeliveryState, Error, ErrorCondition, Modified, Outcome,
     Rejected, SessionStopReason, TransactionalState,
 };
 pub use fields::{Fields, Value};
-pub use frames::{TxnWorkFrame, frame_of, is_coordinator, strip, txn_of};
+pub use frames::{TxnWorkFrame, frame_of, is_coordinator, strip, strip_frame, txn_of};
 pub use id::{IdTooLong, TransactionId};
 pub use items::{CallNumbers, Items, NoMemory, TryClone};
 pub use payload::Payload;
 pub use performatives::{
     Attach, Begin, Coordinator, Detach, Disposition, End, Flow, Frame, Frames, LinkEnd, LinkFlow,
-    LinkFlows, LinkFrame, Source, Symbols, Target, TargetArchetype, Transfer,
+    LinkFlows, LinkFrame, Source, Target, TargetArchetype, Transfer,
 };
+pub use presumptive::presumed_disposition;
 pub use small::{
     Accepted, AmqpError, ConnectionError, Handle, IncomingChannel, InputHandle, LinkError,
     OutgoingChannel, OutputHandle, ReceiverSettleMode, Role, SenderSettleMode, SessionError,
     SessionState, Token, TransactionError,
 };
+pub use symbols::Symbols;
 pub use text::{Symbol, Text};

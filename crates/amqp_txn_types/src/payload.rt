@@ -9,12 +9,13 @@ use crate::short_octets::ShortOctets;
 use bytes::Bytes;
 use std::alloc::Global;
 use std::marker::Model;
+use std::sync::Arc;
 
 /// The octets of a message, or of a part of one, as a transfer brings them.
 ///
 /// Part 2 of the standard, section 2.7.5 (transfer). What is in them is the sender's: sections,
-/// by part 3, section 3.2 (message format). A payload never grows. One of at most 30 octets stands in
-/// place, so that a short message takes no memory; a copy of a longer one shares its octets.
+/// by part 3, section 3.2 (message format). A payload never grows. One of at most 30 octets stands
+/// in place, so that a short message takes no memory; a copy of a longer one shares its octets.
 #[derive(Debug, Drop)]
 pub struct Payload {
     octets: Octets,
@@ -24,7 +25,7 @@ pub struct Payload {
 #[derive(Debug, Drop)]
 enum Octets {
     InPlace(ShortOctets),
-    Shared(Bytes),
+    Shared(Arc<Bytes>),
 }
 
 impl Model for Payload {
@@ -42,7 +43,7 @@ impl Payload {
         ensures { result ≡ [] }
     {
         Payload {
-            octets: Octets::Shared(Bytes::new()),
+            octets: Octets::InPlace(ShortOctets::empty()),
         }
     }
 
@@ -52,7 +53,7 @@ impl Payload {
     {
         let octets = match ShortOctets::new(octets) {
             Some(short) => Octets::InPlace(short),
-            None => Octets::Shared(Bytes::copy_from_slice(alloc, octets)?),
+            None => Octets::Shared(Arc::new(alloc, Bytes::copy_from_slice(alloc, octets)?)?),
         };
         Ok(Payload { octets })
     }

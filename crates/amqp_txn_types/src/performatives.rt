@@ -4,16 +4,13 @@
 ghost use Rattle.std.specs.Prelude.{◌≡◌, None};
 
 use crate::binary::Binary;
-use crate::boxed::Boxed;
 use crate::delivery::{DeliveryState, Error};
 use crate::fields::Fields;
 use crate::items::{Items, NoMemory, TryClone};
 use crate::payload::Payload;
 use crate::small::{Handle, InputHandle, OutputHandle, ReceiverSettleMode, Role, SenderSettleMode};
-use crate::text::{Symbol, Text};
-
-/// A list of symbols, as capabilities and outcomes are.
-pub type Symbols = Items<Symbol>;
+use crate::symbols::Symbols;
+use crate::text::Text;
 
 /// A list of frames, as a session sends back.
 pub type Frames = Items<Frame>;
@@ -279,14 +276,14 @@ pub struct Transfer {
     pub more: bool,
     /// When the receiver settles this delivery, if not as the link says.
     pub rcv_settle_mode: Option<ReceiverSettleMode>,
-    /// The delivery's state at its sender.
-    pub state: Option<DeliveryState>,
     /// Whether it resumes an earlier delivery.
     pub resume: bool,
     /// Whether the delivery is given up, and what came of it is to be dropped.
     pub aborted: bool,
     /// Whether the answer may wait for others.
     pub batchable: bool,
+    /// The delivery's state at its sender.
+    pub state: Option<DeliveryState>,
 }
 
 impl TryClone for Transfer {
@@ -299,10 +296,10 @@ impl TryClone for Transfer {
             settled: self.settled,
             more: self.more,
             rcv_settle_mode: self.rcv_settle_mode,
-            state: self.state.try_clone()?,
             resume: self.resume,
             aborted: self.aborted,
             batchable: self.batchable,
+            state: self.state.try_clone()?,
         })
     }
 }
@@ -423,7 +420,7 @@ impl TryClone for TargetArchetype {
 #[derive(Debug, Drop, PartialEq)]
 pub enum Frame {
     /// A link is attached.
-    Attach(Boxed<Attach>),
+    Attach(Attach),
     /// Flow state of the session or of a link.
     Flow(Flow),
     /// A message, or a part of one.
@@ -438,6 +435,9 @@ pub enum Frame {
     /// A link is detached.
     Detach(Detach),
 }
+
+// A frame is moved often, so its size counts.
+const _: () = prove!(size_of::<Frame>() <= 248);
 
 impl TryClone for Frame {
     fn try_clone(&self) -> Result<Self, NoMemory> {

@@ -1,6 +1,6 @@
 //! A few octets in place.
 
-ghost use Rattle.std.specs.Prelude.{◌≡◌, ◌<◌, length, MatchOption};
+ghost use Rattle.std.specs.Prelude.{◌≡◌, ◌<◌, [], length, MatchOption};
 
 use std::marker::Model;
 
@@ -22,6 +22,16 @@ impl Model for ShortOctets {
 }
 
 impl ShortOctets {
+    /// No octets.
+    pub(crate) fn empty() -> Self
+        ensures { result ≡ [] }
+    {
+        ShortOctets {
+            octets: [0; 30],
+            len: 0,
+        }
+    }
+
     /// The octets in place; `None` where there are more than 30.
     pub(crate) fn new(octets: &[u8]) -> Option<Self>
         ensures { MatchOption result (30 < length octets.now) (λ short. short ≡ octets.now) }

@@ -31,7 +31,7 @@ fn error(alloc: Global, condition: ErrorCondition) -> Result<Error, Fail> {
 fn rejected(alloc: Global) -> Result<Rejected, Fail> {
     let condition = ErrorCondition::TransactionError(TransactionError::UnknownId);
     Ok(Rejected {
-        error: Some(Boxed::new(alloc, error(alloc, condition)?)?),
+        error: Some(error(alloc, condition)?),
     })
 }
 
@@ -120,6 +120,18 @@ fn assert_copied<T: TryClone + PartialEq + Drop>(rt: &impl Abort, original: T) -
     Ok(())
 }
 
+fn moves_to_a_thread<T: Send>(_value: &T) {}
+
+fn is_shared_by_threads<T: Sync>(_value: &T) {}
+
+#[test]
+fn a_frame_crosses_threads(rt: HostRuntime) -> Result<(), Fail> {
+    let frame = Frame::Detach(detach(rt.alloc())?);
+    moves_to_a_thread(&frame);
+    is_shared_by_threads(&frame);
+    Ok(())
+}
+
 #[test]
 fn an_id_has_at_most_32_octets(rt: HostRuntime) -> Result<(), Fail> {
     let longest = TransactionId::new(&[9; 32])?;
@@ -135,23 +147,19 @@ fn lists_grow_at_their_end(rt: HostRuntime) -> Result<(), Fail> {
     let mut text = Text::new(rt.alloc());
     assert!(rt; text.is_empty());
     text.push('é')?;
+    text.push('t')?;
     assert_eq!(rt;
         (text.len(), text.get(0), text.as_str()),
-        (2, Some(0xc3), "é")
+        (3, Some(0xc3), "ét")
     );
     let mut symbol = Symbol::new(rt.alloc());
     assert!(rt; symbol.is_empty());
     symbol.push('a')?;
+    symbol.push('b')?;
     assert_eq!(rt;
         (symbol.len(), symbol.get(0), symbol.as_str()),
-        (1, Some(b'a'), "a")
+        (2, Some(b'a'), "ab")
     );
-    let payload = Payload::from_slice(rt.alloc(), b"hi")?;
-    assert_eq!(rt;
-        (payload.len(), payload.get(1), payload.as_slice()),
-        (2, Some(b'i'), b"hi".as_slice())
-    );
-    assert!(rt; Payload::new().is_empty());
     let mut numbers = Items::<u64>::new(rt.alloc());
     assert!(rt; numbers.is_empty());
     numbers.push(3)?;
@@ -160,6 +168,45 @@ fn lists_grow_at_their_end(rt: HostRuntime) -> Result<(), Fail> {
         (1, Some(&3), [3].as_slice())
     );
     assert_copied(&rt, numbers)
+}
+
+#[test]
+fn a_loop_over_a_list_sees_its_items_in_order(rt: HostRuntime) -> Result<(), Fail> {
+    let mut numbers = Items::<u64>::new(rt.alloc());
+    numbers.append(3)?;
+    numbers.append(4)?;
+    let mut seen = Items::<u64>::new(rt.alloc());
+    for number in &numbers {
+        seen.append(*number)?;
+    }
+    assert!(rt; seen == numbers);
+    assert_eq!(rt; numbers.iter().last(), Some(&4));
+    Ok(())
+}
+
+#[test]
+fn symbols_grow_at_their_end(rt: HostRuntime) -> Result<(), Fail> {
+    let mut list = Symbols::new(rt.alloc());
+    assert!(rt; list.is_empty());
+    assert_copied(&rt, list.try_clone()?)?;
+    list.push(Symbol::from_str(rt.alloc(), "a")?)?;
+    list.append(Symbol::from_str(rt.alloc(), "b")?)?;
+    let b = Symbol::from_str(rt.alloc(), "b")?;
+    assert_eq!(rt; (list.len(), list.get(1), list.get(2)), (2, Some(&b), None));
+    assert_copied(&rt, list)
+}
+
+#[test]
+fn a_payload_has_the_octets_it_was_made_of(rt: HostRuntime) -> Result<(), Fail> {
+    let short = Payload::from_slice(rt.alloc(), b"hi")?;
+    assert_eq!(rt;
+        (short.len(), short.get(1), short.as_slice()),
+        (2, Some(b'i'), b"hi".as_slice())
+    );
+    assert!(rt; Payload::new().is_empty());
+    let long = Payload::from_slice(rt.alloc(), &[7; 31])?;
+    assert_eq!(rt; long.as_slice(), [7; 31].as_slice());
+    assert_copied(&rt, long)
 }
 
 #[test]
@@ -197,32 +244,39 @@ fn fields_keep_the_order_of_insertion(rt: HostRuntime) -> Result<(), Fail> {
     assert_eq!(rt; fields.get(0), Some((&a, &Value::Ulong(2))));
     fields.remove(&a);
     assert!(rt; fields.is_empty());
-    Ok(())
-}
-
-fn assert_post_stripped(
-    rt: &impl Abort,
-    alloc: Global,
-    came: Option<DeliveryState>,
-    goes: Option<DeliveryState>,
-) -> Result<(), Fail> {
-    let work = TxnWorkFrame::Post {
-        transfer: transfer(alloc, came)?,
-        payload: Payload::from_slice(alloc, b"hi")?,
-    };
-    let want = Frame::Transfer {
-        transfer: transfer(alloc, goes)?,
-        payload: Payload::from_slice(alloc, b"hi")?,
-    };
-    assert!(rt; strip(work) == want);
+    assert!(rt; fields == Fields::new(rt.alloc()));
     Ok(())
 }
 
 #[test]
+fn every_value_with_memory_is_copied(rt: HostRuntime) -> Result<(), Fail> {
+    let alloc = rt.alloc();
+    assert_copied(&rt, Value::Binary(Binary::from_slice(alloc, &[7; 31])?))?;
+    assert_copied(&rt, Value::Symbol(Symbol::from_str(alloc, "a")?))?;
+    assert_copied(&rt, Value::String(Text::from_str(alloc, "b")?))
+}
+
+fn post(alloc: Global, state: Option<DeliveryState>) -> Result<TxnWorkFrame, Fail> {
+    Ok(TxnWorkFrame::Post {
+        transfer: transfer(alloc, state)?,
+        payload: Payload::from_slice(alloc, b"hi")?,
+    })
+}
+
+#[test]
 fn strip_leaves_a_post_its_outcome(rt: HostRuntime) -> Result<(), Fail> {
-    let accepted = under_txn(Some(Outcome::Accepted))?;
-    assert_post_stripped(&rt, rt.alloc(), accepted, Some(DeliveryState::Accepted))?;
-    assert_post_stripped(&rt, rt.alloc(), under_txn(None)?, None)
+    let came = post(rt.alloc(), under_txn(Some(Outcome::Accepted))?)?;
+    let goes = post(rt.alloc(), Some(DeliveryState::Accepted))?;
+    assert!(rt; strip(came) == frame_of(goes));
+    Ok(())
+}
+
+#[test]
+fn strip_leaves_a_post_without_outcome_no_state(rt: HostRuntime) -> Result<(), Fail> {
+    let came = post(rt.alloc(), under_txn(None)?)?;
+    let goes = post(rt.alloc(), None)?;
+    assert!(rt; strip(came) == frame_of(goes));
+    Ok(())
 }
 
 #[test]
@@ -244,7 +298,7 @@ fn a_copied_attach_has_every_field(rt: HostRuntime) -> Result<(), Fail> {
     let attach = attach(rt.alloc())?;
     assert!(rt; is_coordinator(&attach));
     assert_copied(&rt, LinkFrame::Attach(attach.try_clone()?))?;
-    assert_copied(&rt, Frame::Attach(Boxed::new(rt.alloc(), attach)?))
+    assert_copied(&rt, Frame::Attach(attach))
 }
 
 #[test]
@@ -313,7 +367,7 @@ fn every_state_is_copied(rt: HostRuntime) -> Result<(), Fail> {
     let modified = Modified {
         delivery_failed: Some(true),
         undeliverable_here: Some(true),
-        message_annotations: Some(Boxed::new(alloc, fields(alloc)?)?),
+        message_annotations: Some(fields(alloc)?),
     };
     for outcome in [
         Outcome::Accepted,
@@ -356,6 +410,23 @@ fn every_reason_is_copied(rt: HostRuntime) -> Result<(), Fail> {
 }
 
 #[test]
+fn every_reason_with_an_error_is_copied(rt: HostRuntime) -> Result<(), Fail> {
+    let alloc = rt.alloc();
+    let why = error(
+        alloc,
+        ErrorCondition::SessionError(SessionError::HandleInUse),
+    )?;
+    let closed = ConnectionStopReason::RemoteClosedWithError(why.try_clone()?);
+    assert_copied(&rt, SessionStopReason::ConnectionStopped(closed))?;
+    assert_copied(&rt, SessionStopReason::EndedWithError(why.try_clone()?))?;
+    assert_copied(
+        &rt,
+        SessionStopReason::RemoteEndedWithError(why.try_clone()?),
+    )?;
+    assert_copied(&rt, End { error: Some(why) })
+}
+
+#[test]
 fn texts_are_those_of_the_standard(rt: HostRuntime) -> Result<(), Fail> {
     for (capability, want) in [
         (TxnCapability::LocalTransactions, "amqp:local-transactions"),
@@ -372,18 +443,32 @@ fn texts_are_those_of_the_standard(rt: HostRuntime) -> Result<(), Fail> {
     ] {
         assert_eq!(rt; capability.to_symbol(rt.alloc())?.as_str(), want);
     }
-    for (error, want) in [
-        (TransactionError::UnknownId, "amqp:transaction:unknown-id"),
-        (TransactionError::Rollback, "amqp:transaction:rollback"),
-        (TransactionError::Timeout, "amqp:transaction:timeout"),
+    Ok(())
+}
+
+#[test]
+fn errors_print_these_texts(rt: HostRuntime) -> Result<(), Fail> {
+    let alloc = rt.alloc();
+    for (text, want) in [
+        (format!(in alloc; "{NoMemory}")?, "out of memory"),
+        (
+            format!(in alloc; "{IdTooLong}")?,
+            "a transaction id has at most 32 octets",
+        ),
+        (
+            format!(in alloc; "{}", TransactionError::UnknownId)?,
+            "amqp:transaction:unknown-id",
+        ),
+        (
+            format!(in alloc; "{}", TransactionError::Rollback)?,
+            "amqp:transaction:rollback",
+        ),
+        (
+            format!(in alloc; "{}", TransactionError::Timeout)?,
+            "amqp:transaction:timeout",
+        ),
     ] {
-        assert_eq!(rt; format!(in rt.alloc(); "{error}")?.as_str(), want);
+        assert_eq!(rt; text.as_str(), want);
     }
-    assert_eq!(rt;
-        format!(in rt.alloc(); "{NoMemory}")?.as_str(),
-        "out of memory"
-    );
-    let text = format!(in rt.alloc(); "{IdTooLong}")?;
-    assert_eq!(rt; text.as_str(), "a transaction id has at most 32 octets");
     Ok(())
 }

@@ -10,23 +10,30 @@ ghost use Rattle.std.proofs.Common.{rules};
 
 use crate::items::{NoMemory, TryClone};
 use std::alloc::Global;
+use std::fmt;
 use std::hash::{Hash, Hasher};
 use std::marker::Model;
+use thin::Thin;
 
 /// A text, which a contract sees as its octets in UTF-8.
 ///
 /// Part 1 of the standard, section 1.6.20 (string). Lengths and places are in octets. Two texts
-/// are equal where their octets are; nothing is normalised. It keeps the allocator that it was
-/// made with.
-#[derive(Debug, Drop)]
+/// are equal where their octets are; nothing is normalised. It is one pointer wide, and keeps the
+/// allocator that it was made with.
+#[derive(Drop)]
 pub struct Text {
-    text: String,
+    text: Thin<String>,
 }
 
+const _: () = prove!(size_of::<Text>() == 8);
+
 impl Model for Text {
+    ghost use Rattle.std.specs.Prelude.{List, ℕ};
+    ghost use Rattle.amqp_txn_types.specs.Thinly.{bytes_of};
+
     ghost Value = { List ℕ };
 
-    ghost view = { λ t. string_bytes t.text };
+    ghost view = { λ t. bytes_of t.text };
 }
 
 impl Text {
@@ -35,45 +42,51 @@ impl Text {
         ensures { result ≡ [] }
     {
         Text {
-            text: String::new(alloc),
+            text: Thin::none(alloc),
         }
     }
 
-    /// A copy of the text. The only error is want of memory.
+    /// A copy of the text, which takes no memory where it is empty. The only error is want of
+    /// memory.
     pub fn from_str(alloc: Global, text: &str) -> Result<Self, NoMemory>
         ensures { IfOk result (λ t. t ≡ text.now) }
     {
-        Ok(Text {
-            text: String::from_str(alloc, text)?,
-        })
+        if text.is_empty() {
+            return Ok(Text::new(alloc));
+        }
+        let text = Thin::some(alloc, String::from_str(alloc, text)?)?;
+        Ok(Text { text })
     }
 
     /// How many octets the text has in UTF-8.
     pub fn len(&self) -> usize
         ensures { result ≡ length self.now }
     {
-        self.text.len()
+        self.as_str().len()
     }
 
     /// Whether the text is empty.
     pub fn is_empty(&self) -> bool
         ensures { IsTrue result ↔ (self.now ≡ []) }
     {
-        self.text.is_empty()
+        self.as_str().is_empty()
     }
 
     /// The octet at `index`, counted from 0; `None` from the length on.
     pub fn get(&self, index: usize) -> Option<u8>
         ensures { result ≡ slice_get self.now index }
     {
-        self.text.as_bytes().get(index).copied()
+        self.as_str().as_bytes().get(index).copied()
     }
 
     /// The text as a string slice.
     pub fn as_str(&self) -> &str
         ensures { result.now ≡ self.now }
     {
-        self.text.as_str()
+        match self.text.as_ref() {
+            None => "",
+            Some(text) => text.as_str(),
+        }
     }
 
     /// Appends the character, which takes one to four octets. For want of memory the character
@@ -82,18 +95,34 @@ impl Text {
         ensures ok { OnOk result (self.new ≡ self.old ++ encode_utf8 item) }
         ensures err { IfErr result (λ refused. (refused.0 ≡ item) × (self.new ≡ self.old)) }
     {
-        match self.text.push(item) {
-            Ok(()) => Ok(()),
-            Err(_) => Err((item, NoMemory)),
+        if self.text.is_none() {
+            let alloc = self.text.allocator();
+            match Thin::some(alloc, String::new(alloc)) {
+                Ok(text) => self.text = text,
+                Err(_) => return Err((item, NoMemory)),
+            }
         }
+        match self.text.as_mut() {
+            None => unreachable!(),
+            Some(text) => match text.push(item) {
+                Ok(()) => Ok(()),
+                Err(_) => Err((item, NoMemory)),
+            },
+        }
+    }
+}
+
+impl fmt::Debug for Text {
+    fn fmt<W: fmt::Write>(&self, f: &mut fmt::Formatter<W>) -> fmt::Result {
+        f.debug_struct("Text")
+            .field("text", &self.as_str())
+            .finish()
     }
 }
 
 impl TryClone for Text {
     fn try_clone(&self) -> Result<Self, NoMemory> {
-        Ok(Text {
-            text: self.text.clone()?,
-        })
+        Text::from_str(self.text.allocator(), self.as_str())
     }
 }
 

@@ -4,26 +4,24 @@
 //! The stored standard input has a line for each payload: its octets in hexadecimal digits, the
 //! answer, the client that made it, and where it leaves the grammar, with a tab between them. The
 //! octets were recorded from qpid-proton 0.37.0, uamqp 1.5.3, the AMQP part of the Azure SDK for
-//! Python (`_pyamqp`, 20230112) and RabbitMQ 3.10.8, some on the wire and some from the client's own
-//! encoder; the answers were read off part 4 of the standard, by hand. A line that begins with `#`
-//! is a comment.
+//! Python (`_pyamqp`, 20230112) and RabbitMQ 3.10.8, some on the wire and some from the client's
+//! own encoder; the answers were read off part 4 of the standard, by hand. A line that begins with
+//! `#` is a comment.
 #![tactic(auto)]
 
 mod answer;
 mod row;
+#[cfg(test)]
+mod tests;
 
-use crate::row::{RowError, is_right, row_of};
+use crate::row::{RowError, is_line_right};
 use std::alloc::{Alloc, Global};
 use std::io::{self, Input, Print};
 use std::process::ExitCode;
 
 /// Prints how this row fares, and gives whether it is right.
-fn told(rt: &(impl Print + Alloc<A = Global>), number: u32, line: &str) -> io::Result<bool> {
-    let alloc = rt.alloc();
-    let right = match row_of(alloc, line) {
-        Ok(row) => is_right(alloc, &row),
-        Err(error) => Err(error),
-    };
+fn print_row(rt: &(impl Print + Alloc<A = Global>), number: u32, line: &str) -> io::Result<bool> {
+    let right = is_line_right(rt.alloc(), line);
     match right {
         Ok(true) => println!(rt; "{number} right")?,
         Ok(false) => println!(rt; "{number} wrong")?,
@@ -33,7 +31,8 @@ fn told(rt: &(impl Print + Alloc<A = Global>), number: u32, line: &str) -> io::R
     Ok(matches!(right, Ok(true)))
 }
 
-fn all_told(rt: &(impl Input + Print + Alloc<A = Global>)) -> io::Result<bool> {
+/// Prints how each row fares and how many are wrong, and gives whether none is.
+fn print_rows(rt: &(impl Input + Print + Alloc<A = Global>)) -> io::Result<bool> {
     let mut number = 0u32;
     let mut wrong = 0u32;
     for line in rt.lines(rt.alloc()) {
@@ -42,7 +41,7 @@ fn all_told(rt: &(impl Input + Print + Alloc<A = Global>)) -> io::Result<bool> {
             continue;
         }
         number = number.saturating_add(1);
-        if !told(rt, number, line.as_str())? {
+        if !print_row(rt, number, line.as_str())? {
             wrong = wrong.saturating_add(1);
         }
     }
@@ -51,7 +50,7 @@ fn all_told(rt: &(impl Input + Print + Alloc<A = Global>)) -> io::Result<bool> {
 }
 
 fn main(rt: HostRuntime) -> io::Result<ExitCode> {
-    if all_told(&rt)? {
+    if print_rows(&rt)? {
         Ok(ExitCode::SUCCESS)
     } else {
         Ok(ExitCode::FAILURE)

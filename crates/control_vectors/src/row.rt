@@ -1,8 +1,7 @@
 //! A row: a payload, and the answer that it must get.
 
-ghost use Rattle.std.specs.Prelude.{◌≡◌, ◌↔◌, IfOk, IsTrue};
-ghost use Rattle.amqp_txn_codec.specs.Reading.{message_of};
-ghost use Rattle.control_vectors.specs.Answers.{answer_words};
+ghost use Rattle.std.specs.Prelude.{◌↔◌, IfOk, IsTrue};
+ghost use Rattle.control_vectors.specs.Answers.{IsAnswer};
 
 use crate::answer::answer_of;
 use hex::FromHexError;
@@ -51,9 +50,18 @@ pub fn row_of(alloc: Global, line: &str) -> Result<Row<'_>, RowError> {
     }
 }
 
+/// Whether `decode` gives the payload of the line's row the answer that the row states.
+pub fn is_line_right(alloc: Global, line: &str) -> Result<bool, RowError> {
+    match row_of(alloc, line) {
+        Ok(row) => is_right(alloc, &row),
+        Err(error) => Err(error),
+    }
+}
+
 /// Whether `decode` gives the payload the stated answer.
 pub fn is_right(alloc: Global, row: &Row) -> Result<bool, RowError>
-    ensures { IfOk result (λ right. IsTrue right ↔ (answer_words (message_of row.now.payload.items) ≡ row.now.stated.now)) }
+    ensures { IfOk result
+        (λ right. IsTrue right ↔ IsAnswer row.now.payload.items row.now.stated.now) }
 {
     let answer = answer_of(alloc, row.payload.as_slice())?;
     Ok(answer.as_str() == row.stated)

@@ -1,0 +1,4 @@
+pub mod Slot
+pub mod Lends
+pub mod Thin
+pub mod Values
