@@ -1,70 +1,22 @@
-//! The outsides that a transactional session works on, as traits, and plain bodies of them.
+//! The outsides that a transactional session works on, under one name.
 //!
-//! | trait | is | bodies here |
+//! | items | are | from |
 //! |---|---|---|
-//! | [`LayerBelow`] | the session or listener that takes the frames which are handed on | [`OpenSession`], [`Recorder`], [`PlainSession`] |
-//! | [`Session`] | a layer with links that begins and ends | [`PlainSession`] |
-//! | [`HandleDeclare`], [`HandleDischarge`] | the transactional calls of a session | [`PlainSession`], which does no transactions |
-//! | [`IdSource`] | where the ids of declares come from | |
-//! | [`ByteSource`], [`ByteSink`] | where octets come from and go | [`SureSource`], [`SureSink`] |
+//! | [`LayerBelow`], [`Recorder`], [`OpenSession`], [`take_frame`] | what takes the frames that are handed on | `amqp_layer` |
+//! | [`Session`], [`HandleDeclare`], [`HandleDischarge`], [`PlainSession`] | sessions with links, and their transactional calls | `amqp_sessions` |
+//! | [`IdSource`], [`Drawn`], [`ListIds`], [`CountIds`] | where the ids of declares come from | `amqp_ids` |
+//! | [`ByteSource`], [`ByteSink`], [`SureSource`], [`SureSink`] | where octets come from and go | `amqp_streams` |
 //!
-//! A layer below tells, in contracts, what it took, opened and refused, and a count of its refusals;
-//! each of its calls says what it adds to them. What stands above is proved over every such layer.
-//! A [`Recorder`] tells all three lists over any layer in it:
-//!
-//! ```text
-//! let mut below = Recorder::new(alloc, OpenSession::new(alloc));
-//! let given = below.on_incoming_transfer(transfer, payload)?;
-//! assert_eq!(below.exchanges().len(), 1);
-//! ```
-//!
-//! A [`PlainSession`] keeps links by name, by input handle and by output handle; that the three agree
-//! is an invariant of the type that holds them.
-//!
-//! Below stand the types of `amqp_txn_types`. The promise that this crate carries: a recorder's
-//! exchanges are the pairs of the calls of the layer in it that were Ok, in order, but for those whose
-//! given frames it couldn't copy, which it answers with `NoMemory`. 'The standard' is OASIS AMQP 1.0.
+//! This crate has nothing of its own: it passes these on, and their definitions too.
 #![tactic(auto)]
 
-mod answers;
-mod call_numbers;
-mod drawn;
-mod ids;
-mod incoming;
-mod inner_error;
-mod layer;
-mod link_frames;
-mod links;
-mod numbers;
-mod open;
-mod plain_session;
-#[cfg(test)]
-mod plain_tests;
-mod recorder;
-mod refusal;
-mod relay;
-mod session;
-mod session_errors;
-mod sink;
-mod source;
-mod state_moves;
-#[cfg(test)]
-mod tests;
-mod transacting;
-
-pub use answers::{Answers, Echoes};
-pub use drawn::Drawn;
-pub use ids::IdSource;
-pub use incoming::on_incoming_frame;
-pub use inner_error::SessionInnerError;
-pub use layer::LayerBelow;
-pub use open::OpenSession;
-pub use plain_session::PlainSession;
-pub use recorder::Recorder;
-pub use refusal::{Exchanges, Openings, Refusal, Refusals};
-pub use relay::{NameState, Relay};
-pub use session::Session;
-pub use session_errors::{AllocLinkError, BeginError};
-pub use sink::{ByteSink, SureSink};
-pub use source::{ByteSource, Failed, SureSource};
-pub use transacting::{AllocTxnIdError, CommitFault, HandleDeclare, HandleDischarge};
+pub use amqp_ids::{CountIds, Drawn, IdSource, ListIds, numbered_id};
+pub use amqp_layer::{
+    Answers, Echoes, Exchanges, LayerBelow, OpenSession, Openings, Recorder, Refusal, Refusals,
+    SessionInnerError, TakeError, Tells, check_given, on_incoming_frame, take_frame,
+};
+pub use amqp_sessions::{
+    AllocLinkError, AllocTxnIdError, BeginError, CommitFault, HandleDeclare, HandleDischarge,
+    NameState, PlainSession, Relay, Session,
+};
+pub use amqp_streams::{ByteSink, ByteSource, Failed, SureSink, SureSource};

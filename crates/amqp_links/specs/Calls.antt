@@ -4,24 +4,19 @@ use Rattle.std.specs.List.{list_any}
 use Rattle.amqp_links.specs.declared.calls.Calls.{Calls}
 use Rattle.amqp_links.specs.declared.poll.Poll.{Poll}
 use Rattle.amqp_links.specs.declared.poll.Poll.TheVariants as polls
-use Rattle.amqp_txn_types.specs.Counts.{counted}
+use Rattle.amqp_txn_types.specs.Counts.{one_more}
 
 -- the next call is to fail: its number is in the list
 unfoldable pub is_failing : Calls → Bool
-is_failing calls = list_any (λ number. number == counted calls.made) calls.failing
+is_failing calls = list_any (λ number. number == one_more calls.made) calls.failing
 
 -- one more fault
 abbrev pub faulted : Calls → Calls
-faulted calls = record calls { faults = counted calls.faults }
+faulted calls = record calls { faults = one_more calls.faults }
 
 -- one more call
 abbrev pub called : Calls → Calls
-called calls = record calls { made = counted calls.made }
-
--- one more call, and one more fault where it fails
-abbrev pub begun : Bool → Calls → Calls
-begun true calls = faulted (called calls)
-begun false calls = called calls
+called calls = record calls { made = one_more calls.made }
 
 -- after a call, by its answer: an Err is a fault
 abbrev pub after_call : {T E : Type 0} → Calls → Result T E → Calls
@@ -38,3 +33,9 @@ abbrev pub FailsAsListed : {T E : Type 0} → Bool → E → E → Result T E �
 FailsAsListed true illegal_state no_memory result = result ≡ Err illegal_state
 FailsAsListed false illegal_state no_memory (Ok answer) = Unit {0}
 FailsAsListed false illegal_state no_memory (Err error) = error ≡ no_memory
+
+-- a call that is to fail has that error, and any other is Ok
+abbrev pub FailsOnlyAsListed : {T E : Type 0} → Bool → E → Result T E → Type 0
+FailsOnlyAsListed true illegal_state result = result ≡ Err illegal_state
+FailsOnlyAsListed false illegal_state (Ok answer) = Unit {0}
+FailsOnlyAsListed false illegal_state (Err error) = ⊥

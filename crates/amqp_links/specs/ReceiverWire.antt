@@ -28,20 +28,45 @@ first_of (delivery ∷ rest) = Some (Ok delivery)
 
 -- what a look finds: IllegalState where the call is to fail, else the first delivery that waits
 abbrev pub ready_on : ReceiverWire → Option (Result Delivery RecvError)
-ready_on wire = if is_failing wire.calls then Some (Err (recv_errors.LinkStateError link_errors.IllegalState)) else first_of wire.deliveries
+ready_on wire =
+    if is_failing wire.calls
+    then Some (Err (recv_errors.LinkStateError link_errors.IllegalState))
+    else first_of wire.deliveries
 
 -- what a wire tells
-abbrev pub told_by_receiver : ReceiverWire → ReceiverTold
-told_by_receiver wire = record { put = wire.put; ready = ready_on wire; properties = wire.properties; faults = wire.calls.faults }
+abbrev pub receiver_tells : ReceiverWire → ReceiverTold
+receiver_tells wire = record {
+  put = wire.put;
+  ready = ready_on wire;
+  properties = wire.properties;
+  faults = wire.calls.faults;
+}
+
+-- a wire with other numbers of calls that are to fail
+abbrev pub with_failing : ReceiverWire → List ℕ → ReceiverWire
+with_failing wire failing = record wire { calls = record wire.calls { failing = failing } }
+
+-- a wire with other properties
+abbrev pub with_properties : ReceiverWire → Properties → ReceiverWire
+with_properties wire properties = record wire { properties = properties }
+
+-- a wire on which one more delivery waits
+abbrev pub delivered : ReceiverWire → Delivery → ReceiverWire
+delivered wire delivery = record wire { deliveries = wire.deliveries ++ delivery ∷ [] }
 
 -- a wire after a message was put, or failed to be
-abbrev pub with_put : ReceiverWire → ReceiverMessage → Result Unit IllegalLinkStateError → ReceiverWire
+abbrev pub with_put : ReceiverWire → ReceiverMessage → Result Unit IllegalLinkStateError
+    → ReceiverWire
 with_put wire message (Ok done) = record wire { put = wire.put ++ message ∷ [] }
 with_put wire message (Err error) = record wire { calls = faulted wire.calls }
 
 -- a wire after a call that puts a message where it is Ok
-abbrev pub after_put : ReceiverWire → ReceiverMessage → Result Unit IllegalLinkStateError → ReceiverWire
-after_put wire message result = record wire { put = put_by wire.put message result; calls = after_call wire.calls result }
+abbrev pub after_put : ReceiverWire → ReceiverMessage → Result Unit IllegalLinkStateError
+    → ReceiverWire
+after_put wire message result = record wire {
+  put = put_by wire.put message result;
+  calls = after_call wire.calls result;
+}
 
 -- a wire after a look: a delivery is given once, and a call that is to fail gives none
 abbrev pub received : ReceiverWire → Poll (Result Delivery RecvError) → ReceiverWire
@@ -57,4 +82,7 @@ credit_by before credit (Err error) = before
 
 -- a wire after its credit was set
 abbrev pub after_credit : ReceiverWire → ℕ → Result Unit IllegalLinkStateError → ReceiverWire
-after_credit wire credit result = record wire { credit = credit_by wire.credit credit result; calls = after_call wire.calls result }
+after_credit wire credit result = record wire {
+  credit = credit_by wire.credit credit result;
+  calls = after_call wire.calls result;
+}

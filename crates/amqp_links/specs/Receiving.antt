@@ -20,7 +20,8 @@ use Rattle.amqp_links.specs.Polls.{polled, OnReadyErr}
 abbrev pub Properties : Type 0
 Properties = Option (List (Symbol × Value))
 
--- what a receiving end tells: what was put, what a look for a delivery finds, its properties, and how often it failed
+-- what a receiving end tells: what was put, what a look for a delivery finds, its properties, and
+-- how often it failed
 pub record ReceiverTold : Type 0 where
   pub put : List ReceiverMessage
   pub ready : Option (Result Delivery RecvError)
@@ -28,31 +29,38 @@ pub record ReceiverTold : Type 0 where
   pub faults : ℕ
 
 -- an Ok adds its message, an Err nothing
-abbrev pub put_by : {T E : Type 0} → List ReceiverMessage → ReceiverMessage → Result T E → List ReceiverMessage
+abbrev pub put_by : {T E : Type 0} → List ReceiverMessage → ReceiverMessage → Result T E
+    → List ReceiverMessage
 put_by put message (Ok done) = put ++ message ∷ []
 put_by put message (Err error) = put
 
 -- a call that puts a message where it is Ok
-pub record Puts (old new : ReceiverTold) (message : ReceiverMessage) (result : Result Unit IllegalLinkStateError) : Type 0 where
+pub record Puts (old new : ReceiverTold) (message : ReceiverMessage)
+    (result : Result Unit IllegalLinkStateError) : Type 0 where
   pub put : new.put ≡ put_by old.put message result
   pub properties : new.properties ≡ old.properties
   pub later : old.faults ≤ new.faults
   pub cause : OnErr result (Rose old.faults new.faults)
 
 -- a disposition of one delivery
-abbrev pub Disposes : ReceiverTold → ReceiverTold → DeliveryInfo → Option Bool → DeliveryState → Result Unit IllegalLinkStateError → Type 0
-Disposes old new delivery settled state result = Puts old new (messages.Disposition delivery settled state) result
+abbrev pub Disposes : ReceiverTold → ReceiverTold → DeliveryInfo → Option Bool → DeliveryState
+    → Result Unit IllegalLinkStateError → Type 0
+Disposes old new delivery settled state result =
+    Puts old new (messages.Disposition delivery settled state) result
 
 -- the properties that a flow says
 abbrev pub included : Bool → Properties → Properties
 included include properties = if include then properties else None
 
 -- a flow
-abbrev pub SendsFlow : ReceiverTold → ReceiverTold → Option ℕ → Option Bool → Bool → Bool → Result Unit IllegalLinkStateError → Type 0
-SendsFlow old new credit drain echo include result = Puts old new (messages.Flow credit drain echo (included include old.properties)) result
+abbrev pub SendsFlow : ReceiverTold → ReceiverTold → Option ℕ → Option Bool → Bool → Bool
+    → Result Unit IllegalLinkStateError → Type 0
+SendsFlow old new credit drain echo include result =
+    Puts old new (messages.Flow credit drain echo (included include old.properties)) result
 
 -- a look for the next delivery
-pub record Receives (old new : ReceiverTold) (result : Poll (Result Delivery RecvError)) : Type 0 where
+pub record Receives (old new : ReceiverTold)
+    (result : Poll (Result Delivery RecvError)) : Type 0 where
   pub given : result ≡ polled old.ready
   pub put : new.put ≡ old.put
   pub properties : new.properties ≡ old.properties
@@ -60,7 +68,8 @@ pub record Receives (old new : ReceiverTold) (result : Poll (Result Delivery Rec
   pub cause : OnReadyErr result (Rose old.faults new.faults)
 
 -- the credit was set
-pub record SetsCredit (old new : ReceiverTold) (result : Result Unit IllegalLinkStateError) : Type 0 where
+pub record SetsCredit (old new : ReceiverTold)
+    (result : Result Unit IllegalLinkStateError) : Type 0 where
   pub put : new.put ≡ old.put
   pub properties : new.properties ≡ old.properties
   pub later : old.faults ≤ new.faults
@@ -73,11 +82,13 @@ pairs_of (Some pairs) = pairs
 
 -- an Ok gives the key its value, an Err changes nothing
 abbrev pub inserted : Properties → Symbol → Value → Result Unit NoMemory → Properties
-inserted properties key value (Ok done) = Some (insert_entry (pointwise nat_eq) (pairs_of properties) key value)
+inserted properties key value (Ok done) =
+    Some (insert_entry (pointwise nat_eq) (pairs_of properties) key value)
 inserted properties key value (Err error) = properties
 
 -- a property was inserted
-pub record Inserts (old new : ReceiverTold) (key : Symbol) (value : Value) (result : Result Unit NoMemory) : Type 0 where
+pub record Inserts (old new : ReceiverTold) (key : Symbol) (value : Value)
+    (result : Result Unit NoMemory) : Type 0 where
   pub put : new.put ≡ old.put
   pub properties : new.properties ≡ inserted old.properties key value result
   pub later : old.faults ≤ new.faults

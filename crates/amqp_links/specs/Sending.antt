@@ -17,7 +17,8 @@ use Rattle.amqp_links.specs.Polls.{polled, OnReadyErr}
 abbrev pub Answer : Type 0
 Answer = Result (Option DeliveryState) LinkStateError
 
--- what a sending end tells: what was put, which answer stands ready under the number of each token, and how often it failed
+-- what a sending end tells: what was put, which answer stands ready under the number of each token,
+-- and how often it failed
 pub record SenderTold : Type 0 where
   pub put : List SentMessage
   pub ready : ℕ → Option Answer
@@ -39,15 +40,30 @@ asks_settled (Some settled) = settled
 
 -- how a message is sent after others: its token is the number of those that were sent unsettled
 abbrev pub sent_after : List SentMessage → Sendable → Sent
-sent_after put sendable = if asks_settled sendable.settled then sendings.Settled else sendings.Unsettled (record { 0 = unsettled_count put })
+sent_after put sendable =
+    if asks_settled sendable.settled
+    then sendings.Settled
+    else sendings.Unsettled (record { 0 = unsettled_count put })
+
+-- a message as it was sent
+abbrev pub as_sent : Sendable → Option DeliveryState → Bool → Sent → SentMessage
+as_sent sendable state batchable sent = record {
+  sendable = sendable;
+  state = state;
+  batchable = batchable;
+  sent = sent;
+}
 
 -- an Ok adds its message, an Err nothing
-abbrev pub put_by_send : List SentMessage → Sendable → Option DeliveryState → Bool → Result Sent SendError → List SentMessage
-put_by_send put sendable state batchable (Ok sent) = put ++ record { sendable = sendable; state = state; batchable = batchable; sent = sent } ∷ []
+abbrev pub put_by_send : List SentMessage → Sendable → Option DeliveryState → Bool
+    → Result Sent SendError → List SentMessage
+put_by_send put sendable state batchable (Ok sent) =
+    put ++ as_sent sendable state batchable sent ∷ []
 put_by_send put sendable state batchable (Err error) = put
 
 -- a send
-pub record Sends (old new : SenderTold) (sendable : Sendable) (state : Option DeliveryState) (batchable : Bool) (result : Result Sent SendError) : Type 0 where
+pub record Sends (old new : SenderTold) (sendable : Sendable) (state : Option DeliveryState)
+    (batchable : Bool) (result : Result Sent SendError) : Type 0 where
   pub put : new.put ≡ put_by_send old.put sendable state batchable result
   pub sent : IfOk result (λ sent. sent ≡ sent_after old.put sendable)
   pub later : old.faults ≤ new.faults

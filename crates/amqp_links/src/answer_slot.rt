@@ -36,7 +36,7 @@ impl AnswerSlot {
     }
 
     /// Gives the answer, where it stands ready.
-    pub(crate) fn take(&mut self) -> Option<Answer>
+    pub(crate) fn give(&mut self) -> Option<Answer>
         ensures given { result ≡ answer_in (Some self.old) }
         ensures after { self.new ≡ emptied_slot self.old }
     {

@@ -1,9 +1,9 @@
 //! The fallible calls of a wire.
 
-ghost use Rattle.std.specs.Prelude.{◌≡◌, ◌≤◌, []};
-ghost use Rattle.amqp_links.specs.Calls.{is_failing, begun, faulted};
+ghost use Rattle.std.specs.Prelude.{◌≡◌, ◌≤◌, Err, []};
+ghost use Rattle.amqp_links.specs.Calls.{is_failing, called, faulted};
 
-use amqp_txn_types::CallNumbers;
+use amqp_txn_types::{CallNumbers, refuse};
 use std::alloc::Global;
 
 /// The fallible calls of a wire, whichever they are: how many there were, how many failed, and the
@@ -29,27 +29,23 @@ impl Calls {
         }
     }
 
-    /// Counts a call, and a fault where the call's number is one of those that are to fail. Answers
-    /// whether it is.
+    /// Counts a call, and answers whether its number is one of those that are to fail.
     #[tactic(auto, unfolding(crate::specs::Calls::is_failing))]
     pub(crate) fn begin(&mut self) -> bool
         ensures fails { result ≡ is_failing self.old }
-        ensures counted { self.new ≡ begun result self.old }
-        ensures later { self.old.faults ≤ self.new.faults }
+        ensures counted { self.new ≡ called self.old }
     {
         self.made = self.made.saturating_add(1);
-        let fails = self.failing.as_slice().contains(&self.made);
-        if fails {
-            self.fault();
-        }
-        fails
+        self.failing.as_slice().contains(&self.made)
     }
 
-    /// Counts a fault.
-    pub(crate) fn fault(&mut self)
+    /// Counts a fault, and answers it.
+    pub(crate) fn fail<T, E>(&mut self, error: E) -> Result<T, E>
+        ensures answer { result ≡ Err error }
         ensures counted { self.new ≡ faulted self.old }
         ensures later { self.old.faults ≤ self.new.faults }
     {
-        self.faults = self.faults.saturating_add(1);
+        let _faults = self.faults;
+        refuse(&mut self.faults, error)
     }
 }

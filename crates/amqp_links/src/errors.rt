@@ -28,7 +28,7 @@ pub enum LinkStateError {
     #[error("the session stopped: {0:?}")]
     SessionStopped(SessionStopReason),
     /// Want of memory.
-    #[error("no memory")]
+    #[error("out of memory")]
     NoMemory,
 }
 
@@ -66,7 +66,7 @@ pub enum DetachError {
     #[error("the remote link closed with an error: {0:?}")]
     RemoteClosedWithError(Error),
     /// Want of memory.
-    #[error("no memory")]
+    #[error("out of memory")]
     NoMemory,
 }
 
@@ -91,7 +91,7 @@ pub enum IllegalLinkStateError {
     #[error("the session stopped: {0:?}")]
     SessionStopped(SessionStopReason),
     /// Want of memory.
-    #[error("no memory")]
+    #[error("out of memory")]
     NoMemory,
 }
 
@@ -122,7 +122,7 @@ pub enum RecvError {
     #[error("the remote sent more than the credit allows")]
     TransferLimitExceeded,
     /// Want of memory.
-    #[error("no memory")]
+    #[error("out of memory")]
     NoMemory,
 }
 
@@ -169,7 +169,7 @@ pub enum SendError {
     #[error("the message cannot be encoded")]
     MessageEncodeError,
     /// Want of memory.
-    #[error("no memory")]
+    #[error("out of memory")]
     NoMemory,
 }
 

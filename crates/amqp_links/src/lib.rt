@@ -1,13 +1,16 @@
-//! The ends of attached links, as traits that everything above is generic over, and plain bodies.
+//! The ends of attached links: two traits, each with one plain body.
+//!
+//! Code that sends or receives over a link takes any type with the trait (`L: SenderLink`), so it
+//! runs on a wire of this crate in a test and on a real link elsewhere.
 //!
 //! | trait | is | body here |
 //! |---|---|---|
 //! | [`SenderLink`] | the end that sends messages and hears what became of them | [`WireSender`] |
 //! | [`ReceiverLink`] | the end that receives messages and disposes of them | [`WireReceiver`] |
 //!
-//! A link tells, in contracts, what was put on it, what stands ready to be heard, and a count of its
-//! faults; each call says what it does to them. A wire keeps what was put for its owner to read,
-//! and hears what its owner fills in:
+//! A link tells, in contracts, what was put on it, what stands ready to be heard, and a count of
+//! its faults; each call says what it does to them. A wire keeps what was put for its owner to
+//! read, and hears what its owner fills in:
 //!
 //! ```text
 //! let mut wire = WireSender::new(alloc, end);

@@ -28,7 +28,7 @@ pub trait ReceiverLink {
     ) -> Result<(), DispositionError>
         ensures { Disposes (told self.old) (told self.new) delivery.now settled state result };
 
-    /// Takes the next delivery. It is `Pending` exactly where none stands ready.
+    /// Gives the next delivery, once. It is `Pending` exactly where none stands ready.
     fn recv(&mut self) -> Poll<Result<Delivery, RecvError>>
         ensures { Receives (told self.old) (told self.new) result };
 
@@ -45,7 +45,8 @@ pub trait ReceiverLink {
         echo: bool,
         include_properties: bool,
     ) -> Result<(), FlowError>
-        ensures { SendsFlow (told self.old) (told self.new) credit drain echo include_properties result };
+        ensures { SendsFlow (told self.old) (told self.new)
+            credit drain echo include_properties result };
 
     /// The link's properties, where it has any map of them.
     fn properties(&self) -> Option<&Fields>

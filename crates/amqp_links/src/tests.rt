@@ -2,11 +2,12 @@
 
 use crate::*;
 use amqp_txn_types::{
-    AmqpError, Binary, CallNumbers, DeliveryState, Error, ErrorCondition, Fields, Items, LinkEnd,
-    NoMemory, OutputHandle, Payload, ReceiverSettleMode, Role, SenderSettleMode, Symbol, Text,
-    Token, TryClone, Value,
+    AmqpError, Binary, CallNumbers, DeliveryState, Error, ErrorCondition, Fields, LinkEnd,
+    NoMemory, OutputHandle, Payload, ReceiverSettleMode, Role, SenderSettleMode, SessionStopReason,
+    Symbol, Text, Token, TryClone, Value,
 };
 use std::alloc::Global;
+use std::fmt::Display;
 use std::test::Fail;
 
 /// Whether the two are equal.
@@ -15,16 +16,6 @@ fn same<T: PartialEq + Drop>(found: T, want: T) -> bool {
     drop(found);
     drop(want);
     equal
-}
-
-fn push<T: Drop>(items: &mut Items<T>, item: T) -> Result<(), NoMemory> {
-    match items.push(item) {
-        Ok(()) => Ok(()),
-        Err(unkept) => {
-            drop(unkept);
-            Err(NoMemory)
-        }
-    }
 }
 
 fn end(alloc: Global, role: Role) -> Result<LinkEnd, NoMemory> {
@@ -188,7 +179,7 @@ fn want_message(
         batchable: true,
         sent,
     };
-    push(want, message)
+    want.append(message)
 }
 
 fn want_messages(alloc: Global, want: &mut SentMessages) -> Result<(), NoMemory> {
@@ -219,6 +210,53 @@ fn what_was_sent_is_put(rt: HostRuntime) -> Result<(), Fail> {
     assert!(rt; second == Some(Sent::Settled));
     assert!(rt; third == Some(Sent::Unsettled(Token(1))));
     assert!(rt; put?);
+    Ok(())
+}
+
+/// The message that is put by a send with a state that may not be answered with others.
+fn want_with_state(alloc: Global) -> Result<SentMessage, NoMemory> {
+    let sendable = copied_sendable(alloc)?;
+    Ok(SentMessage {
+        sendable,
+        state: Some(DeliveryState::Released),
+        batchable: false,
+        sent: Sent::Settled,
+    })
+}
+
+/// A copy of the message `a`, settled.
+fn copied_sendable(alloc: Global) -> Result<Sendable, NoMemory> {
+    let sendable = sendable(alloc, Some(true))?;
+    let copy = sendable.try_clone();
+    drop(sendable);
+    copy
+}
+
+/// Sends the message `a`, settled, with a state and not batchable: whether it was sent so.
+fn sends_with_state<L: SenderLink>(link: &mut L, alloc: Global) -> Result<bool, NoMemory> {
+    let sendable = sendable(alloc, Some(true))?;
+    let sent = link.send(sendable, Some(DeliveryState::Released), false);
+    Ok(same(sent, Ok(Sent::Settled)))
+}
+
+/// Whether this message was put, and no other.
+fn is_only(put: &SentMessages, want: &SentMessage) -> bool {
+    match put.as_slice() {
+        [message] => *message == *want,
+        _ => false,
+    }
+}
+
+#[test]
+fn a_send_keeps_its_state(rt: HostRuntime) -> Result<(), Fail> {
+    let mut wire = sender(rt.alloc())?;
+    let sent = sends_with_state(&mut wire, rt.alloc());
+    let want = want_with_state(rt.alloc())?;
+    let put = is_only(wire.put(), &want);
+    drop(want);
+    drop(wire);
+    assert!(rt; sent?);
+    assert!(rt; put);
     Ok(())
 }
 
@@ -289,8 +327,8 @@ fn listed_calls_of_a_sender_fail(rt: HostRuntime) -> Result<(), Fail> {
 }
 
 fn want_closes(want: &mut Closes) -> Result<(), NoMemory> {
-    push(want, Some(not_allowed()))?;
-    push(want, None)
+    want.append(Some(not_allowed()))?;
+    want.append(None)
 }
 
 /// Whether these are the closes wanted.
@@ -322,11 +360,12 @@ fn a_close_keeps_its_error(rt: HostRuntime) -> Result<(), Fail> {
 fn disposes<L: ReceiverLink>(
     link: &mut L,
     alloc: Global,
+    settled: Option<bool>,
     state: DeliveryState,
 ) -> Result<bool, NoMemory> {
     match info(alloc, 4) {
         Ok(info) => {
-            let disposed = same(link.dispose(&info, Some(true), state), Ok(()));
+            let disposed = same(link.dispose(&info, settled, state), Ok(()));
             drop(info);
             Ok(disposed)
         }
@@ -337,6 +376,14 @@ fn disposes<L: ReceiverLink>(
     }
 }
 
+/// Three dispositions, by what each says of settling: each whether it was put.
+fn puts_dispositions(wire: &mut WireReceiver, alloc: Global) -> Result<[bool; 3], NoMemory> {
+    let first = disposes(wire, alloc, Some(true), DeliveryState::Released)?;
+    let second = disposes(wire, alloc, None, DeliveryState::Accepted)?;
+    let third = disposes(wire, alloc, Some(false), DeliveryState::Accepted)?;
+    Ok([first, second, third])
+}
+
 /// A copy of what names delivery 4.
 fn copied_info(alloc: Global) -> Result<DeliveryInfo, NoMemory> {
     let info = info(alloc, 4)?;
@@ -345,20 +392,35 @@ fn copied_info(alloc: Global) -> Result<DeliveryInfo, NoMemory> {
     copy
 }
 
-fn want_disposition(alloc: Global, want: &mut ReceiverMessages) -> Result<(), NoMemory> {
-    let delivery = copied_info(alloc)?;
-    let message = ReceiverMessage::Disposition {
-        delivery,
-        settled: Some(true),
-        state: DeliveryState::Released,
-    };
-    push(want, message)
+fn want_disposition(
+    alloc: Global,
+    want: &mut ReceiverMessages,
+    settled: Option<bool>,
+    state: DeliveryState,
+) -> Result<(), NoMemory> {
+    match copied_info(alloc) {
+        Ok(delivery) => want.append(ReceiverMessage::Disposition {
+            delivery,
+            settled,
+            state,
+        }),
+        Err(error) => {
+            drop(state);
+            Err(error)
+        }
+    }
 }
 
-/// Whether the one disposition wanted was put.
-fn is_disposition(alloc: Global, put: &ReceiverMessages) -> Result<bool, NoMemory> {
+fn want_dispositions(alloc: Global, want: &mut ReceiverMessages) -> Result<(), NoMemory> {
+    want_disposition(alloc, want, Some(true), DeliveryState::Released)?;
+    want_disposition(alloc, want, None, DeliveryState::Accepted)?;
+    want_disposition(alloc, want, Some(false), DeliveryState::Accepted)
+}
+
+/// Whether the three dispositions wanted were put.
+fn are_dispositions(alloc: Global, put: &ReceiverMessages) -> Result<bool, NoMemory> {
     let mut want = ReceiverMessages::new(alloc);
-    let wanted = want_disposition(alloc, &mut want);
+    let wanted = want_dispositions(alloc, &mut want);
     let equal = *put == want;
     drop(want);
     wanted?;
@@ -368,11 +430,12 @@ fn is_disposition(alloc: Global, put: &ReceiverMessages) -> Result<bool, NoMemor
 #[test]
 fn dispositions_are_put(rt: HostRuntime) -> Result<(), Fail> {
     let mut wire = receiver(rt.alloc())?;
-    let disposed = disposes(&mut wire, rt.alloc(), DeliveryState::Released);
-    let put = is_disposition(rt.alloc(), wire.put());
+    let disposed = puts_dispositions(&mut wire, rt.alloc());
+    let put = are_dispositions(rt.alloc(), wire.put());
     let end = is_end(rt.alloc(), wire.end(), Role::Receiver);
     drop(wire);
-    assert!(rt; disposed?);
+    let disposed = disposed?;
+    assert!(rt; disposed == [true; 3]);
     assert!(rt; put?);
     assert!(rt; end?);
     Ok(())
@@ -409,10 +472,10 @@ fn puts_flows(wire: &mut WireReceiver, alloc: Global) -> Result<[bool; 3], NoMem
 }
 
 fn want_flows(alloc: Global, want: &mut ReceiverMessages) -> Result<(), NoMemory> {
-    push(want, flow(5, None))?;
+    want.append(flow(5, None))?;
     let properties = property(alloc)?;
-    push(want, flow(6, Some(properties)))?;
-    push(want, flow(7, None))
+    want.append(flow(6, Some(properties)))?;
+    want.append(flow(7, None))
 }
 
 /// Whether the three flows wanted were put.
@@ -497,7 +560,7 @@ fn failing_receiver(alloc: Global, listed: &[u64]) -> Result<WireReceiver, NoMem
 #[test]
 fn listed_calls_of_a_receiver_fail(rt: HostRuntime) -> Result<(), Fail> {
     let mut wire = failing_receiver(rt.alloc(), &[1, 2, 3])?;
-    let disposed = disposes(&mut wire, rt.alloc(), DeliveryState::Accepted);
+    let disposed = disposes(&mut wire, rt.alloc(), None, DeliveryState::Accepted);
     let failed = receives(&mut wire, failed_receive());
     let flowed = flows(&mut wire, 5, false);
     let put = wire.put().len();
@@ -548,32 +611,145 @@ fn properties_change_by_their_two_calls(rt: HostRuntime) -> Result<(), Fail> {
     Ok(())
 }
 
+/// The place of the first error whose text is another than the one beside it.
+fn other_text<E: Display>(alloc: Global, table: &[(E, &str)]) -> Result<Option<usize>, Fail> {
+    for (place, (error, want)) in table.iter().enumerate() {
+        let text = format!(in alloc; "{error}")?;
+        if text.as_str() != *want {
+            return Ok(Some(place));
+        }
+    }
+    Ok(None)
+}
+
 #[test]
-fn errors_have_texts(rt: HostRuntime) -> Result<(), Fail> {
-    let alloc = rt.alloc();
-    let illegal = LinkStateError::IllegalState;
-    let text = format!(in alloc; "{illegal}")?;
-    assert_eq!(rt; text.as_str(), "the state of the link does not allow it");
-    let too_large = MessageSizeExceeded {
-        size: 9,
-        max_size: 8,
-    };
-    let text = format!(in alloc; "{}", SendError::MessageSizeExceeded(too_large))?;
-    assert_eq!(rt;
-        text.as_str(),
-        "the message has 9 octets, and the link takes at most 8"
-    );
-    let text = format!(in alloc; "{}", SendError::Detached(DetachError::ClosedByRemote))?;
-    assert_eq!(rt;
-        text.as_str(),
-        "the link was detached: the remote link closed"
-    );
-    let text = format!(in alloc;
-        "{}",
-        RecvError::LinkStateError(LinkStateError::RemoteDetached)
-    )?;
-    assert_eq!(rt; text.as_str(), "the remote link detached");
-    let text = format!(in alloc; "{}", FlowError::NoMemory)?;
-    assert_eq!(rt; text.as_str(), "no memory");
+fn link_state_errors_have_texts(rt: HostRuntime) -> Result<(), Fail> {
+    let table = [
+        (
+            LinkStateError::IllegalState,
+            "the state of the link does not allow it",
+        ),
+        (
+            LinkStateError::ExpectImmediateDetach,
+            "the remote attach is to be followed by a detach",
+        ),
+        (LinkStateError::RemoteDetached, "the remote link detached"),
+        (
+            LinkStateError::RemoteDetachedWithError(not_allowed()),
+            "the remote link detached with an error: \
+             Error { condition: AmqpError(NotAllowed), description: None, info: None }",
+        ),
+        (LinkStateError::RemoteClosed, "the remote link closed"),
+        (
+            LinkStateError::RemoteClosedWithError(not_allowed()),
+            "the remote link closed with an error: \
+             Error { condition: AmqpError(NotAllowed), description: None, info: None }",
+        ),
+        (
+            LinkStateError::SessionStopped(SessionStopReason::RemoteEnded),
+            "the session stopped: RemoteEnded",
+        ),
+        (LinkStateError::NoMemory, "out of memory"),
+    ];
+    assert_eq!(rt; other_text(rt.alloc(), &table)?, None);
+    Ok(())
+}
+
+#[test]
+fn detach_errors_have_texts(rt: HostRuntime) -> Result<(), Fail> {
+    let table = [
+        (
+            DetachError::IllegalState,
+            "the state of the link does not allow it",
+        ),
+        (
+            DetachError::SessionStopped(SessionStopReason::RemoteEnded),
+            "the session stopped: RemoteEnded",
+        ),
+        (DetachError::DetachedByRemote, "the remote link detached"),
+        (
+            DetachError::RemoteDetachedWithError(not_allowed()),
+            "the remote link detached with an error: \
+             Error { condition: AmqpError(NotAllowed), description: None, info: None }",
+        ),
+        (DetachError::ClosedByRemote, "the remote link closed"),
+        (
+            DetachError::RemoteClosedWithError(not_allowed()),
+            "the remote link closed with an error: \
+             Error { condition: AmqpError(NotAllowed), description: None, info: None }",
+        ),
+        (DetachError::NoMemory, "out of memory"),
+    ];
+    assert_eq!(rt; other_text(rt.alloc(), &table)?, None);
+    Ok(())
+}
+
+#[test]
+fn errors_of_flows_and_dispositions_have_texts(rt: HostRuntime) -> Result<(), Fail> {
+    let table = [
+        (
+            IllegalLinkStateError::IllegalState,
+            "the state of the link does not allow it",
+        ),
+        (
+            IllegalLinkStateError::SessionStopped(SessionStopReason::RemoteEnded),
+            "the session stopped: RemoteEnded",
+        ),
+        (IllegalLinkStateError::NoMemory, "out of memory"),
+    ];
+    assert_eq!(rt; other_text(rt.alloc(), &table)?, None);
+    Ok(())
+}
+
+#[test]
+fn errors_of_receives_have_texts(rt: HostRuntime) -> Result<(), Fail> {
+    let table = [
+        (
+            RecvError::LinkStateError(LinkStateError::RemoteDetached),
+            "the remote link detached",
+        ),
+        (
+            RecvError::TransferLimitExceeded,
+            "the remote sent more than the credit allows",
+        ),
+        (RecvError::NoMemory, "out of memory"),
+    ];
+    assert_eq!(rt; other_text(rt.alloc(), &table)?, None);
+    Ok(())
+}
+
+#[test]
+fn errors_of_sends_have_texts(rt: HostRuntime) -> Result<(), Fail> {
+    let table = [
+        (
+            SendError::LinkStateError(LinkStateError::IllegalState),
+            "the state of the link does not allow it",
+        ),
+        (
+            SendError::Detached(DetachError::ClosedByRemote),
+            "the link was detached: the remote link closed",
+        ),
+        (
+            SendError::NonTerminalDeliveryState,
+            "a delivery state that is not terminal came in place of an outcome",
+        ),
+        (
+            SendError::IllegalDeliveryState,
+            "a delivery state came that the delivery cannot have",
+        ),
+        (
+            SendError::MessageSizeExceeded(MessageSizeExceeded {
+                size: 9,
+                max_size: 8,
+            }),
+            "the message has 9 octets, and the link takes at most 8",
+        ),
+        (
+            SendError::MessageEncodeError,
+            "the message cannot be encoded",
+        ),
+        (SendError::NoMemory, "out of memory"),
+    ];
+    assert_eq!(rt; other_text(rt.alloc(), &table)?, None);
     Ok(())
 }

@@ -3,9 +3,9 @@
 ghost use Rattle.std.specs.Prelude.{◌≡◌, ◌≤◌, ◌∷◌, ◌++◌, [], None, IfOk, IfErr, OnOk, OnErr};
 ghost use Rattle.amqp_links.specs.declared.errors.IllegalLinkStateError.TheVariants as link_errors;
 ghost use Rattle.amqp_links.specs.declared.messages.ReceiverMessage.TheVariants as messages;
-ghost use Rattle.amqp_links.specs.Calls.{is_failing, FailsAsListed, after_call};
+ghost use Rattle.amqp_links.specs.Calls.{is_failing, FailsAsListed, FailsOnlyAsListed};
 ghost use Rattle.amqp_links.specs.Receiving.{Disposes, Receives, SetsCredit, SendsFlow, Inserts, Removes, included, inserted, removed};
-ghost use Rattle.amqp_links.specs.ReceiverWire.{ReceiverWire, after_put, received, after_credit, with_put};
+ghost use Rattle.amqp_links.specs.ReceiverWire.{ReceiverWire, receiver_tells, after_put, received, after_credit, delivered, with_failing, with_properties, with_put};
 
 use crate::calls::Calls;
 use crate::delivery::{Delivery, DeliveryInfo};
@@ -27,7 +27,7 @@ use std::marker::Model;
 ///
 /// Its calls of [`ReceiverLink`] that may answer another error than want of memory are numbered
 /// together from 1. A call whose number is in the list of failing calls fails with `IllegalState`,
-/// and changes nothing but the counts of calls and faults. Any other fails for want of memory alone.
+/// and changes nothing but the counts of calls and faults. Any other fails only for want of memory.
 #[derive(Drop)]
 pub struct WireReceiver {
     end: LinkEnd,
@@ -44,7 +44,14 @@ impl Model for WireReceiver {
 
     ghost Value = { WireValue };
 
-    ghost view = { λ w. record { end = w.end; put = w.put; deliveries = w.deliveries.items; credit = w.credit; properties = w.properties; calls = w.calls } };
+    ghost view = { λ w. record {
+      end = w.end;
+      put = w.put;
+      deliveries = w.deliveries.items;
+      credit = w.credit;
+      properties = w.properties;
+      calls = w.calls;
+    } };
 }
 
 impl WireReceiver {
@@ -101,7 +108,7 @@ impl WireReceiver {
 
     /// Sets the numbers of the calls that are to fail. The count of calls goes on.
     pub fn set_failing(&mut self, failing: CallNumbers)
-        ensures { self.new ≡ record self.old { calls = record self.old.calls { failing = failing } } }
+        ensures { self.new ≡ with_failing self.old failing }
     {
         self.calls.failing = failing;
     }
@@ -109,7 +116,7 @@ impl WireReceiver {
     /// Fills in a delivery, to be given after those that wait. For want of memory it comes back,
     /// and the wire is as it was.
     pub fn deliver(&mut self, delivery: Delivery) -> Result<(), (Delivery, NoMemory)>
-        ensures ok { OnOk result (self.new ≡ record self.old { deliveries = self.old.deliveries ++ delivery ∷ [] }) }
+        ensures ok { OnOk result (self.new ≡ delivered self.old delivery) }
         ensures err { IfErr result (λ unkept. (unkept.0 ≡ delivery) × (self.new ≡ self.old)) }
     {
         match self.deliveries.push_back(delivery) {
@@ -128,8 +135,7 @@ impl WireReceiver {
             Ok(()) => Ok(()),
             Err(unkept) => {
                 drop(unkept);
-                self.calls.fault();
-                Err(IllegalLinkStateError::NoMemory)
+                self.calls.fail(IllegalLinkStateError::NoMemory)
             }
         }
     }
@@ -174,9 +180,8 @@ fn insert_into(
 
 impl ReceiverLink for WireReceiver {
     ghost use Rattle.std.specs.Prelude.{◌≡◌, option_map};
-    ghost use Rattle.amqp_links.specs.ReceiverWire.{told_by_receiver};
 
-    ghost told = { told_by_receiver };
+    ghost told = { receiver_tells };
 
     fn dispose(
         &mut self,
@@ -184,18 +189,20 @@ impl ReceiverLink for WireReceiver {
         settled: Option<bool>,
         state: DeliveryState,
     ) -> Result<(), DispositionError>
-        ensures told { Disposes (⟦<WireReceiver as ReceiverLink>⟧.told self.old) (⟦<WireReceiver as ReceiverLink>⟧.told self.new) delivery.now settled state result }
-        ensures fails { FailsAsListed (is_failing self.old.calls) link_errors.IllegalState link_errors.NoMemory result }
-        ensures wire { self.new ≡ after_put self.old (messages.Disposition delivery.now settled state) result }
+        ensures told { Disposes (receiver_tells self.old) (receiver_tells self.new)
+            delivery.now settled state result }
+        ensures fails { FailsAsListed (is_failing self.old.calls)
+            link_errors.IllegalState link_errors.NoMemory result }
+        ensures wire { self.new
+            ≡ after_put self.old (messages.Disposition delivery.now settled state) result }
     {
         if self.calls.begin() {
             drop(state);
-            return Err(IllegalLinkStateError::IllegalState);
+            return self.calls.fail(IllegalLinkStateError::IllegalState);
         }
         let Ok(copy) = delivery.try_clone() else {
             drop(state);
-            self.calls.fault();
-            return Err(IllegalLinkStateError::NoMemory);
+            return self.calls.fail(IllegalLinkStateError::NoMemory);
         };
         self.put_message(ReceiverMessage::Disposition {
             delivery: copy,
@@ -205,11 +212,12 @@ impl ReceiverLink for WireReceiver {
     }
 
     fn recv(&mut self) -> Poll<Result<Delivery, RecvError>>
-        ensures told { Receives (⟦<WireReceiver as ReceiverLink>⟧.told self.old) (⟦<WireReceiver as ReceiverLink>⟧.told self.new) result }
+        ensures told { Receives (receiver_tells self.old) (receiver_tells self.new) result }
         ensures wire { self.new ≡ received self.old result }
     {
         if self.calls.begin() {
-            return Poll::Ready(Err(RecvError::LinkStateError(LinkStateError::IllegalState)));
+            let error = RecvError::LinkStateError(LinkStateError::IllegalState);
+            return Poll::Ready(self.calls.fail(error));
         }
         match self.deliveries.pop_front() {
             Some(delivery) => Poll::Ready(Ok(delivery)),
@@ -218,12 +226,12 @@ impl ReceiverLink for WireReceiver {
     }
 
     fn set_credit(&mut self, credit: u32) -> Result<(), FlowError>
-        ensures told { SetsCredit (⟦<WireReceiver as ReceiverLink>⟧.told self.old) (⟦<WireReceiver as ReceiverLink>⟧.told self.new) result }
-        ensures fails { FailsAsListed (is_failing self.old.calls) link_errors.IllegalState link_errors.IllegalState result }
+        ensures told { SetsCredit (receiver_tells self.old) (receiver_tells self.new) result }
+        ensures fails { FailsOnlyAsListed (is_failing self.old.calls) link_errors.IllegalState result }
         ensures wire { self.new ≡ after_credit self.old credit result }
     {
         if self.calls.begin() {
-            return Err(IllegalLinkStateError::IllegalState);
+            return self.calls.fail(IllegalLinkStateError::IllegalState);
         }
         self.credit = credit;
         Ok(())
@@ -236,16 +244,18 @@ impl ReceiverLink for WireReceiver {
         echo: bool,
         include_properties: bool,
     ) -> Result<(), FlowError>
-        ensures told { SendsFlow (⟦<WireReceiver as ReceiverLink>⟧.told self.old) (⟦<WireReceiver as ReceiverLink>⟧.told self.new) credit drain echo include_properties result }
-        ensures fails { FailsAsListed (is_failing self.old.calls) link_errors.IllegalState link_errors.NoMemory result }
-        ensures wire { self.new ≡ after_put self.old (messages.Flow credit drain echo (included include_properties self.old.properties)) result }
+        ensures told { SendsFlow (receiver_tells self.old) (receiver_tells self.new)
+            credit drain echo include_properties result }
+        ensures fails { FailsAsListed (is_failing self.old.calls)
+            link_errors.IllegalState link_errors.NoMemory result }
+        ensures wire { let properties = included include_properties self.old.properties in
+            self.new ≡ after_put self.old (messages.Flow credit drain echo properties) result }
     {
         if self.calls.begin() {
-            return Err(IllegalLinkStateError::IllegalState);
+            return self.calls.fail(IllegalLinkStateError::IllegalState);
         }
         let Ok(properties) = self.included_properties(include_properties) else {
-            self.calls.fault();
-            return Err(IllegalLinkStateError::NoMemory);
+            return self.calls.fail(IllegalLinkStateError::NoMemory);
         };
         self.put_message(ReceiverMessage::Flow {
             credit,
@@ -260,15 +270,17 @@ impl ReceiverLink for WireReceiver {
     }
 
     fn insert_property(&mut self, key: Symbol, value: Value) -> Result<(), NoMemory>
-        ensures told { Inserts (⟦<WireReceiver as ReceiverLink>⟧.told self.old) (⟦<WireReceiver as ReceiverLink>⟧.told self.new) key value result }
-        ensures wire { self.new ≡ record self.old { properties = inserted self.old.properties key value result } }
+        ensures told { Inserts (receiver_tells self.old) (receiver_tells self.new)
+            key value result }
+        ensures wire { self.new
+            ≡ with_properties self.old (inserted self.old.properties key value result) }
     {
         insert_into(&mut self.properties, self.alloc, key, value)
     }
 
     fn remove_property(&mut self, key: &Symbol)
-        ensures told { Removes (⟦<WireReceiver as ReceiverLink>⟧.told self.old) (⟦<WireReceiver as ReceiverLink>⟧.told self.new) key.now }
-        ensures wire { self.new ≡ record self.old { properties = removed self.old.properties key.now } }
+        ensures told { Removes (receiver_tells self.old) (receiver_tells self.new) key.now }
+        ensures wire { self.new ≡ with_properties self.old (removed self.old.properties key.now) }
     {
         if let Some(properties) = &mut self.properties {
             properties.remove(key);

@@ -7,7 +7,7 @@ ghost use Rattle.amqp_links.specs.declared.errors.SendError.TheVariants as send_
 ghost use Rattle.amqp_links.specs.Answers.{answer_in, is_awaited};
 ghost use Rattle.amqp_links.specs.Calls.{is_failing, FailsAsListed};
 ghost use Rattle.amqp_links.specs.Sending.{Sends, Looks, Closes as ClosesLink, sent_after};
-ghost use Rattle.amqp_links.specs.SenderWire.{SenderWire, after_send, after_close, answered, filled_at, given_at, looked, with_message};
+ghost use Rattle.amqp_links.specs.SenderWire.{SenderWire, sender_tells, after_send, after_close, answered, filled_at, given_at, looked, with_failing, with_message};
 
 use crate::answer_slot::AnswerSlot;
 use crate::calls::Calls;
@@ -43,7 +43,13 @@ impl Model for WireSender {
 
     ghost Value = { WireValue };
 
-    ghost view = { λ w. record { end = w.end; put = w.put; answers = w.answers; closes = w.closes; calls = w.calls } };
+    ghost view = { λ w. record {
+      end = w.end;
+      put = w.put;
+      answers = w.answers;
+      closes = w.closes;
+      calls = w.calls;
+    } };
 
     ghost invariant = { λ w. length w.answers ≡ unsettled_count w.put };
 }
@@ -98,7 +104,7 @@ impl WireSender {
 
     /// Sets the numbers of the calls that are to fail. The count of calls goes on.
     pub fn set_failing(&mut self, failing: CallNumbers)
-        ensures { self.new ≡ record self.old { calls = record self.old.calls { failing = failing } } }
+        ensures { self.new ≡ with_failing self.old failing }
     {
         self.calls.failing = failing;
     }
@@ -163,22 +169,20 @@ fn fill_at(answers: &mut Items<AnswerSlot>, token: Token, answer: Answer) -> boo
 }
 
 /// Gives the answer of a token, where it stands ready.
-fn take_at(answers: &mut Items<AnswerSlot>, token: Token) -> Option<Answer>
+fn give_at(answers: &mut Items<AnswerSlot>, token: Token) -> Option<Answer>
     ensures given { result ≡ answer_in (slice_get answers.old token.0) }
-    ensures taken { answers.new ≡ given_at answers.old token.0 }
+    ensures emptied { answers.new ≡ given_at answers.old token.0 }
 {
     let index = token.0 as usize;
     if index < answers.len() {
-        answers.items[index].take()
+        answers.items[index].give()
     } else {
         None
     }
 }
 
 impl SenderLink for WireSender {
-    ghost use Rattle.amqp_links.specs.SenderWire.{told_by_sender};
-
-    ghost told = { told_by_sender };
+    ghost told = { sender_tells };
 
     fn send(
         &mut self,
@@ -186,13 +190,16 @@ impl SenderLink for WireSender {
         state: Option<DeliveryState>,
         batchable: bool,
     ) -> Result<Sent, SendError>
-        ensures told { Sends (⟦<WireSender as SenderLink>⟧.told self.old) (⟦<WireSender as SenderLink>⟧.told self.new) sendable state batchable result }
-        ensures fails { FailsAsListed (is_failing self.old.calls) (send_errors.LinkStateError link_errors.IllegalState) send_errors.NoMemory result }
+        ensures told { Sends (sender_tells self.old) (sender_tells self.new)
+            sendable state batchable result }
+        ensures fails { FailsAsListed (is_failing self.old.calls)
+            (send_errors.LinkStateError link_errors.IllegalState) send_errors.NoMemory result }
         ensures wire { self.new ≡ after_send self.old sendable state batchable result }
     {
         if self.calls.begin() {
             drop(state);
-            return Err(SendError::LinkStateError(LinkStateError::IllegalState));
+            let error = SendError::LinkStateError(LinkStateError::IllegalState);
+            return self.calls.fail(error);
         }
         let sent = self.next_sent(&sendable);
         let message = SentMessage {
@@ -203,45 +210,39 @@ impl SenderLink for WireSender {
         };
         match self.put_message(message) {
             Ok(()) => Ok(sent),
-            Err(_) => {
-                self.calls.fault();
-                Err(SendError::NoMemory)
-            }
+            Err(_) => self.calls.fail(SendError::NoMemory),
         }
     }
 
     fn outcome(&mut self, token: &Token) -> Poll<Result<Option<DeliveryState>, LinkStateError>>
-        ensures told { Looks (⟦<WireSender as SenderLink>⟧.told self.old) (⟦<WireSender as SenderLink>⟧.told self.new) token.now result }
+        ensures told { Looks (sender_tells self.old) (sender_tells self.new) token.now result }
         ensures wire { self.new ≡ looked self.old token.now result }
     {
         if self.calls.begin() {
-            return Poll::Ready(Err(LinkStateError::IllegalState));
+            return Poll::Ready(self.calls.fail(LinkStateError::IllegalState));
         }
-        match take_at(&mut self.answers, *token) {
+        match give_at(&mut self.answers, *token) {
             None => Poll::Pending,
             Some(Ok(state)) => Poll::Ready(Ok(state)),
-            Some(Err(error)) => {
-                self.calls.fault();
-                Poll::Ready(Err(error))
-            }
+            Some(Err(error)) => Poll::Ready(self.calls.fail(error)),
         }
     }
 
     fn close(&mut self, error: Option<Error>) -> Result<(), DetachError>
-        ensures told { ClosesLink (⟦<WireSender as SenderLink>⟧.told self.old) (⟦<WireSender as SenderLink>⟧.told self.new) result }
-        ensures fails { FailsAsListed (is_failing self.old.calls) detach_errors.IllegalState detach_errors.NoMemory result }
+        ensures told { ClosesLink (sender_tells self.old) (sender_tells self.new) result }
+        ensures fails { FailsAsListed (is_failing self.old.calls)
+            detach_errors.IllegalState detach_errors.NoMemory result }
         ensures wire { self.new ≡ after_close self.old error result }
     {
         if self.calls.begin() {
             drop(error);
-            return Err(DetachError::IllegalState);
+            return self.calls.fail(DetachError::IllegalState);
         }
         match self.closes.push(error) {
             Ok(()) => Ok(()),
             Err(unkept) => {
                 drop(unkept);
-                self.calls.fault();
-                Err(DetachError::NoMemory)
+                self.calls.fail(DetachError::NoMemory)
             }
         }
     }

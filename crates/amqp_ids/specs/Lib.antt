@@ -1,0 +1,4 @@
+pub mod Ids
+pub mod Drawn
+pub mod Listed
+pub mod Counted

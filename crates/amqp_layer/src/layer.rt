@@ -1,0 +1,91 @@
+//! The layer below a transactional session.
+
+use crate::inner_error::SessionInnerError;
+use crate::tells::Tells;
+use amqp_txn_types::{Attach, Detach, Disposition, Flow, Frames, Payload, SessionState, Transfer};
+
+/// The calls that a transactional session makes on the session below it.
+///
+/// No call changes the state of the session. An incoming frame call that is Ok took its frame and
+/// gives the frames to be sent back. Every Err counts as a refusal: it comes only where the count
+/// of refusals rose in the call, or stands at its last value, 2^64 - 1.
+pub trait LayerBelow: Tells {
+    ghost use Rattle.std.specs.Prelude.{◌≡◌, List, Option, Result};
+    ghost use Rattle.amqp_layer.specs.Told.{Takes, Opens, Checks};
+    ghost use Rattle.amqp_layer.specs.declared.inner_error.SessionInnerError.{SessionInnerError as Fault};
+    ghost use Rattle.amqp_txn_types.specs.declared.performatives.Attach.{Attach as Opening};
+    ghost use Rattle.amqp_txn_types.specs.declared.performatives.Disposition.{Disposition as Settling};
+    ghost use Rattle.amqp_txn_types.specs.declared.performatives.Flow.{Flow as Window};
+    ghost use Rattle.amqp_txn_types.specs.declared.performatives.Frame.{Frame as Came};
+    ghost use Rattle.amqp_txn_types.specs.declared.performatives.Frame.TheVariants as frames;
+
+    /// What an incoming frame call answers and leaves: the layer before and after, the frame, the
+    /// answer.
+    ghost incoming_gives: { Self → Self → Came → Result (List Came) Fault → Type 0 };
+
+    /// What the attach of a control link answers and leaves: the layer before and after, the attach,
+    /// the answer.
+    ghost opening_gives: { Self → Self → Opening → Result (List Came) Fault → Type 0 };
+
+    /// What the check of a disposition answers and leaves: the layer before and after, the
+    /// disposition, the answer.
+    ghost check_gives: { Self → Self → Settling → Result Unit Fault → Type 0 };
+
+    /// The flow that tells the session's window, and what asking for it leaves: the layer before and
+    /// after, the flow.
+    ghost window_gives: { Self → Self → Option Window → Type 0 };
+
+    /// The state of the session (part 2 of the standard, section 2.5.5).
+    fn local_state(&self) -> SessionState
+        ensures { result ≡ (Self.told self.now).fixed.state };
+
+    /// An attach of a link that isn't a control link (section 2.7.3).
+    fn on_incoming_attach(&mut self, attach: Attach) -> Result<Frames, SessionInnerError>
+        ensures told { Takes (Self.told self.old) (Self.told self.new) (frames.Attach attach) result }
+        ensures gives { incoming_gives self.old self.new (frames.Attach attach) result };
+
+    /// A flow (section 2.7.4).
+    fn on_incoming_flow(&mut self, flow: Flow) -> Result<Frames, SessionInnerError>
+        ensures told { Takes (Self.told self.old) (Self.told self.new) (frames.Flow flow) result }
+        ensures gives { incoming_gives self.old self.new (frames.Flow flow) result };
+
+    /// A transfer with its payload (section 2.7.5).
+    fn on_incoming_transfer(
+        &mut self,
+        transfer: Transfer,
+        payload: Payload,
+    ) -> Result<Frames, SessionInnerError>
+        ensures told { Takes (Self.told self.old) (Self.told self.new) (frames.Transfer transfer payload) result }
+        ensures gives { incoming_gives self.old self.new (frames.Transfer transfer payload) result };
+
+    /// A disposition (section 2.7.6).
+    fn on_incoming_disposition(
+        &mut self,
+        disposition: Disposition,
+    ) -> Result<Frames, SessionInnerError>
+        ensures told { Takes (Self.told self.old) (Self.told self.new) (frames.Disposition disposition) result }
+        ensures gives { incoming_gives self.old self.new (frames.Disposition disposition) result };
+
+    /// A detach (section 2.7.7).
+    fn on_incoming_detach(&mut self, detach: Detach) -> Result<Frames, SessionInnerError>
+        ensures told { Takes (Self.told self.old) (Self.told self.new) (frames.Detach detach) result }
+        ensures gives { incoming_gives self.old self.new (frames.Detach detach) result };
+
+    /// An attach to a coordinator (part 4, section 4.2): Ok opens the control link.
+    fn on_control_attach(&mut self, attach: &Attach) -> Result<Frames, SessionInnerError>
+        ensures told { Opens (Self.told self.old) (Self.told self.new) attach.now result }
+        ensures gives { opening_gives self.old self.new attach.now result };
+
+    /// Whether a disposition that is about to be sent may be sent.
+    fn on_outgoing_disposition(
+        &mut self,
+        disposition: &Disposition,
+    ) -> Result<(), SessionInnerError>
+        ensures told { Checks (Self.told self.old) (Self.told self.new) result }
+        ensures gives { check_gives self.old self.new disposition.now result };
+
+    /// A flow that tells the peer the session's window, where one is due. It takes no memory.
+    fn maybe_outgoing_session_flow(&mut self) -> Option<Flow>
+        ensures told { Self.told self.new ≡ Self.told self.old }
+        ensures gives { window_gives self.old self.new result };
+}

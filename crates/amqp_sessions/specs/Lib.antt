@@ -1,0 +1,13 @@
+pub mod Links
+pub mod Agreement
+pub mod Transacting
+pub mod SessionStates
+pub mod Names
+pub mod Sessions
+pub mod Plain
+pub mod Numbers
+pub mod LinkMoves
+pub mod PlainSessions
+pub mod PlainFrames
+pub mod PlainCalls
+pub mod RecordedSessions
