@@ -1,6 +1,6 @@
 -- The errors of a session by the names of a coordinator.
-use Rattle.amqp_below.specs.declared.transacting.AllocTxnIdError.{AllocTxnIdError}
-use Rattle.amqp_below.specs.declared.transacting.AllocTxnIdError.TheVariants as allocations
+use Rattle.amqp_sessions.specs.declared.transacting.AllocTxnIdError.{AllocTxnIdError}
+use Rattle.amqp_sessions.specs.declared.transacting.AllocTxnIdError.TheVariants as allocations
 use Rattle.amqp_coordinator.specs.declared.errors.CoordinatorError.{CoordinatorError}
 use Rattle.amqp_coordinator.specs.declared.errors.CoordinatorError.TheVariants as errors
 use Rattle.amqp_coordinator.specs.declared.errors.DischargeError.{DischargeError}

@@ -3,7 +3,7 @@ use Rattle.std.specs.Prelude.{Option, List}
 use Rattle.std.specs.Map.{lookup}
 use Rattle.amqp_txn_types.specs.declared.id.TransactionId.{TransactionId}
 use Rattle.amqp_txn_types.specs.declared.frames.TxnWorkFrame.{TxnWorkFrame}
-use Rattle.amqp_record.specs.Entries.{same_id}
+use Rattle.amqp_txn_types.specs.Ids.{same_id}
 
 -- each id with its work
 abbrev pub Managed : Type 0

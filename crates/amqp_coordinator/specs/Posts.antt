@@ -4,7 +4,7 @@ use Rattle.std.specs.Prelude.{Option}
 use Rattle.amqp_txn_types.specs.declared.id.TransactionId.{TransactionId}
 use Rattle.amqp_txn_types.specs.declared.performatives.Disposition.{Disposition}
 use Rattle.amqp_txn_types.specs.declared.performatives.Transfer.{Transfer}
-use Rattle.amqp_record.specs.Answers.{presumed_disposition}
+use Rattle.amqp_txn_types.specs.Presumptive.{presumed_disposition}
 
 -- the presumptive disposition of a transfer under the id
 abbrev pub presumed_of_post : TransactionId → Transfer → Option Disposition

@@ -3,8 +3,8 @@
 ghost use Rattle.std.specs.Prelude.{◌≡◌, ◌<◌, cond, true, []};
 ghost use Rattle.indexmap.specs.IndexSet.{spare};
 ghost use Rattle.amqp_txn_types.specs.declared.id.TransactionId.{TransactionId as Id};
-ghost use Rattle.amqp_record.specs.Entries.{same_id};
-ghost use Rattle.amqp_record.specs.Hands.{is_rollback};
+ghost use Rattle.amqp_txn_types.specs.Ids.{same_id};
+ghost use Rattle.amqp_txn_codec.specs.Discharges.{is_rollback};
 ghost use Rattle.amqp_coordinator.specs.Held.{AfterDeclare, AfterDischarge, is_held};
 ghost use Rattle.amqp_coordinator.specs.Declaring.{Allocation, AnswersDeclare};
 ghost use Rattle.amqp_coordinator.specs.Discharging.{AnswersByKind, AnswersDischarge, Commit, Rollback, discharged_by};
@@ -12,9 +12,10 @@ ghost use Rattle.amqp_coordinator.specs.Delivering.{AnswersDelivery};
 
 use crate::errors::{CoordinatorError, DischargeError};
 use crate::outcomes::CoordinatorReply;
-use amqp_below::{Drawn, Echoes, HandleDeclare, HandleDischarge, IdSource};
-use amqp_record::rolls_back;
-use amqp_txn_codec::{ControlMessageBody, Declare, Discharge};
+use amqp_ids::{Drawn, IdSource};
+use amqp_layer::{Echoes, Tells};
+use amqp_sessions::{HandleDeclare, HandleDischarge};
+use amqp_txn_codec::{ControlMessageBody, Declare, Discharge, rolls_back};
 use amqp_txn_types::{TransactionError, TransactionId};
 use indexmap::IndexSet;
 use std::alloc::Global;
@@ -58,8 +59,8 @@ impl TxnCoordinator {
         self.held.contains(txn_id)
     }
 
-    /// Declares a transaction: the ids drawn, of which the last is the new one, and is held from then
-    /// on. Section 4.5.2 (declare) of the standard.
+    /// Declares a transaction: the ids drawn, of which the last is the new one, and is held from
+    /// then on. Section 4.5.2 (declare) of the standard.
     ///
     /// Errors: `GlobalIdNotImplemented` exactly where the declare has a global id; else what the
     /// session answers, or `NoMemory` for want of room for the id, which is made before the session
@@ -71,7 +72,8 @@ impl TxnCoordinator {
         ids: &mut G,
     ) -> Result<Drawn, CoordinatorError>
         ensures answer { AnswersDeclare declare.now
-            (Allocation H.allocate_gives H.refusals session.old session.new (G.next ids.old) (G.next ids.new))
+            (Allocation H.allocate_gives H.told session.old session.new
+            (G.next ids.old) (G.next ids.new))
             ((session.new ≡ session.old) × (ids.new ≡ ids.old)) result }
         ensures held { AfterDeclare self.old self.new result }
         ensures start { G.start ids.new ≡ G.start ids.old }
@@ -89,8 +91,8 @@ impl TxnCoordinator {
         Ok(drawn)
     }
 
-    /// Discharges a transaction: by a rollback where `fail` is `Some(true)`, else by a commit, whose
-    /// answers it gives. Section 4.5.3 (discharge) of the standard.
+    /// Discharges a transaction: by a rollback where `fail` is `Some(true)`, else by a commit,
+    /// whose answers it gives. Section 4.5.3 (discharge) of the standard.
     ///
     /// Errors: `TransactionError` with `UnknownId` where the id isn't held, and the session isn't
     /// asked then; else what the session answers. An error leaves the ids that are held, this one
@@ -101,8 +103,8 @@ impl TxnCoordinator {
         session: &mut H,
     ) -> Result<Echoes, CoordinatorError>
         ensures answer { AnswersDischarge (is_held self.old discharge.now.txn_id) discharge.now
-            (Commit H.commit_gives H.refusals session.old session.new discharge.now.txn_id)
-            (Rollback H.rollback_gives H.refusals session.old session.new discharge.now.txn_id)
+            (Commit H.commit_gives H.told session.old session.new discharge.now.txn_id)
+            (Rollback H.rollback_gives H.told session.old session.new discharge.now.txn_id)
             (session.new ≡ session.old) result }
         ensures held { AfterDischarge self.old self.new discharge.now.txn_id result }
     {
@@ -116,8 +118,8 @@ impl TxnCoordinator {
 
     /// Hears a control message: a declare or a discharge.
     ///
-    /// Section 4.5 (coordination) of the standard. Errors are those of [`TxnCoordinator::on_declare`]
-    /// or of [`TxnCoordinator::on_discharge`], by the message.
+    /// Section 4.5 (coordination) of the standard. Errors are those of
+    /// [`TxnCoordinator::on_declare`] or of [`TxnCoordinator::on_discharge`], by the message.
     pub fn on_delivery<H: HandleDeclare + HandleDischarge, G: IdSource>(
         &mut self,
         body: &ControlMessageBody,
@@ -126,12 +128,15 @@ impl TxnCoordinator {
     ) -> Result<CoordinatorReply, CoordinatorError>
         ensures answer { AnswersDelivery body.now
             (λ declare answer. AnswersDeclare declare
-            (Allocation ⟦<H as HandleDeclare>⟧.allocate_gives ⟦<H as HandleDeclare>⟧.refusals session.old session.new (G.next ids.old) (G.next ids.new))
+            (Allocation ⟦<H as HandleDeclare>⟧.allocate_gives ⟦<H as Tells>⟧.told
+            session.old session.new (G.next ids.old) (G.next ids.new))
             ((session.new ≡ session.old) × (ids.new ≡ ids.old)) answer
             × AfterDeclare self.old self.new answer)
             (λ discharge answer. AnswersDischarge (is_held self.old discharge.txn_id) discharge
-            (Commit ⟦<H as HandleDischarge>⟧.commit_gives ⟦<H as HandleDischarge>⟧.refusals session.old session.new discharge.txn_id)
-            (Rollback ⟦<H as HandleDischarge>⟧.rollback_gives ⟦<H as HandleDischarge>⟧.refusals session.old session.new discharge.txn_id)
+            (Commit ⟦<H as HandleDischarge>⟧.commit_gives ⟦<H as Tells>⟧.told
+            session.old session.new discharge.txn_id)
+            (Rollback ⟦<H as HandleDischarge>⟧.rollback_gives ⟦<H as Tells>⟧.told
+            session.old session.new discharge.txn_id)
             (session.new ≡ session.old) answer
             × AfterDischarge self.old self.new discharge.txn_id answer
             × (ids.new ≡ ids.old)) result }
@@ -153,7 +158,8 @@ impl TxnCoordinator {
 /// Holds an id, for which there is room.
 fn keep(held: &mut IndexSet<TransactionId>, txn_id: TransactionId)
     requires room { 0 < spare held.old }
-    ensures { (t : Id) → is_held held.new.keys t ≡ cond (same_id txn_id t) true (is_held held.old.keys t) }
+    ensures { (t : Id) → is_held held.new.keys t ≡ cond (same_id txn_id t) true
+        (is_held held.old.keys t) }
 {
     match held.insert(txn_id) {
         Ok(_) => {}
@@ -168,8 +174,8 @@ fn asked_to_discharge<H: HandleDischarge>(
     session: &mut H,
 ) -> Result<Echoes, DischargeError>
     ensures { AnswersByKind (is_rollback discharge.now.fail)
-        (Commit H.commit_gives H.refusals session.old session.new discharge.now.txn_id)
-        (Rollback H.rollback_gives H.refusals session.old session.new discharge.now.txn_id)
+        (Commit H.commit_gives H.told session.old session.new discharge.now.txn_id)
+        (Rollback H.rollback_gives H.told session.old session.new discharge.now.txn_id)
         (discharged_by result) }
 {
     if rolls_back(discharge.fail) {

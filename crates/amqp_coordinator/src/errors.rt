@@ -3,7 +3,8 @@
 ghost use Rattle.std.specs.Prelude.{◌≡◌};
 ghost use Rattle.amqp_coordinator.specs.Errors.{error_of_allocation, error_of_discharge};
 
-use amqp_below::{AllocTxnIdError, CommitFault, Drawn};
+use amqp_ids::Drawn;
+use amqp_sessions::{AllocTxnIdError, CommitFault};
 use amqp_txn_types::TransactionError;
 use thiserror::Error as ThisError;
 
@@ -26,7 +27,7 @@ pub enum CoordinatorError {
     #[error("the commit failed: {0}")]
     Fault(CommitFault),
     /// Want of memory. Nothing was drawn.
-    #[error("no memory")]
+    #[error("out of memory")]
     NoMemory,
 }
 

@@ -3,7 +3,7 @@
 //!
 //! | type | is |
 //! |---|---|
-//! | [`TxnCoordinator`] | the ids that were declared to it: it hears control messages and asks the session |
+//! | [`TxnCoordinator`] | the ids that were declared to it: it hears messages and asks the session |
 //! | [`ResourceTransaction`] | the work of one transaction, kept in the order in which it came |
 //! | [`TransactionManager`] | the transactions of a resource, each under its id |
 //!
@@ -12,11 +12,11 @@
 //! let reply = coordinator.on_delivery(&body, &mut session, &mut ids)?;
 //! ```
 //!
-//! Below stand the types, the codec of control messages, the traits of a session, and the record,
-//! whose definitions of a rollback and of a presumptive disposition serve here. The promise that
-//! this crate carries: a coordinator holds exactly the ids that it declared and that weren't
-//! discharged by it since, each of its answers has the cause that its name says, and a transaction's
-//! work is kept in order. 'The standard' is OASIS AMQP 1.0, part 4.
+//! Below stand the types, where the presumptive disposition of a post is defined, the codec of
+//! control messages, and the traits of a session. The promise that this crate carries: a
+//! coordinator holds exactly the ids that it declared and that weren't discharged by it since, each
+//! of its answers has the cause that its name says, and a transaction's work is kept in order. 'The
+//! standard' is OASIS AMQP 1.0, part 4.
 #![tactic(auto)]
 
 mod coordinator;

@@ -3,7 +3,8 @@
 ghost use Rattle.std.specs.Prelude.{◌≡◌};
 ghost use Rattle.amqp_coordinator.specs.Outcomes.{state_of_success};
 
-use amqp_below::{Drawn, Echoes};
+use amqp_ids::Drawn;
+use amqp_layer::Echoes;
 use amqp_txn_types::{Accepted, Declared, DeliveryState};
 
 /// The answer to a control message that isn't refused.

@@ -4,15 +4,17 @@ ghost use Rattle.std.specs.Prelude.{◌≡◌, ◌∷◌, ◌++◌, [], List, dr
 ghost use Rattle.amqp_txn_types.specs.declared.frames.TxnWorkFrame.TheVariants as works;
 ghost use Rattle.amqp_coordinator.specs.Posts.{presumed_of_post};
 
-use amqp_record::presumed_disposition;
-use amqp_txn_types::{Disposition, NoMemory, Payload, TransactionId, Transfer, TxnWorkFrame};
+use amqp_txn_types::{
+    Disposition, NoMemory, Payload, TransactionId, Transfer, TxnWorkFrame, presumed_disposition,
+};
 use std::alloc::Global;
 use std::collections::VecDeque;
 use std::marker::Model;
 
 /// The work of one transaction, in the order in which it came.
 ///
-/// Section 4.4 (transactional work) of the standard: it is kept until the transaction is discharged.
+/// Section 4.4 (transactional work) of the standard: it is kept until the transaction is
+/// discharged.
 #[derive(Drop)]
 pub struct ResourceTransaction {
     frames: VecDeque<TxnWorkFrame>,

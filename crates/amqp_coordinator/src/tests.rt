@@ -1,10 +1,9 @@
 //! What no clause says: that the calls succeed where there is memory, and printed texts.
 
 use crate::*;
-use amqp_below::{
-    AllocTxnIdError, Answers, CommitFault, Drawn, Echoes, HandleDeclare, HandleDischarge, IdSource,
-    SessionInnerError,
-};
+use amqp_ids::{Drawn, IdSource, ListIds};
+use amqp_layer::{Answers, Echoes, SessionInnerError, Tells};
+use amqp_sessions::{AllocTxnIdError, CommitFault, HandleDeclare, HandleDischarge};
 use amqp_txn_codec::{ControlMessageBody, Declare, Discharge};
 use amqp_txn_types::{
     Accepted, Declared, DeliveryState, Disposition, Frames, Handle, NoMemory, Payload, Role,
@@ -39,9 +38,20 @@ impl IdSource for One {
     }
 }
 
-impl HandleDeclare for Willing {
-    ghost refusals = { λ session. session.refusals };
+impl Tells for Willing {
+    ghost use Rattle.std.specs.Prelude.{None, []};
+    ghost use Rattle.amqp_txn_types.specs.declared.small.SessionState.TheVariants.{Mapped};
 
+    ghost told = { λ session. record {
+      taken = None;
+      opened = None;
+      refused = None;
+      refusals = session.refusals;
+      fixed = record { state = Mapped; plan = [] };
+    } };
+}
+
+impl HandleDeclare for Willing {
     ghost allocate_gives = { λ old new before after result. Unit {0} };
 
     fn allocate_transaction_id<G: IdSource>(
@@ -59,8 +69,6 @@ impl HandleDeclare for Willing {
 }
 
 impl HandleDischarge for Willing {
-    ghost refusals = { λ session. session.refusals };
-
     ghost commit_gives = { λ old new id result. Unit {0} };
 
     ghost rollback_gives = { λ old new id result. Unit {0} };
@@ -145,13 +153,13 @@ fn a_rollback_has_no_echoes(rt: HostRuntime) -> Result<(), Fail> {
     Ok(())
 }
 
-fn post(delivery_id: Option<u32>) -> Transfer {
+fn post(delivery_id: Option<u32>, settled: Option<bool>) -> Transfer {
     Transfer {
         handle: Handle(1),
         delivery_id,
         delivery_tag: None,
         message_format: None,
-        settled: None,
+        settled,
         more: false,
         rcv_settle_mode: None,
         state: None,
@@ -176,12 +184,13 @@ fn answer_of(
     alloc: Global,
     id: TransactionId,
     delivery_id: Option<u32>,
+    settled: Option<bool>,
 ) -> Result<u32, NoMemory> {
     let payload = Payload::from_slice(alloc, b"m")?;
     let Some(work) = manager.get_mut(&id) else {
         return Ok(102);
     };
-    Ok(answered(work.on_incoming_post(id, post(delivery_id), payload)))
+    Ok(answered(work.on_incoming_post(id, post(delivery_id, settled), payload)))
 }
 
 /// How much work a transaction has.
@@ -203,8 +212,8 @@ fn a_manager_keeps_work(rt: HostRuntime) -> Result<(), Fail> {
     let id = TransactionId::new(b"\x01")?;
     let mut manager = TransactionManager::new(alloc);
     manager.insert(id)?;
-    assert_eq!(rt; answer_of(&mut manager, alloc, id, Some(7))?, 7);
-    assert_eq!(rt; answer_of(&mut manager, alloc, id, None)?, 100);
+    assert_eq!(rt; answer_of(&mut manager, alloc, id, Some(7), None)?, 7);
+    assert_eq!(rt; answer_of(&mut manager, alloc, id, None, None)?, 100);
     assert_eq!(rt; count_work(manager.remove(&id)), 2);
     assert_eq!(rt; count_work(manager.remove(&id)), 100);
     Ok(())
@@ -224,17 +233,33 @@ fn refused_frame() -> CommitFault {
 }
 
 #[test]
-fn errors_have_texts(rt: HostRuntime) -> Result<(), Fail> {
-    let alloc = rt.alloc();
-    let refused = CoordinatorError::from(DischargeError::Fault(refused_frame()));
-    let text = "the commit failed: a frame of the commit was refused: the state does not allow it";
-    assert!(rt; has_text(alloc, refused, text)?);
-    let unknown = CoordinatorError::from(DischargeError::from(TransactionError::UnknownId));
-    let text = "the transaction is not discharged: amqp:transaction:unknown-id";
-    assert!(rt; has_text(alloc, unknown, text)?);
-    let unable = CoordinatorError::from(AllocTxnIdError::NotImplemented);
-    let text = "the session allocates no transaction ids";
-    assert!(rt; has_text(alloc, unable, text)?);
+fn each_error_has_its_text(rt: HostRuntime) -> Result<(), Fail> {
+    let rows = [
+        (
+            CoordinatorError::GlobalIdNotImplemented,
+            "global transaction ids are not implemented",
+        ),
+        (
+            CoordinatorError::from(AllocTxnIdError::NotImplemented),
+            "the session allocates no transaction ids",
+        ),
+        (
+            CoordinatorError::IdsRepeat(Drawn::new(rt.alloc())),
+            "no unused transaction id was drawn",
+        ),
+        (
+            CoordinatorError::from(DischargeError::from(TransactionError::UnknownId)),
+            "the transaction is not discharged: amqp:transaction:unknown-id",
+        ),
+        (
+            CoordinatorError::from(DischargeError::Fault(refused_frame())),
+            "the commit failed: a frame of the commit was refused: the state does not allow it",
+        ),
+        (CoordinatorError::NoMemory, "out of memory"),
+    ];
+    for (error, text) in rows {
+        assert!(rt; has_text(rt.alloc(), error, text)?);
+    }
     Ok(())
 }
 
@@ -243,5 +268,60 @@ fn a_declare_has_its_state(rt: HostRuntime) -> Result<(), Fail> {
     let txn_id = TransactionId::new(b"\x01")?;
     let state = DeliveryState::from(SuccessfulOutcome::Declared(Declared { txn_id }));
     assert!(rt; state == DeliveryState::Declared(Declared { txn_id }));
+    Ok(())
+}
+
+#[test]
+fn a_second_id_is_held_beside_the_first(rt: HostRuntime) -> Result<(), Fail> {
+    let alloc = rt.alloc();
+    let first = TransactionId::new(b"\x01")?;
+    let second = TransactionId::new(b"\x02")?;
+    let mut ids = ListIds::new(alloc, &[first, second])?;
+    let mut session = Willing { alloc, refusals: 0 };
+    let mut coordinator = TxnCoordinator::new(alloc);
+    let one = size(coordinator.on_delivery(&declare(None), &mut session, &mut ids));
+    let two = size(coordinator.on_delivery(&declare(None), &mut session, &mut ids));
+    assert_eq!(rt; one, 1);
+    assert_eq!(rt; two, 1);
+    assert!(rt; coordinator.holds(&first));
+    let committed = size(coordinator.on_delivery(&discharge(first, None), &mut session, &mut ids));
+    assert_eq!(rt; committed, 1);
+    assert!(rt; !coordinator.holds(&first));
+    assert!(rt; coordinator.holds(&second));
+    Ok(())
+}
+
+/// Adds a transaction, where there is none under the id.
+fn add(manager: &mut TransactionManager, id: TransactionId) -> Result<(), NoMemory> {
+    if manager.get_mut(&id).is_some() {
+        return Ok(());
+    }
+    manager.insert(id)
+}
+
+#[test]
+fn a_manager_keeps_the_work_of_each_id(rt: HostRuntime) -> Result<(), Fail> {
+    let alloc = rt.alloc();
+    let first = TransactionId::new(b"\x01")?;
+    let second = TransactionId::new(b"\x02")?;
+    let mut manager = TransactionManager::new(alloc);
+    add(&mut manager, first)?;
+    add(&mut manager, second)?;
+    assert_eq!(rt; answer_of(&mut manager, alloc, second, Some(8), None)?, 8);
+    assert_eq!(rt; count_work(manager.remove(&first)), 0);
+    assert_eq!(rt; count_work(manager.remove(&second)), 1);
+    Ok(())
+}
+
+#[test]
+fn a_post_is_answered_by_whether_it_is_settled(rt: HostRuntime) -> Result<(), Fail> {
+    let alloc = rt.alloc();
+    let id = TransactionId::new(b"\x01")?;
+    let mut manager = TransactionManager::new(alloc);
+    manager.insert(id)?;
+    let unsettled = answer_of(&mut manager, alloc, id, Some(7), Some(false))?;
+    assert_eq!(rt; unsettled, 7);
+    let settled = answer_of(&mut manager, alloc, id, Some(7), Some(true))?;
+    assert_eq!(rt; settled, 100);
     Ok(())
 }

@@ -3,7 +3,7 @@
 ghost use Rattle.std.specs.Prelude.{◌≡◌, cond, [], None, Some, option_map, OnOk, OnErr};
 ghost use Rattle.std.specs.Borrow.{sem};
 ghost use Rattle.amqp_txn_types.specs.declared.id.TransactionId.{TransactionId as Id};
-ghost use Rattle.amqp_record.specs.Entries.{same_id};
+ghost use Rattle.amqp_txn_types.specs.Ids.{same_id};
 ghost use Rattle.amqp_coordinator.specs.Managing.{work_under};
 
 use crate::resource_transaction::ResourceTransaction;
@@ -43,7 +43,8 @@ impl TransactionManager {
     /// Adds a transaction without work. The only error is want of memory, which changes nothing.
     pub fn insert(&mut self, txn_id: TransactionId) -> Result<(), NoMemory>
         requires absent { work_under self.old txn_id ≡ None }
-        ensures ok { OnOk result ((t : Id) → work_under self.new t ≡ cond (same_id txn_id t) (Some []) (work_under self.old t)) }
+        ensures ok { OnOk result ((t : Id) → work_under self.new t ≡ cond (same_id txn_id t)
+            (Some []) (work_under self.old t)) }
         ensures err { OnErr result (self.new ≡ self.old) }
     {
         match self
@@ -66,7 +67,8 @@ impl TransactionManager {
     /// Takes a transaction out, with its work; `None` exactly where the id isn't held.
     pub fn remove(&mut self, txn_id: &TransactionId) -> Option<ResourceTransaction>
         ensures value { result ≡ work_under self.old txn_id.now }
-        ensures removed { (t : Id) → work_under self.new t ≡ cond (same_id txn_id.now t) None (work_under self.old t) }
+        ensures removed { (t : Id) → work_under self.new t ≡ cond (same_id txn_id.now t) None
+            (work_under self.old t) }
     {
         self.transactions.swap_remove(txn_id)
     }

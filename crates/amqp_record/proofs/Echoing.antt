@@ -5,11 +5,12 @@ use Rattle.std.proofs.Math.Seq.{drop-cons}
 use Rattle.std.proofs.lemmas.List.{drop_all}
 use Rattle.amqp_txn_types.specs.declared.id.TransactionId.{TransactionId}
 use Rattle.amqp_txn_types.specs.declared.performatives.Frame.{Frame}
-use Rattle.amqp_below.specs.declared.answers.Answers.{Answers}
+use Rattle.amqp_layer.specs.declared.answers.Answers.{Answers}
 use Rattle.amqp_record.specs.declared.entry.Entry.{Entry}
 use Rattle.amqp_record.specs.Live.{entries_since}
 use Rattle.amqp_record.specs.Hands.{frames_under, own_frame}
-use Rattle.amqp_record.specs.Answers.{WindowsFit, Echoed}
+use Rattle.amqp_record.specs.Answers.{Echoed}
+use Rattle.amqp_layer.specs.Windows.{AllWindowsFit}
 use Rattle.amqp_record.proofs.Lives.{frames_of-since}
 
 frames_under-drop : (t : TransactionId) (r : List Entry) (i : ℕ) (e : Entry) → i < length r → e ≡ get_or r i e → frames_under t (drop i r) ≡ own_frame t e ++ frames_under t (drop (i + 1) r)
@@ -17,9 +18,9 @@ frames_under-drop t r i e h is =
     let one : drop i r ≡ e ∷ drop (i + 1) r = rw add-one (drop-cons r i e h ∙ ap (λ x. x ∷ drop (suc i) r) (sym is)) in ap (frames_under t) one
 
 -- what is left to fit, after an entry whose echo fits
-pub echoes-fit : (t : TransactionId) (r : List Entry) (i : ℕ) (e : Entry) (all : Type 0) (rest left : List Answers) → i < length r → e ≡ get_or r i e → (all ↔ WindowsFit (frames_under t (drop i r)) rest) → ((later : List Frame) → (WindowsFit (own_frame t e ++ later) rest ↔ WindowsFit later left)) → (all ↔ WindowsFit (frames_under t (drop (i + 1) r)) left)
+pub echoes-fit : (t : TransactionId) (r : List Entry) (i : ℕ) (e : Entry) (all : Type 0) (rest left : List Answers) → i < length r → e ≡ get_or r i e → (all ↔ AllWindowsFit (frames_under t (drop i r)) rest) → ((later : List Frame) → (AllWindowsFit (own_frame t e ++ later) rest ↔ AllWindowsFit later left)) → (all ↔ AllWindowsFit (frames_under t (drop (i + 1) r)) left)
 echoes-fit t r i e all rest left h is so step =
-    let P : List Frame → Type 0 = λ fs. WindowsFit fs rest in
+    let P : List Frame → Type 0 = λ fs. AllWindowsFit fs rest in
     let front = frames_under-drop t r i e h is in
     let one = step (frames_under t (drop (i + 1) r)) in (
       λ a. one.0 (subst P front (so.0 a)),
@@ -27,33 +28,33 @@ echoes-fit t r i e all rest left h is so step =
     )
 
 -- nothing fits after an entry whose echo doesn't
-pub echoes-unfit : (t : TransactionId) (r : List Entry) (i : ℕ) (e : Entry) (all : Type 0) (rest : List Answers) → i < length r → e ≡ get_or r i e → (all ↔ WindowsFit (frames_under t (drop i r)) rest) → ((later : List Frame) → ¬ WindowsFit (own_frame t e ++ later) rest) → (IsTrue false ↔ all)
+pub echoes-unfit : (t : TransactionId) (r : List Entry) (i : ℕ) (e : Entry) (all : Type 0) (rest : List Answers) → i < length r → e ≡ get_or r i e → (all ↔ AllWindowsFit (frames_under t (drop i r)) rest) → ((later : List Frame) → ¬ AllWindowsFit (own_frame t e ++ later) rest) → (IsTrue false ↔ all)
 echoes-unfit t r i e all rest h is so none =
-    let P : List Frame → Type 0 = λ fs. WindowsFit fs rest in (
+    let P : List Frame → Type 0 = λ fs. AllWindowsFit fs rest in (
       λ f. cc f,
       λ a. absurd (none (frames_under t (drop (i + 1) r)) (subst P (frames_under-drop t r i e h is) (so.0 a))),
     )
 
-none_fit : (rest : List Answers) → WindowsFit [] rest → rest ≡ []
+none_fit : (rest : List Answers) → AllWindowsFit [] rest → rest ≡ []
 none_fit [] w = refl
 none_fit (a ∷ rest) w = absurd w
 
-fit_none : (rest : List Answers) → rest ≡ [] → WindowsFit [] rest
+fit_none : (rest : List Answers) → rest ≡ [] → AllWindowsFit [] rest
 fit_none [] e = tt
 fit_none (a ∷ rest) e = cc e
 
 -- after the last entry no echo is left
-pub echoes-end : (t : TransactionId) (r : List Entry) (i : ℕ) (all : Type 0) (rest : List Answers) (b : Bool) → length r ≤ i → (all ↔ WindowsFit (frames_under t (drop i r)) rest) → (IsTrue b ↔ (rest ≡ [])) → (IsTrue b ↔ all)
+pub echoes-end : (t : TransactionId) (r : List Entry) (i : ℕ) (all : Type 0) (rest : List Answers) (b : Bool) → length r ≤ i → (all ↔ AllWindowsFit (frames_under t (drop i r)) rest) → (IsTrue b ↔ (rest ≡ [])) → (IsTrue b ↔ all)
 echoes-end t r i all rest b h so none =
-    let P : List Entry → Type 0 = λ l. WindowsFit (frames_under t l) rest in
+    let P : List Entry → Type 0 = λ l. AllWindowsFit (frames_under t l) rest in
     let over = drop_all i r h in (
       λ f. so.1 (subst P (sym over) (fit_none rest (none.0 f))),
       λ a. none.1 (none_fit rest (subst P over (so.0 a))),
     )
 
 -- the echoes of a commit are those of the frames under its id since the last declare
-pub echoed-commit : (r : List Entry) (t : TransactionId) (rollback : Bool) (echoes : List Answers) (b : Bool) → rollback ≡ false → (IsTrue b ↔ WindowsFit (frames_under t (entries_since r t)) echoes) → (IsTrue b ↔ Echoed r t rollback echoes)
+pub echoed-commit : (r : List Entry) (t : TransactionId) (rollback : Bool) (echoes : List Answers) (b : Bool) → rollback ≡ false → (IsTrue b ↔ AllWindowsFit (frames_under t (entries_since r t)) echoes) → (IsTrue b ↔ Echoed r t rollback echoes)
 echoed-commit r t true echoes b h w = cc h
 echoed-commit r t false echoes b h w =
-    let P : List Frame → Type 0 = λ fs. WindowsFit fs echoes in
+    let P : List Frame → Type 0 = λ fs. AllWindowsFit fs echoes in
     let frames = frames_of-since r t in (λ f. subst P (sym frames) (w.0 f), λ a. w.1 (subst P frames a))

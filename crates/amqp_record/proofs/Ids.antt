@@ -2,7 +2,7 @@
 use Rattle.std.proofs.Common.{◌≡◌, true, sym}
 use Rattle.std.specs.Cmp.Lexicographic.{same_text, nat_list_eq_equiv}
 use Rattle.amqp_txn_types.specs.declared.id.TransactionId.{TransactionId}
-use Rattle.amqp_record.specs.Entries.{same_id}
+use Rattle.amqp_txn_types.specs.Ids.{same_id}
 
 pub same_id-eq : (t u : TransactionId) → same_id t u ≡ true → t ≡ u
 same_id-eq t u h = same_text t u (sym h)

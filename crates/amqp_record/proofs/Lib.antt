@@ -3,6 +3,7 @@ pub mod Places
 pub mod Looking
 pub mod Living
 pub mod Whole
+pub mod Homes
 pub mod Origins
 pub mod Lives
 pub mod Scanning

@@ -18,25 +18,30 @@ use Rattle.amqp_record.specs.declared.step.Step.TheVariants as steps
 use Rattle.amqp_record.specs.declared.reply.Reply.{Reply}
 use Rattle.amqp_record.specs.declared.reply.Reply.TheVariants as replies
 use Rattle.amqp_record.specs.declared.reply.RejectText.TheVariants as texts
-use Rattle.amqp_record.specs.Entries.{same_id, is_some_id, step_closes, declares, discharges, step_discharges, message_discharges, reply_declares, reply_attaches, under, step_under, steps_of}
+use Rattle.amqp_record.specs.Entries.{step_closes, declares, discharges, step_discharges, message_discharges, reply_declares, reply_attaches, is_under, step_is_under, steps_of}
+use Rattle.amqp_txn_types.specs.Ids.{same_id, is_some_id}
 use Rattle.amqp_record.specs.Links.{is_open, attached_count}
-use Rattle.amqp_record.specs.Live.{since, home, undischarged, is_live, is_held_on, mine, mine_from, places_from, entries_from, entries_since}
+use Rattle.amqp_record.specs.Live.{since, home, undischarged, is_link, is_live, is_held_on, frame_places, frame_places_from, places_from, entries_from, entries_since}
 use Rattle.amqp_record.specs.Hands.{frame_of_step, frames_at, frames_of, frames_under, commits, hands}
 use Rattle.amqp_record.specs.Answers.{Answer, AnswerFrame, AnswerDischarge, AnswerMessage, AnswerControl}
 use Rattle.amqp_record.specs.Legal.{LegalAfter, IsLegal}
 use Rattle.amqp_record.specs.Others.{discharges_another, is_of_others}
 use Rattle.amqp_record.proofs.Ids.{same_id-eq}
 use Rattle.amqp_record.proofs.Places.{slice_get-at}
-use Rattle.amqp_record.proofs.Looking.{since-below, is_open-other}
-use Rattle.amqp_record.proofs.Living.{live-same, ended_dead, mine-same, undischarged-ended, undischarged-later}
+use Rattle.amqp_record.proofs.Looking.{since-below, is_open_at-other}
+use Rattle.amqp_record.proofs.Living.{live-same, ended_dead, places-same, undischarged-ended, undischarged-later}
 use Rattle.amqp_record.proofs.Whole.{hands-commit, homes_attached}
 
 -- ---- a live id has one home
 
-pub held_home : (r : List Entry) (t : TransactionId) (k : ℕ) → is_live r t ≡ true → (is_held_on r k t ≡ true) ↔ (k ≡ home r t)
+is_link_some : (k : ℕ) (o : Option ℕ) → is_link k o ≡ true → o ≡ Some k
+is_link_some k None h = cc h
+is_link_some k (Some j) h = ap (λ i. Some i) (eqb-true j k h)
+
+pub held_home : (r : List Entry) (t : TransactionId) (k : ℕ) → is_live r t ≡ true → (is_held_on r k t ≡ true) ↔ (home r t ≡ Some k)
 held_home r t k l = (
-  λ h. sym (eqb-true (home r t) k (and_parts (is_live r t) (home r t == k) h).1),
-  λ h. ap (λ b. b && (home r t == k)) l ∙ eq-eqb (home r t) k (sym h),
+  λ h. is_link_some k (home r t) (and_parts (is_live r t) (is_link k (home r t)) h).1,
+  λ h. ap (λ b. b && is_link k (home r t)) l ∙ ap (is_link k) h ∙ eq-eqb k k refl,
 )
 
 -- ---- what a commit hands
@@ -55,32 +60,32 @@ pushed_frames true f n places = refl
 pushed_frames false f n places = refl
 
 -- the frames at the places that pass are the frames that pass
-frames_at-places : (t : TransactionId) (before later : List Entry) → frames_at (steps_of (before ++ later)) (places_from (length before) (under t) later) ≡ frames_under t later
+frames_at-places : (t : TransactionId) (before later : List Entry) → frames_at (steps_of (before ++ later)) (places_from (length before) (is_under t) later) ≡ frames_under t later
 frames_at-places t before [] = refl
 frames_at-places t before (e ∷ later) =
     let all : List Step = steps_of (before ++ e ∷ later) in
-    let rest : List ℕ = places_from (length before + 1) (under t) later in
-    let ih : frames_at (steps_of ((before ++ e ∷ []) ++ later)) (places_from (length (before ++ e ∷ [])) (under t) later) ≡ frames_under t later = frames_at-places t (before ++ e ∷ []) later in
-    pushed_frames (under t e) (λ i. frame_of_step (slice_get all i)) (length before) rest
-    ∙ ap (λ o. cond (under t e) (frame_of_step o) [] ++ frames_at all rest) (step_at before later e)
-    ∙ ap (λ l. cond (under t e) (frame_of_step (Some e.step)) [] ++ l)
+    let rest : List ℕ = places_from (length before + 1) (is_under t) later in
+    let ih : frames_at (steps_of ((before ++ e ∷ []) ++ later)) (places_from (length (before ++ e ∷ [])) (is_under t) later) ≡ frames_under t later = frames_at-places t (before ++ e ∷ []) later in
+    pushed_frames (is_under t e) (λ i. frame_of_step (slice_get all i)) (length before) rest
+    ∙ ap (λ o. cond (is_under t e) (frame_of_step o) [] ++ frames_at all rest) (step_at before later e)
+    ∙ ap (λ l. cond (is_under t e) (frame_of_step (Some e.step)) [] ++ l)
     (ap (λ l. frames_at (steps_of l) rest) (sym (append_assoc before (e ∷ []) later))
-    ∙ ap (λ n. frames_at (steps_of ((before ++ e ∷ []) ++ later)) (places_from n (under t) later)) (sym (length-append before (e ∷ [])))
+    ∙ ap (λ n. frames_at (steps_of ((before ++ e ∷ []) ++ later)) (places_from n (is_under t) later)) (sym (length-append before (e ∷ [])))
     ∙ ih)
 
-frames_of-from : (r : List Entry) (t : TransactionId) (o : Option ℕ) → ((n : ℕ) → o ≡ Some n → n < length r) → frames_at (steps_of r) (mine_from r t o) ≡ frames_under t (entries_from r o)
+frames_of-from : (r : List Entry) (t : TransactionId) (o : Option ℕ) → ((n : ℕ) → o ≡ Some n → n < length r) → frames_at (steps_of r) (frame_places_from r t o) ≡ frames_under t (entries_from r o)
 frames_of-from r t None h = refl
 frames_of-from r t (Some n) h =
     let below : n < length r = h n refl in
     let front : List Entry = take (suc n) r in
     let count : length front ≡ suc n = length-take-le (suc n) r (omega arith) in
-    ap (λ l. frames_at (steps_of l) (places_from (suc n) (under t) (drop (suc n) r))) (sym (take-append-drop (suc n) r))
-    ∙ ap (λ k. frames_at (steps_of (front ++ drop (suc n) r)) (places_from k (under t) (drop (suc n) r))) (sym count)
+    ap (λ l. frames_at (steps_of l) (places_from (suc n) (is_under t) (drop (suc n) r))) (sym (take-append-drop (suc n) r))
+    ∙ ap (λ k. frames_at (steps_of (front ++ drop (suc n) r)) (places_from k (is_under t) (drop (suc n) r))) (sym count)
     ∙ frames_at-places t front (drop (suc n) r)
 
 -- the frames of a transaction are those under its id since its last declare
 pub frames_of-since : (r : List Entry) (t : TransactionId) → frames_of r t ≡ frames_under t (entries_since r t)
-unfolding mine entries_since
+unfolding frame_places entries_since
 frames_of-since r t = frames_of-from r t (since r t) (λ n h. since-below r t n h)
 
 -- only a control message commits
@@ -91,26 +96,26 @@ commits_control r _ t h = cc h
 pub hands-own : (r : List Entry) (s : Step) (t : TransactionId) → commits r s ≡ Some t → hands r s ≡ map stripped (frames_under t (entries_since r t))
 hands-own r s t h = commits_control r s t h ∙ ap (map stripped) (frames_of-since r t)
 
-own_one : (t : TransactionId) (s : Step) → step_under t s ≡ true → length (frame_of_step (Some s)) ≡ 1
+own_one : (t : TransactionId) (s : Step) → step_is_under t s ≡ true → length (frame_of_step (Some s)) ≡ 1
 own_one t (steps.Frame frame) h = refl
 own_one t _ h = cc h
 
-counted : (b : Bool) (own rest : List Frame) (n : ℕ) (places : List ℕ) → (b ≡ true → length own ≡ 1) → length rest ≡ length places → length (cond b own [] ++ rest) ≡ length (cond b (n ∷ places) places)
-counted true own rest n places one ih = let l : length (own ++ rest) ≡ length own + length rest = length-append own rest in omega (arith, one refl)
-counted false own rest n places one ih = ih
+count_own : (b : Bool) (own rest : List Frame) (n : ℕ) (places : List ℕ) → (b ≡ true → length own ≡ 1) → length rest ≡ length places → length (cond b own [] ++ rest) ≡ length (cond b (n ∷ places) places)
+count_own true own rest n places one ih = let l : length (own ++ rest) ≡ length own + length rest = length-append own rest in omega (arith, one refl)
+count_own false own rest n places one ih = ih
 
-count_under : (t : TransactionId) (n : ℕ) (r : List Entry) → length (frames_under t r) ≡ length (places_from n (under t) r)
+count_under : (t : TransactionId) (n : ℕ) (r : List Entry) → length (frames_under t r) ≡ length (places_from n (is_under t) r)
 count_under t n [] = refl
-count_under t n (e ∷ r) = counted (under t e) (frame_of_step (Some e.step)) (frames_under t r) n (places_from (n + 1) (under t) r) (own_one t e.step) (count_under t (n + 1) r)
+count_under t n (e ∷ r) = count_own (is_under t e) (frame_of_step (Some e.step)) (frames_under t r) n (places_from (n + 1) (is_under t) r) (own_one t e.step) (count_under t (n + 1) r)
 
-count_from : (r : List Entry) (t : TransactionId) (o : Option ℕ) → length (frames_under t (entries_from r o)) ≡ length (mine_from r t o)
+count_from : (r : List Entry) (t : TransactionId) (o : Option ℕ) → length (frames_under t (entries_from r o)) ≡ length (frame_places_from r t o)
 count_from r t None = refl
 count_from r t (Some n) = count_under t (suc n) (drop (suc n) r)
 
 -- an id has as many frames as places
-pub length-mine : (r : List Entry) (t : TransactionId) → length (frames_under t (entries_since r t)) ≡ length (mine r t)
-unfolding mine entries_since
-length-mine r t = count_from r t (since r t)
+pub length-places : (r : List Entry) (t : TransactionId) → length (frames_under t (entries_since r t)) ≡ length (frame_places r t)
+unfolding frame_places entries_since
+length-places r t = count_from r t (since r t)
 
 -- ---- what others do
 
@@ -127,35 +132,35 @@ IsLegal-last r e l = LegalAfter-last [] r e l
 
 -- what a step of others leaves of an id
 record LeavesAlone (r : List Entry) (t : TransactionId) (s : Step) (reply : Reply) : Type 0 where
-  under : step_under t s ≡ false
+  under : step_is_under t s ≡ false
   declares : reply_declares t reply ≡ false
   discharges : step_discharges t s reply ≡ false
-  attaches : undischarged r t ≡ true → reply_attaches (home r t) reply ≡ false
-  closes : step_closes (home r t) s reply ≡ false
+  attaches : (k : ℕ) → undischarged r t ≡ true → home r t ≡ Some k → reply_attaches k reply ≡ false
+  closes : (k : ℕ) → step_closes k s reply ≡ false
 
 alone_frame : (r : List Entry) (t : TransactionId) (frame : Frame) (o : Option TransactionId) (reply : Reply) → IsLegal r → is_some_id t (txn frame) ≡ false → AnswerFrame r frame o reply → LeavesAlone r t (steps.Frame frame) reply
-alone_frame r t frame o (replies.Frames answers) l u a = record { under = u; declares = refl; discharges = refl; attaches = λ _. refl; closes = refl }
+alone_frame r t frame o (replies.Frames answers) l u a = record { under = u; declares = refl; discharges = refl; attaches = λ _ _ _. refl; closes = λ _. refl }
 alone_frame r t frame None (replies.Attached link given) l u a = record {
   under = u;
   declares = refl;
   discharges = refl;
-  attaches = λ h. ne_eqb link (home r t) (λ e. let below : home r t < attached_count r = homes_attached r t l h in omega (arith, a.1));
-  closes = refl;
+  attaches = λ k h q. ne_eqb link k (λ e. let below : k < attached_count r = homes_attached r t k l h q in omega (arith, a.1));
+  closes = λ _. refl;
 }
-alone_frame r t frame None (replies.AttachRefused error) l u a = record { under = u; declares = refl; discharges = refl; attaches = λ _. refl; closes = refl }
+alone_frame r t frame None (replies.AttachRefused error) l u a = record { under = u; declares = refl; discharges = refl; attaches = λ _ _ _. refl; closes = λ _. refl }
 alone_frame r t frame None _ l u a = absurd a
 alone_frame r t frame (Some id) _ l u a = absurd a
 
 alone_discharge : (r : List Entry) (t : TransactionId) (k : ℕ) (payload : List ℕ) (b : Bool) (discharge : Discharge) (d : List TransactionId) (reply : Reply) → message_of payload ≡ Some (messages.Discharge discharge) → same_id t discharge.txn_id ≡ false → AnswerControl r k b (Some (messages.Discharge discharge)) d reply → LeavesAlone r t (steps.Control k payload) reply
-alone_discharge r t k payload false discharge d replies.NoLink m n a = record { under = refl; declares = refl; discharges = refl; attaches = λ _. refl; closes = refl }
+alone_discharge r t k payload false discharge d replies.NoLink m n a = record { under = refl; declares = refl; discharges = refl; attaches = λ _ _ _. refl; closes = λ _. refl }
 alone_discharge r t k payload false discharge d _ m n a = absurd a
-alone_discharge r t k payload true discharge d (replies.Rejected error text) m n a = record { under = refl; declares = refl; discharges = refl; attaches = λ _. refl; closes = refl }
+alone_discharge r t k payload true discharge d (replies.Rejected error text) m n a = record { under = refl; declares = refl; discharges = refl; attaches = λ _ _ _. refl; closes = λ _. refl }
 alone_discharge r t k payload true discharge d (replies.Accepted echoes) m n a = record {
   under = refl;
   declares = refl;
   discharges = ap (message_discharges t) m ∙ n;
-  attaches = λ _. refl;
-  closes = refl;
+  attaches = λ _ _ _. refl;
+  closes = λ _. refl;
 }
 alone_discharge r t k payload true discharge d _ m n a = absurd a
 
@@ -174,17 +179,17 @@ alone r t (steps.Control k payload) d reply l o a = alone_control r t k payload 
 alone r t _ d reply l o a = cc o
 
 -- a step of others leaves the places of an id
-pub others_mine : (r : List Entry) (e : Entry) (t : TransactionId) → IsLegal (r ++ e ∷ []) → is_of_others t e.step ≡ true → mine (r ++ e ∷ []) t ≡ mine r t
-others_mine r e t l o =
+pub others-places : (r : List Entry) (e : Entry) (t : TransactionId) → IsLegal (r ++ e ∷ []) → is_of_others t e.step ≡ true → frame_places (r ++ e ∷ []) t ≡ frame_places r t
+others-places r e t l o =
     let parts = IsLegal-last r e l in
-    let left = alone r t e.step e.drawn.ids e.reply parts.0 o parts.1 in mine-same r e t left.declares left.under
+    let left = alone r t e.step e.drawn.ids e.reply parts.0 o parts.1 in places-same r e t left.declares left.under
 
 -- and whether it is live
 pub others_live : (r : List Entry) (e : Entry) (t : TransactionId) → IsLegal (r ++ e ∷ []) → is_of_others t e.step ≡ true → is_live (r ++ e ∷ []) t ≡ is_live r t
 others_live r e t l o =
     let parts = IsLegal-last r e l in
     let left = alone r t e.step e.drawn.ids e.reply parts.0 o parts.1 in
-    live-same r e t left.declares left.discharges (λ h. is_open-other r e (home r t) (left.attaches h) left.closes)
+    live-same r e t left.declares left.discharges (λ h. is_open_at-other r e (home r t) (λ k q. left.attaches k h q) (λ k q. left.closes k))
 
 -- ---- after a discharge
 
@@ -195,7 +200,7 @@ discharged_dead before later e t h n =
     (ap (λ l. undischarged l t) (sym (append_assoc before (e ∷ []) later)) ∙ undischarged-later (before ++ e ∷ []) later t (undischarged-ended before e t h) n)
 
 dead_held : (r : List Entry) (k : ℕ) (t : TransactionId) → is_live r t ≡ false → is_held_on r k t ≡ false
-dead_held r k t h = ap (λ b. b && (home r t == k)) h
+dead_held r k t h = ap (λ b. b && is_link k (home r t)) h
 
 rejected_discharge : (r : List Entry) (k : ℕ) (t : TransactionId) (fail : Option Bool) (d : List TransactionId) (reply : Reply) → is_live r t ≡ false → AnswerDischarge r k t fail d reply → reply ≡ replies.Rejected transaction_errors.UnknownId texts.Absent
 rejected_discharge r k t fail d (replies.Rejected transaction_errors.UnknownId texts.Absent) l a = refl

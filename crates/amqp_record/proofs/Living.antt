@@ -9,55 +9,55 @@ use Rattle.amqp_record.specs.declared.step.Step.{Step}
 use Rattle.amqp_record.specs.declared.step.Step.TheVariants as steps
 use Rattle.amqp_record.specs.declared.reply.Reply.{Reply}
 use Rattle.amqp_record.specs.declared.reply.Reply.TheVariants as replies
-use Rattle.amqp_record.specs.Entries.{declares, discharges, reply_declares, step_discharges, under}
+use Rattle.amqp_record.specs.Entries.{declares, discharges, reply_declares, step_discharges, is_under}
 use Rattle.amqp_record.specs.Links.{is_open}
-use Rattle.amqp_record.specs.Live.{since, home, undischarged, is_live, mine, mine_from, places_from}
+use Rattle.amqp_record.specs.Live.{since, home, undischarged, is_live, is_open_at, frame_places, frame_places_from, places_from}
 use Rattle.amqp_record.proofs.Places.{places_from-snoc}
 use Rattle.amqp_record.proofs.Looking.{since-other, since-below, home-other, undischarged-other}
 
-pub live-at : (r : List Entry) (t : TransactionId) → is_live r t ≡ (undischarged r t && is_open r (home r t))
+pub live-at : (r : List Entry) (t : TransactionId) → is_live r t ≡ (undischarged r t && is_open_at r (home r t))
 unfolding is_live
 live-at r t = refl
 
 pub live_undischarged : (r : List Entry) (t : TransactionId) → is_live r t ≡ true → undischarged r t ≡ true
-live_undischarged r t h = (and_parts (undischarged r t) (is_open r (home r t)) (sym (live-at r t) ∙ h)).0
+live_undischarged r t h = (and_parts (undischarged r t) (is_open_at r (home r t)) (sym (live-at r t) ∙ h)).0
 
-pub live_open : (r : List Entry) (t : TransactionId) → is_live r t ≡ true → is_open r (home r t) ≡ true
-live_open r t h = (and_parts (undischarged r t) (is_open r (home r t)) (sym (live-at r t) ∙ h)).1
+pub live_open : (r : List Entry) (t : TransactionId) → is_live r t ≡ true → is_open_at r (home r t) ≡ true
+live_open r t h = (and_parts (undischarged r t) (is_open_at r (home r t)) (sym (live-at r t) ∙ h)).1
 
 pub ended_dead : (r : List Entry) (t : TransactionId) → undischarged r t ≡ false → is_live r t ≡ false
-ended_dead r t h = live-at r t ∙ ap (λ b. b && is_open r (home r t)) h
+ended_dead r t h = live-at r t ∙ ap (λ b. b && is_open_at r (home r t)) h
 
 -- whether the id is live after an entry that doesn't declare it
-pub live-other : (r : List Entry) (e : Entry) (t : TransactionId) → declares t e ≡ false → is_live (r ++ e ∷ []) t ≡ ((undischarged r t && not (discharges t e)) && is_open (r ++ e ∷ []) (home r t))
+pub live-other : (r : List Entry) (e : Entry) (t : TransactionId) → declares t e ≡ false → is_live (r ++ e ∷ []) t ≡ ((undischarged r t && not (discharges t e)) && is_open_at (r ++ e ∷ []) (home r t))
 live-other r e t d =
     live-at (r ++ e ∷ []) t
-    ∙ ap (λ k. undischarged (r ++ e ∷ []) t && is_open (r ++ e ∷ []) k) (home-other r e t d)
-    ∙ ap (λ b. b && is_open (r ++ e ∷ []) (home r t)) (undischarged-other r e t d)
+    ∙ ap (λ k. undischarged (r ++ e ∷ []) t && is_open_at (r ++ e ∷ []) k) (home-other r e t d)
+    ∙ ap (λ b. b && is_open_at (r ++ e ∷ []) (home r t)) (undischarged-other r e t d)
 
 -- an entry that neither declares nor discharges the id, nor touches its home, leaves it live or not
-pub live-same : (r : List Entry) (e : Entry) (t : TransactionId) → declares t e ≡ false → discharges t e ≡ false → (undischarged r t ≡ true → is_open (r ++ e ∷ []) (home r t) ≡ is_open r (home r t)) → is_live (r ++ e ∷ []) t ≡ is_live r t
+pub live-same : (r : List Entry) (e : Entry) (t : TransactionId) → declares t e ≡ false → discharges t e ≡ false → (undischarged r t ≡ true → is_open_at (r ++ e ∷ []) (home r t) ≡ is_open_at r (home r t)) → is_live (r ++ e ∷ []) t ≡ is_live r t
 live-same r e t d x o =
-    live-other r e t d ∙ ap (λ b. (undischarged r t && not b) && is_open (r ++ e ∷ []) (home r t)) x
-    ∙ and_same (undischarged r t) (is_open (r ++ e ∷ []) (home r t)) (is_open r (home r t)) o ∙ sym (live-at r t)
+    live-other r e t d ∙ ap (λ b. (undischarged r t && not b) && is_open_at (r ++ e ∷ []) (home r t)) x
+    ∙ and_same (undischarged r t) (is_open_at (r ++ e ∷ []) (home r t)) (is_open_at r (home r t)) o ∙ sym (live-at r t)
   where
     and_same : (a b c : Bool) → (a ≡ true → b ≡ c) → ((a && true) && b) ≡ (a && c)
     and_same true b c h = h refl
     and_same false b c h = refl
 
-mine_from-same : (r : List Entry) (e : Entry) (t : TransactionId) (o : Option ℕ) → ((n : ℕ) → o ≡ Some n → n < length r) → under t e ≡ false → mine_from (r ++ e ∷ []) t o ≡ mine_from r t o
-mine_from-same r e t None h u = refl
-mine_from-same r e t (Some n) h u =
+frame_places_from-same : (r : List Entry) (e : Entry) (t : TransactionId) (o : Option ℕ) → ((n : ℕ) → o ≡ Some n → n < length r) → is_under t e ≡ false → frame_places_from (r ++ e ∷ []) t o ≡ frame_places_from r t o
+frame_places_from-same r e t None h u = refl
+frame_places_from-same r e t (Some n) h u =
     let below : n < length r = h n refl in
-    ap (places_from (suc n) (under t)) (drop-append-le (suc n) r (e ∷ []) below)
-    ∙ places_from-snoc (suc n) (under t) (drop (suc n) r) e
-    ∙ ap (λ b. places_from (suc n) (under t) (drop (suc n) r) ++ cond b ((suc n + length (drop (suc n) r)) ∷ []) []) u
-    ∙ append-nil (places_from (suc n) (under t) (drop (suc n) r))
+    ap (places_from (suc n) (is_under t)) (drop-append-le (suc n) r (e ∷ []) below)
+    ∙ places_from-snoc (suc n) (is_under t) (drop (suc n) r) e
+    ∙ ap (λ b. places_from (suc n) (is_under t) (drop (suc n) r) ++ cond b ((suc n + length (drop (suc n) r)) ∷ []) []) u
+    ∙ append-nil (places_from (suc n) (is_under t) (drop (suc n) r))
 
 -- an entry that neither declares the id nor is a frame under it leaves its places
-pub mine-same : (r : List Entry) (e : Entry) (t : TransactionId) → declares t e ≡ false → under t e ≡ false → mine (r ++ e ∷ []) t ≡ mine r t
-unfolding mine
-mine-same r e t d u = ap (mine_from (r ++ e ∷ []) t) (since-other r e t d) ∙ mine_from-same r e t (since r t) (λ n h. since-below r t n h) u
+pub places-same : (r : List Entry) (e : Entry) (t : TransactionId) → declares t e ≡ false → is_under t e ≡ false → frame_places (r ++ e ∷ []) t ≡ frame_places r t
+unfolding frame_places
+places-same r e t d u = ap (frame_places_from (r ++ e ∷ []) t) (since-other r e t d) ∙ frame_places_from-same r e t (since r t) (λ n h. since-below r t n h) u
 
 -- ---- ended ids
 

@@ -8,9 +8,9 @@ use Rattle.std.proofs.lemmas.List.Concat.{flat_map-append}
 use Rattle.amqp_txn_types.specs.declared.id.TransactionId.{TransactionId}
 use Rattle.amqp_record.specs.declared.entry.Entry.{Entry}
 use Rattle.amqp_record.specs.declared.step.Step.{Step}
-use Rattle.amqp_record.specs.Entries.{attaches, closes, declares, discharges, under, step_link, steps_of}
+use Rattle.amqp_record.specs.Entries.{attaches, closes, declares, discharges, is_under, step_link, steps_of}
 use Rattle.amqp_record.specs.Links.{is_open}
-use Rattle.amqp_record.specs.Live.{places_from, since, home, home_from, undischarged, undischarged_from, mine, mine_from, link_of_entry}
+use Rattle.amqp_record.specs.Live.{places_from, since, home, home_from, is_open_at, undischarged, undischarged_from, frame_places, frame_places_from, link_of_entry}
 use Rattle.amqp_record.specs.Hands.{frames_at, frame_of_step, frames_of}
 use Rattle.amqp_record.proofs.Places.{last_place-snoc, last_place-below, places_from-snoc, places_from-below, slice_get-append, slice_get-at}
 
@@ -36,6 +36,11 @@ pub is_open-closed : (r : List Entry) (e : Entry) (k : ℕ) → closes k e ≡ t
 unfolding is_open
 is_open-closed r e k c = simp (list_any-append (closes k) r (e ∷ []), c) (shut (list_any (attaches k) (r ++ e ∷ [])) (list_any (closes k) r))
 
+-- an entry that neither attaches nor closes the link, if there is one, leaves it
+pub is_open_at-other : (r : List Entry) (e : Entry) (o : Option ℕ) → ((k : ℕ) → o ≡ Some k → attaches k e ≡ false) → ((k : ℕ) → o ≡ Some k → closes k e ≡ false) → is_open_at (r ++ e ∷ []) o ≡ is_open_at r o
+is_open_at-other r e None a c = refl
+is_open_at-other r e (Some k) a c = is_open-other r e k (a k refl) (c k refl)
+
 -- ---- the last declare
 
 pub since-snoc : (r : List Entry) (e : Entry) (t : TransactionId) → since (r ++ e ∷ []) t ≡ cond (declares t e) (Some (length r)) (since r t)
@@ -48,7 +53,7 @@ since-below r t n h = last_place-below (declares t) r n h
 
 -- ---- an entry that declares the id
 
-since-declared : (r : List Entry) (e : Entry) (t : TransactionId) → declares t e ≡ true → since (r ++ e ∷ []) t ≡ Some (length r)
+pub since-declared : (r : List Entry) (e : Entry) (t : TransactionId) → declares t e ≡ true → since (r ++ e ∷ []) t ≡ Some (length r)
 since-declared r e t d = since-snoc r e t ∙ ap (λ b. cond b (Some (length r)) (since r t)) d
 
 nothing_later : (r : List Entry) (e : Entry) → drop (suc (length r)) (r ++ e ∷ []) ≡ []
@@ -62,9 +67,9 @@ pub undischarged-declared : (r : List Entry) (e : Entry) (t : TransactionId) →
 unfolding undischarged
 undischarged-declared r e t d = ap (undischarged_from (r ++ e ∷ []) t) (since-declared r e t d) ∙ ap (λ l. not (list_any (discharges t) l)) (nothing_later r e)
 
-pub mine-declared : (r : List Entry) (e : Entry) (t : TransactionId) → declares t e ≡ true → mine (r ++ e ∷ []) t ≡ []
-unfolding mine
-mine-declared r e t d = ap (mine_from (r ++ e ∷ []) t) (since-declared r e t d) ∙ ap (λ l. places_from (suc (length r)) (under t) l) (nothing_later r e)
+pub places-declared : (r : List Entry) (e : Entry) (t : TransactionId) → declares t e ≡ true → frame_places (r ++ e ∷ []) t ≡ []
+unfolding frame_places
+places-declared r e t d = ap (frame_places_from (r ++ e ∷ []) t) (since-declared r e t d) ∙ ap (λ l. places_from (suc (length r)) (is_under t) l) (nothing_later r e)
 
 -- ---- another entry
 
@@ -95,29 +100,29 @@ pub undischarged-other : (r : List Entry) (e : Entry) (t : TransactionId) → de
 unfolding undischarged
 undischarged-other r e t d = ap (undischarged_from (r ++ e ∷ []) t) (since-other r e t d) ∙ undischarged_from-snoc r e t (since r t) (λ n h. since-below r t n h)
 
-mine_from-snoc : (r : List Entry) (e : Entry) (t : TransactionId) (o : Option ℕ) → ((n : ℕ) → o ≡ Some n → n < length r) → undischarged_from r t o ≡ true → mine_from (r ++ e ∷ []) t o ≡ mine_from r t o ++ cond (under t e) (length r ∷ []) []
-mine_from-snoc r e t None h u = cc u
-mine_from-snoc r e t (Some n) h u =
+frame_places_from-snoc : (r : List Entry) (e : Entry) (t : TransactionId) (o : Option ℕ) → ((n : ℕ) → o ≡ Some n → n < length r) → undischarged_from r t o ≡ true → frame_places_from (r ++ e ∷ []) t o ≡ frame_places_from r t o ++ cond (is_under t e) (length r ∷ []) []
+frame_places_from-snoc r e t None h u = cc u
+frame_places_from-snoc r e t (Some n) h u =
     let below : n < length r = h n refl in
-    ap (places_from (suc n) (under t)) (drop-append-le (suc n) r (e ∷ []) (h n refl))
-    ∙ places_from-snoc (suc n) (under t) (drop (suc n) r) e
-    ∙ ap (λ k. places_from (suc n) (under t) (drop (suc n) r) ++ cond (under t e) (k ∷ []) []) (omega (arith, length-drop (suc n) r))
+    ap (places_from (suc n) (is_under t)) (drop-append-le (suc n) r (e ∷ []) (h n refl))
+    ∙ places_from-snoc (suc n) (is_under t) (drop (suc n) r) e
+    ∙ ap (λ k. places_from (suc n) (is_under t) (drop (suc n) r) ++ cond (is_under t e) (k ∷ []) []) (omega (arith, length-drop (suc n) r))
 
-pub mine-other : (r : List Entry) (e : Entry) (t : TransactionId) → declares t e ≡ false → undischarged r t ≡ true → mine (r ++ e ∷ []) t ≡ mine r t ++ cond (under t e) (length r ∷ []) []
-unfolding mine undischarged
-mine-other r e t d u = ap (mine_from (r ++ e ∷ []) t) (since-other r e t d) ∙ mine_from-snoc r e t (since r t) (λ n h. since-below r t n h) u
+pub places-other : (r : List Entry) (e : Entry) (t : TransactionId) → declares t e ≡ false → undischarged r t ≡ true → frame_places (r ++ e ∷ []) t ≡ frame_places r t ++ cond (is_under t e) (length r ∷ []) []
+unfolding frame_places undischarged
+places-other r e t d u = ap (frame_places_from (r ++ e ∷ []) t) (since-other r e t d) ∙ frame_places_from-snoc r e t (since r t) (λ n h. since-below r t n h) u
 
 -- ---- the frames at places
 
-mine_from-below : (r : List Entry) (t : TransactionId) (o : Option ℕ) → ((n : ℕ) → o ≡ Some n → n < length r) → AllByRecursion (λ i. i < length r) (mine_from r t o)
-mine_from-below r t None h = tt
-mine_from-below r t (Some n) h =
+frame_places_from-below : (r : List Entry) (t : TransactionId) (o : Option ℕ) → ((n : ℕ) → o ≡ Some n → n < length r) → AllByRecursion (λ i. i < length r) (frame_places_from r t o)
+frame_places_from-below r t None h = tt
+frame_places_from-below r t (Some n) h =
     let below : n < length r = h n refl in
-    places_from-below (length r) (suc n) (under t) (drop (suc n) r) (omega (arith, length-drop (suc n) r))
+    places_from-below (length r) (suc n) (is_under t) (drop (suc n) r) (omega (arith, length-drop (suc n) r))
 
-pub mine-below : (r : List Entry) (t : TransactionId) → AllByRecursion (λ i. i < length r) (mine r t)
-unfolding mine
-mine-below r t = mine_from-below r t (since r t) (λ n h. since-below r t n h)
+pub places-below : (r : List Entry) (t : TransactionId) → AllByRecursion (λ i. i < length r) (frame_places r t)
+unfolding frame_places
+places-below r t = frame_places_from-below r t (since r t) (λ n h. since-below r t n h)
 
 -- the frames at places of the front
 pub frames_at-front : (ss ts : List Step) (places : List ℕ) → AllByRecursion (λ i. i < length ss) places → frames_at (ss ++ ts) places ≡ frames_at ss places
@@ -129,21 +134,21 @@ frames_at-front ss ts (i ∷ places) h =
 steps-snoc : (r : List Entry) (e : Entry) → steps_of (r ++ e ∷ []) ≡ steps_of r ++ e.step ∷ []
 steps-snoc r e = map-append (λ (x : Entry). x.step) r (e ∷ [])
 
-pub mine-below_steps : (r : List Entry) (t : TransactionId) → AllByRecursion (λ i. i < length (steps_of r)) (mine r t)
-mine-below_steps r t = let P : ℕ → Type 0 = λ n. AllByRecursion (λ i. i < n) (mine r t) in subst P (sym (length-map r (λ (x : Entry). x.step))) (mine-below r t)
+pub places-below_steps : (r : List Entry) (t : TransactionId) → AllByRecursion (λ i. i < length (steps_of r)) (frame_places r t)
+places-below_steps r t = let P : ℕ → Type 0 = λ n. AllByRecursion (λ i. i < n) (frame_places r t) in subst P (sym (length-map r (λ (x : Entry). x.step))) (places-below r t)
 
 pub frames_of-declared : (r : List Entry) (e : Entry) (t : TransactionId) → declares t e ≡ true → frames_of (r ++ e ∷ []) t ≡ []
-frames_of-declared r e t d = ap (frames_at (steps_of (r ++ e ∷ []))) (mine-declared r e t d)
+frames_of-declared r e t d = ap (frames_at (steps_of (r ++ e ∷ []))) (places-declared r e t d)
 
 own_place : (r : List Entry) (e : Entry) (b : Bool) → frames_at (steps_of r ++ e.step ∷ []) (cond b (length r ∷ []) []) ≡ cond b (frame_of_step (Some e.step)) []
 own_place r e false = refl
 own_place r e true = ap (λ o. frame_of_step o ++ []) (ap (slice_get (steps_of r ++ e.step ∷ [])) (sym (length-map r (λ (x : Entry). x.step))) ∙ slice_get-at (steps_of r) [] e.step) ∙ append-nil (frame_of_step (Some e.step))
 
 -- another entry adds its frame, where that is under the id
-pub frames_of-other : (r : List Entry) (e : Entry) (t : TransactionId) → declares t e ≡ false → undischarged r t ≡ true → frames_of (r ++ e ∷ []) t ≡ frames_of r t ++ cond (under t e) (frame_of_step (Some e.step)) []
+pub frames_of-other : (r : List Entry) (e : Entry) (t : TransactionId) → declares t e ≡ false → undischarged r t ≡ true → frames_of (r ++ e ∷ []) t ≡ frames_of r t ++ cond (is_under t e) (frame_of_step (Some e.step)) []
 frames_of-other r e t d u =
-    ap (λ ss. frames_at ss (mine (r ++ e ∷ []) t)) (steps-snoc r e)
-    ∙ ap (frames_at (steps_of r ++ e.step ∷ [])) (mine-other r e t d u)
-    ∙ flat_map-append (λ i. frame_of_step (slice_get (steps_of r ++ e.step ∷ []) i)) (mine r t) (cond (under t e) (length r ∷ []) [])
-    ∙ ap (λ l. l ++ frames_at (steps_of r ++ e.step ∷ []) (cond (under t e) (length r ∷ []) [])) (frames_at-front (steps_of r) (e.step ∷ []) (mine r t) (mine-below_steps r t))
-    ∙ ap (λ l. frames_of r t ++ l) (own_place r e (under t e))
+    ap (λ ss. frames_at ss (frame_places (r ++ e ∷ []) t)) (steps-snoc r e)
+    ∙ ap (frames_at (steps_of r ++ e.step ∷ [])) (places-other r e t d u)
+    ∙ flat_map-append (λ i. frame_of_step (slice_get (steps_of r ++ e.step ∷ []) i)) (frame_places r t) (cond (is_under t e) (length r ∷ []) [])
+    ∙ ap (λ l. l ++ frames_at (steps_of r ++ e.step ∷ []) (cond (is_under t e) (length r ∷ []) [])) (frames_at-front (steps_of r) (e.step ∷ []) (frame_places r t) (places-below_steps r t))
+    ∙ ap (λ l. frames_of r t ++ l) (own_place r e (is_under t e))

@@ -7,18 +7,18 @@ use Rattle.std.proofs.lemmas.List.Concat.{flat_map-append}
 use Rattle.std.proofs.lemmas.Slice.Zip.{firsts-zip}
 use Rattle.amqp_txn_types.specs.declared.id.TransactionId.{TransactionId}
 use Rattle.amqp_txn_types.specs.declared.performatives.Frame.{Frame}
-use Rattle.amqp_txn_types.specs.Frames.{plain, stripped}
+use Rattle.amqp_txn_types.specs.Frames.{is_plain_frame, stripped}
 use Rattle.amqp_record.specs.declared.entry.Entry.{Entry}
 use Rattle.amqp_record.specs.declared.step.Step.{Step}
 use Rattle.amqp_record.specs.declared.step.Step.TheVariants as steps
 use Rattle.amqp_record.specs.Entries.{steps_of}
-use Rattle.amqp_record.specs.Live.{mine}
+use Rattle.amqp_record.specs.Live.{frame_places}
 use Rattle.amqp_record.specs.Hands.{frames_at, frame_of_step, sources, sources_of, commits, hands}
-use Rattle.amqp_record.specs.Work.{origins, work, gave, pairs}
+use Rattle.amqp_record.specs.Work.{origins, work, given_back, pairs}
 use Rattle.amqp_record.specs.Answers.{Answer}
 use Rattle.amqp_record.specs.Legal.{IsLegal}
-use Rattle.amqp_record.proofs.Looking.{frames_at-front, mine-below}
-use Rattle.amqp_record.proofs.Whole.{joined_after-snoc, work-snoc, legal_induction, work_gave}
+use Rattle.amqp_record.proofs.Looking.{frames_at-front, places-below}
+use Rattle.amqp_record.proofs.Whole.{joined_after-snoc, work-snoc, legal_induction, work_given}
 
 pub origins-snoc : (r : List Entry) (e : Entry) → origins (r ++ e ∷ []) ≡ origins r ++ sources r e.step
 unfolding origins
@@ -33,7 +33,7 @@ all_append P [] ys a b = b
 all_append P (x ∷ xs) ys a b = (a.0, all_append P xs ys a.1 b)
 
 sources-below : (r : List Entry) (s : Step) → AllByRecursion (λ i. i < suc (length r)) (sources r s)
-sources-below r (steps.Frame frame) = by_case (plain frame)
+sources-below r (steps.Frame frame) = by_case (is_plain_frame frame)
   where
     by_case : (b : Bool) → AllByRecursion (λ i. i < suc (length r)) (cond b (length r ∷ []) [])
     by_case true = (omega arith, tt)
@@ -42,7 +42,7 @@ sources-below r (steps.Control k payload) = by_case (commits r (steps.Control k 
   where
     by_case : (o : Option TransactionId) → AllByRecursion (λ i. i < suc (length r)) (sources_of r o)
     by_case None = tt
-    by_case (Some t) = all_more (length r) (suc (length r)) (mine r t) (omega arith) (mine-below r t)
+    by_case (Some t) = all_more (length r) (suc (length r)) (frame_places r t) (omega arith) (places-below r t)
 sources-below r (steps.LinkEnd k) = tt
 sources-below r (steps.LocalEnd error) = tt
 sources-below r (steps.RemoteEnd error) = tt
@@ -79,4 +79,4 @@ work_origins r l = (legal_induction FromOrigins none_from more_from r l).1
 
 pub firsts_of_pairs : (r : List Entry) → IsLegal r → map (λ (p : Frame × List Frame). p.0) (pairs r) ≡ work r
 unfolding pairs
-firsts_of_pairs r l = firsts-zip (work r) (gave r) (sym (work_gave r l))
+firsts_of_pairs r l = firsts-zip (work r) (given_back r) (sym (work_given r l))

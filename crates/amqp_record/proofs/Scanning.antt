@@ -4,10 +4,10 @@ use Rattle.std.specs.Prelude.{Result, Ok, Err, IfOk}
 use Rattle.std.proofs.lemmas.List.{length-take-le, take_more, map-append}
 use Rattle.amqp_txn_types.specs.declared.id.TransactionId.{TransactionId}
 use Rattle.amqp_txn_types.specs.declared.performatives.Frame.{Frame}
-use Rattle.amqp_txn_types.specs.Frames.{plain, stripped}
+use Rattle.amqp_txn_types.specs.Frames.{is_plain_frame, stripped}
 use Rattle.amqp_record.specs.declared.step.Step.TheVariants as steps
 use Rattle.amqp_record.specs.declared.entry.Entry.{Entry}
-use Rattle.amqp_record.specs.Entries.{is_attached, under}
+use Rattle.amqp_record.specs.Entries.{is_attached, is_under}
 use Rattle.amqp_record.specs.Links.{attached_count}
 use Rattle.amqp_record.specs.Live.{last_place}
 use Rattle.amqp_record.specs.Hands.{frame_of_step, frames_under, hands, own_frame}
@@ -37,7 +37,7 @@ frames_under-append t (e ∷ r) s =
     ap (λ l. own ++ l) (frames_under-append t r s) ∙ sym (append_assoc own (frames_under t r) (frames_under t s))
 
 -- the stripped frames under an id, with one entry more
-pub stripped_under-more : (t : TransactionId) (r : List Entry) (i : ℕ) (e : Entry) (handed new : List Frame) → i < length r → e ≡ get_or r i e → handed ≡ map stripped (frames_under t (take i r)) → new ≡ handed ++ map stripped (cond (under t e) (frame_of_step (Some e.step)) []) → new ≡ map stripped (frames_under t (take (i + 1) r))
+pub stripped_under-more : (t : TransactionId) (r : List Entry) (i : ℕ) (e : Entry) (handed new : List Frame) → i < length r → e ≡ get_or r i e → handed ≡ map stripped (frames_under t (take i r)) → new ≡ handed ++ map stripped (cond (is_under t e) (frame_of_step (Some e.step)) []) → new ≡ map stripped (frames_under t (take (i + 1) r))
 stripped_under-more t r i e handed new h is so more =
     let own : List Frame = own_frame t e in
     more ∙ ap (λ l. l ++ map stripped own) so ∙ sym (map-append stripped (frames_under t (take i r)) own)
@@ -46,10 +46,10 @@ stripped_under-more t r i e handed new h is so more =
     ∙ sym (ap (λ l. map stripped (frames_under t l)) (take_more r i e h ∙ ap (λ x. take i r ++ x ∷ []) (sym is)))
 
 -- what a frame hands
-pub hands-frame : (r : List Entry) (frame : Frame) → hands r (steps.Frame frame) ≡ cond (plain frame) (frame ∷ []) []
-hands-frame r frame = by_case (plain frame) refl
+pub hands-frame : (r : List Entry) (frame : Frame) → hands r (steps.Frame frame) ≡ cond (is_plain_frame frame) (frame ∷ []) []
+hands-frame r frame = by_case (is_plain_frame frame) refl
   where
-    by_case : (b : Bool) → plain frame ≡ b → hands r (steps.Frame frame) ≡ cond (plain frame) (frame ∷ []) []
+    by_case : (b : Bool) → is_plain_frame frame ≡ b → hands r (steps.Frame frame) ≡ cond (is_plain_frame frame) (frame ∷ []) []
     by_case true h = hands-plain r frame h ∙ sym (ap (λ b. cond b (frame ∷ []) []) h)
     by_case false h = hands-other_frame r frame h ∙ sym (ap (λ b. cond b (frame ∷ []) []) h)
 

@@ -1,19 +1,18 @@
 -- Whole records with one entry more.
-use Rattle.std.proofs.Common.{◌≡◌, ℕ, suc, ◌+◌, ◌<◌, ◌≤◌, Bool, true, false, cond, not, ◌&&◌, ◌||◌, Option, Some, None, List, [], ◌∷◌, ◌++◌, length, map, refl, sym, ◌∙◌, ap, arith, append-nil, append_assoc, subst, zero-add}
+use Rattle.std.proofs.Common.{◌≡◌, ℕ, suc, ◌+◌, ◌<◌, ◌≤◌, Bool, true, false, cond, not, ◌&&◌, ◌||◌, Option, Some, None, List, [], ◌∷◌, ◌++◌, length, map, refl, sym, ◌∙◌, ap, arith, append-nil, append_assoc, subst, zero-add, ◌⊎◌, inl, inr}
 use Rattle.std.specs.Prelude.{slice_get, ◌==◌, if◌then◌else◌}
 use Rattle.std.specs.List.{list_any, zip}
 use Rattle.std.proofs.lemmas.List.{length-append, length-map}
 use Rattle.std.proofs.lemmas.List.Folds.{list_any-append}
 use Rattle.std.proofs.lemmas.List.Concat.{flat_map-append}
 use Rattle.std.proofs.lemmas.List.Sums.{sum_by-append}
-use Rattle.std.proofs.Common.{◌⊎◌, inl, inr}
 use Rattle.std.proofs.lemmas.Bool.{cases_lt, false_from_ne_true, eqb-true, and_parts, and_right, eq-eqb}
 use Rattle.amqp_txn_types.specs.declared.id.TransactionId.{TransactionId}
 use Rattle.amqp_txn_types.specs.declared.delivery.DeliveryState.{DeliveryState}
 use Rattle.amqp_txn_types.specs.declared.delivery.DeliveryState.TheVariants as states
 use Rattle.amqp_txn_types.specs.declared.performatives.Frame.{Frame}
 use Rattle.amqp_txn_types.specs.declared.performatives.Frame.TheVariants as frames
-use Rattle.amqp_txn_types.specs.Frames.{txn, txn_of_state, coord, plain, is_plain, stripped, stripped_state, is_under_txn}
+use Rattle.amqp_txn_types.specs.Frames.{txn, txn_of_state, is_coordinator_attach, is_plain_frame, is_plain_by, stripped, stripped_state, is_under_txn}
 use Rattle.amqp_txn_types.specs.declared.small.AmqpError.{AmqpError}
 use Rattle.amqp_txn_types.specs.declared.small.TransactionError.TheVariants as transaction_errors
 use Rattle.amqp_txn_codec.specs.declared.message.ControlMessageBody.{ControlMessageBody}
@@ -21,7 +20,7 @@ use Rattle.amqp_txn_codec.specs.declared.message.ControlMessageBody.TheVariants 
 use Rattle.amqp_txn_codec.specs.declared.message.Declare.{Declare}
 use Rattle.amqp_txn_codec.specs.declared.message.Discharge.{Discharge}
 use Rattle.amqp_txn_codec.specs.Reading.{message_of}
-use Rattle.amqp_below.specs.declared.answers.Answers.{Answers}
+use Rattle.amqp_layer.specs.declared.answers.Answers.{Answers}
 use Rattle.amqp_record.specs.declared.entry.Entry.{Entry}
 use Rattle.amqp_record.specs.declared.step.Step.{Step}
 use Rattle.amqp_record.specs.declared.step.Step.TheVariants as steps
@@ -30,12 +29,14 @@ use Rattle.amqp_record.specs.declared.reply.Reply.TheVariants as replies
 use Rattle.amqp_record.specs.declared.reply.RejectText.TheVariants as texts
 use Rattle.amqp_record.specs.Entries.{attaches, closes, step_closes, declares, is_attached, reply_attaches, discharges, step_link, reply_declares, steps_of}
 use Rattle.amqp_record.specs.Links.{is_open, attached_count}
-use Rattle.amqp_record.specs.Live.{home, undischarged, is_held_on, since, mine}
-use Rattle.amqp_record.specs.Hands.{frames_at, frame_of_step, frames_of, is_rollback, commits_message, if_open, commits, sources_of, hands}
-use Rattle.amqp_record.specs.Work.{joined_after, work, gave, given_by, pairs}
-use Rattle.amqp_record.specs.Answers.{WindowsFit, AnswerFrame, AnswerLinkEnd, AnswerDeclare, AnswerDischarge, AnswerMessage, AnswerControl, Answer, Echoed}
+use Rattle.amqp_record.specs.Live.{home, is_open_at, undischarged, is_held_on, since, frame_places}
+use Rattle.amqp_record.specs.Hands.{frames_at, frame_of_step, frames_of, commits_message, if_open, commits, sources_of, hands}
+use Rattle.amqp_txn_codec.specs.Discharges.{is_rollback}
+use Rattle.amqp_record.specs.Work.{joined_after, work, given_back, given_by, pairs}
+use Rattle.amqp_record.specs.Answers.{AnswerFrame, AnswerLinkEnd, AnswerDeclare, AnswerDischarge, AnswerMessage, AnswerControl, Answer, Echoed}
+use Rattle.amqp_layer.specs.Windows.{AllWindowsFit}
 use Rattle.amqp_record.specs.Legal.{LegalAfter, IsLegal}
-use Rattle.amqp_record.proofs.Looking.{frames_at-front, mine-below_steps, home-declared, home-other, undischarged-other}
+use Rattle.amqp_record.proofs.Looking.{frames_at-front, places-below_steps, home-declared, home-other, undischarged-other}
 use Rattle.amqp_record.proofs.Places.{slice_get-at}
 
 -- ---- joined lists
@@ -51,9 +52,9 @@ pub work-snoc : (r : List Entry) (e : Entry) → work (r ++ e ∷ []) ≡ work r
 unfolding work
 work-snoc r e = joined_after-snoc (λ before x. hands before x.step) [] r e
 
-pub gave-snoc : (r : List Entry) (e : Entry) → gave (r ++ e ∷ []) ≡ gave r ++ given_by e.step e.reply
-unfolding gave
-gave-snoc r e = flat_map-append (λ (x : Entry). given_by x.step x.reply) r (e ∷ []) ∙ ap (λ l. gave r ++ l) (append-nil (given_by e.step e.reply))
+pub given-snoc : (r : List Entry) (e : Entry) → given_back (r ++ e ∷ []) ≡ given_back r ++ given_by e.step e.reply
+unfolding given_back
+given-snoc r e = flat_map-append (λ (x : Entry). given_by x.step x.reply) r (e ∷ []) ∙ ap (λ l. given_back r ++ l) (append-nil (given_by e.step e.reply))
 
 pub zip-append : {X Y : Type 0} (xs zs : List X) (ys ws : List Y) → length xs ≡ length ys → zip (xs ++ zs) (ys ++ ws) ≡ zip xs ys ++ zip zs ws
 zip-append [] zs [] ws h = refl
@@ -108,56 +109,56 @@ stripped-plain (frames.Disposition disposition) h =
     ∙ ap (λ b. frames.Disposition (record disposition { settled = b })) (settled_stays disposition.state disposition.settled h)
 stripped-plain _ h = refl
 
-is_plain_none : (o : Option TransactionId) (c : Bool) → is_plain o c ≡ true → o ≡ None
+is_plain_none : (o : Option TransactionId) (c : Bool) → is_plain_by o c ≡ true → o ≡ None
 is_plain_none None c h = refl
 is_plain_none (Some t) c h = cc h
 
-pub plain_none : (frame : Frame) → plain frame ≡ true → txn frame ≡ None
-plain_none frame h = is_plain_none (txn frame) (coord frame) h
+pub plain_none : (frame : Frame) → is_plain_frame frame ≡ true → txn frame ≡ None
+plain_none frame h = is_plain_none (txn frame) (is_coordinator_attach frame) h
 
 own_frame : (r : List Entry) (s : Step) → frames_at (steps_of r ++ s ∷ []) (length r ∷ []) ≡ frame_of_step (Some s)
 own_frame r s = ap (λ o. frame_of_step o ++ []) (ap (slice_get (steps_of r ++ s ∷ [])) (sym (length-map r (λ (x : Entry). x.step))) ∙ slice_get-at (steps_of r) [] s) ∙ append-nil (frame_of_step (Some s))
 
 -- a plain frame is handed itself
-pub hands-plain : (r : List Entry) (frame : Frame) → plain frame ≡ true → hands r (steps.Frame frame) ≡ frame ∷ []
+pub hands-plain : (r : List Entry) (frame : Frame) → is_plain_frame frame ≡ true → hands r (steps.Frame frame) ≡ frame ∷ []
 hands-plain r frame h =
     ap (λ b. map stripped (frames_at (steps_of r ++ steps.Frame frame ∷ []) (cond b (length r ∷ []) []))) h
     ∙ ap (map stripped) (own_frame r (steps.Frame frame))
     ∙ ap (λ f. f ∷ []) (stripped-plain frame (plain_none frame h))
 
-pub hands-other_frame : (r : List Entry) (frame : Frame) → plain frame ≡ false → hands r (steps.Frame frame) ≡ []
+pub hands-other_frame : (r : List Entry) (frame : Frame) → is_plain_frame frame ≡ false → hands r (steps.Frame frame) ≡ []
 hands-other_frame r frame h = ap (λ b. map stripped (frames_at (steps_of r ++ steps.Frame frame ∷ []) (cond b (length r ∷ []) []))) h
 
 -- a commit hands the transaction's frames, stripped
 pub hands-commit : (r : List Entry) (k : ℕ) (payload : List ℕ) (t : TransactionId) → commits r (steps.Control k payload) ≡ Some t → hands r (steps.Control k payload) ≡ map stripped (frames_of r t)
 hands-commit r k payload t h =
     ap (λ o. map stripped (frames_at (steps_of r ++ steps.Control k payload ∷ []) (sources_of r o))) h
-    ∙ ap (map stripped) (frames_at-front (steps_of r) (steps.Control k payload ∷ []) (mine r t) (mine-below_steps r t))
+    ∙ ap (map stripped) (frames_at-front (steps_of r) (steps.Control k payload ∷ []) (frame_places r t) (places-below_steps r t))
 
 pub hands-no_commit : (r : List Entry) (k : ℕ) (payload : List ℕ) → commits r (steps.Control k payload) ≡ None → hands r (steps.Control k payload) ≡ []
 hands-no_commit r k payload h = ap (λ o. map stripped (frames_at (steps_of r ++ steps.Control k payload ∷ []) (sources_of r o))) h
 
 -- ---- an allowed reply gives one list for each frame handed
 
-pub length-WindowsFit : (handed : List Frame) (answers : List Answers) → WindowsFit handed answers → length answers ≡ length handed
-length-WindowsFit [] [] w = refl
-length-WindowsFit [] (a ∷ answers) w = absurd w
-length-WindowsFit (f ∷ handed) [] w = absurd w
-length-WindowsFit (f ∷ handed) (a ∷ answers) w = ap suc (length-WindowsFit handed answers w.1)
+pub length-AllWindowsFit : (handed : List Frame) (answers : List Answers) → AllWindowsFit handed answers → length answers ≡ length handed
+length-AllWindowsFit [] [] w = refl
+length-AllWindowsFit [] (a ∷ answers) w = absurd w
+length-AllWindowsFit (f ∷ handed) [] w = absurd w
+length-AllWindowsFit (f ∷ handed) (a ∷ answers) w = ap suc (length-AllWindowsFit handed answers w.1)
 
 -- a plain frame is answered by frames
-pub plain_answered : (r : List Entry) (frame : Frame) (o : Option TransactionId) (reply : Reply) → is_plain o (coord frame) ≡ true → AnswerFrame r frame o reply → (a : Answers) × (reply ≡ replies.Frames a)
+pub plain_answered : (r : List Entry) (frame : Frame) (o : Option TransactionId) (reply : Reply) → is_plain_by o (is_coordinator_attach frame) ≡ true → AnswerFrame r frame o reply → (a : Answers) × (reply ≡ replies.Frames a)
 plain_answered r frame o (replies.Frames a) h x = (a, refl)
-plain_answered r frame None (replies.Attached link given) h x = let e : not (coord frame) ≡ false = ap not x.0 in cc
-plain_answered r frame None (replies.AttachRefused error) h x = let e : not (coord frame) ≡ false = ap not x in cc
+plain_answered r frame None (replies.Attached link given) h x = let e : not (is_coordinator_attach frame) ≡ false = ap not x.0 in cc
+plain_answered r frame None (replies.AttachRefused error) h x = let e : not (is_coordinator_attach frame) ≡ false = ap not x in cc
 plain_answered r frame (Some t) _ h x = cc h
 plain_answered r frame None _ h x = absurd x
 
-given_other : (frame : Frame) (reply : Reply) → plain frame ≡ false → given_by (steps.Frame frame) reply ≡ []
+given_other : (frame : Frame) (reply : Reply) → is_plain_frame frame ≡ false → given_by (steps.Frame frame) reply ≡ []
 given_other frame (replies.Frames a) h = ap (λ b. cond b (a.given ∷ []) []) h
 given_other frame _ h = refl
 
-given_lengths_frame : (r : List Entry) (frame : Frame) (d : List TransactionId) (reply : Reply) (b : Bool) → plain frame ≡ b → Answer r (steps.Frame frame) d reply → length (hands r (steps.Frame frame)) ≡ length (given_by (steps.Frame frame) reply)
+given_lengths_frame : (r : List Entry) (frame : Frame) (d : List TransactionId) (reply : Reply) (b : Bool) → is_plain_frame frame ≡ b → Answer r (steps.Frame frame) d reply → length (hands r (steps.Frame frame)) ≡ length (given_by (steps.Frame frame) reply)
 given_lengths_frame r frame d reply false h a = ap length (hands-other_frame r frame h) ∙ sym (ap length (given_other frame reply h))
 given_lengths_frame r frame d reply true h a =
     let (answers, e) = plain_answered r frame (txn frame) reply h a.1 in
@@ -192,7 +193,7 @@ accepted_lengths r k payload discharge echoes true o e f h a =
 accepted_lengths r k payload discharge echoes false o e f h a =
     let t = discharge.txn_id in
     ap length (hands-commit r k payload t (commits-discharge r k payload discharge o e f h))
-    ∙ length-map (frames_of r t) stripped ∙ sym (length-WindowsFit (frames_of r t) echoes a) ∙ sym (length-map echoes (λ (y : Answers). y.given))
+    ∙ length-map (frames_of r t) stripped ∙ sym (length-AllWindowsFit (frames_of r t) echoes a) ∙ sym (length-map echoes (λ (y : Answers). y.given))
 
 -- a reply that gives nothing back, to a message that commits nothing
 declare_lengths : (r : List Entry) (k : ℕ) (payload : List ℕ) (declare : Declare) (g : Option TransactionId) (d : List TransactionId) (reply : Reply) → is_open r k ≡ true → message_of payload ≡ Some (messages.Declare declare) → AnswerDeclare r g d reply → length (hands r (steps.Control k payload)) ≡ length (given_by (steps.Control k payload) reply)
@@ -221,31 +222,31 @@ given_lengths_control : (r : List Entry) (k : ℕ) (payload : List ℕ) (d : Lis
 given_lengths_control r k payload d reply a = given_lengths_open r k payload d reply (is_open r k) refl a
 
 pub given_lengths : (r : List Entry) (s : Step) (d : List TransactionId) (reply : Reply) → Answer r s d reply → length (hands r s) ≡ length (given_by s reply)
-given_lengths r (steps.Frame frame) d reply a = given_lengths_frame r frame d reply (plain frame) refl a
+given_lengths r (steps.Frame frame) d reply a = given_lengths_frame r frame d reply (is_plain_frame frame) refl a
 given_lengths r (steps.Control k payload) d reply a = given_lengths_control r k payload d reply a
 given_lengths r (steps.LinkEnd k) d reply a = refl
 given_lengths r _ d reply a = refl
 
-none_handed : length (work []) ≡ length (gave [])
-unfolding work gave
+none_handed : length (work []) ≡ length (given_back [])
+unfolding work given_back
 none_handed = refl
 
-more_handed : (r : List Entry) (e : Entry) → length (work r) ≡ length (gave r) → Answer r e.step e.drawn.ids e.reply → length (work (r ++ e ∷ [])) ≡ length (gave (r ++ e ∷ []))
+more_handed : (r : List Entry) (e : Entry) → length (work r) ≡ length (given_back r) → Answer r e.step e.drawn.ids e.reply → length (work (r ++ e ∷ [])) ≡ length (given_back (r ++ e ∷ []))
 more_handed r e h a =
     ap length (work-snoc r e) ∙ length-append (work r) (hands r e.step)
-    ∙ ap (λ n. n + length (hands r e.step)) h ∙ ap (λ n. length (gave r) + n) (given_lengths r e.step e.drawn.ids e.reply a)
-    ∙ sym (length-append (gave r) (given_by e.step e.reply)) ∙ sym (ap length (gave-snoc r e))
+    ∙ ap (λ n. n + length (hands r e.step)) h ∙ ap (λ n. length (given_back r) + n) (given_lengths r e.step e.drawn.ids e.reply a)
+    ∙ sym (length-append (given_back r) (given_by e.step e.reply)) ∙ sym (ap length (given-snoc r e))
 
-pub work_gave : (r : List Entry) → IsLegal r → length (work r) ≡ length (gave r)
-work_gave r l = legal_induction (λ x. length (work x) ≡ length (gave x)) none_handed more_handed r l
+pub work_given : (r : List Entry) → IsLegal r → length (work r) ≡ length (given_back r)
+work_given r l = legal_induction (λ x. length (work x) ≡ length (given_back x)) none_handed more_handed r l
 
 -- the pairs, with one entry more
 pub pairs-snoc : (r : List Entry) (e : Entry) → IsLegal r → pairs (r ++ e ∷ []) ≡ pairs r ++ zip (hands r e.step) (given_by e.step e.reply)
 unfolding pairs
 pairs-snoc r e l =
-    ap (λ ws. zip ws (gave (r ++ e ∷ []))) (work-snoc r e)
-    ∙ ap (zip (work r ++ hands r e.step)) (gave-snoc r e)
-    ∙ zip-append (work r) (hands r e.step) (gave r) (given_by e.step e.reply) (work_gave r l)
+    ap (λ ws. zip ws (given_back (r ++ e ∷ []))) (work-snoc r e)
+    ∙ ap (zip (work r ++ hands r e.step)) (given-snoc r e)
+    ∙ zip-append (work r) (hands r e.step) (given_back r) (given_by e.step e.reply) (work_given r l)
 
 -- ---- links of a legal record
 
@@ -362,34 +363,43 @@ linkend_declared : (b : Bool) (t : TransactionId) → AnswerLinkEnd b (replies.D
 linkend_declared true t a = a
 linkend_declared false t a = a
 
+-- only a control message declares
+pub declared_control : (r : List Entry) (s : Step) (d : List TransactionId) (t : TransactionId) → Answer r s d (replies.Declared t) → (k : ℕ) × (payload : List ℕ) × (s ≡ steps.Control k payload)
+declared_control r (steps.Frame frame) d t a = absurd (frame_declared r frame (txn frame) t a.1)
+declared_control r (steps.Control k payload) d t a = (k, payload, refl)
+declared_control r (steps.LinkEnd k) d t a = absurd (linkend_declared (is_open r k) t a.1)
+declared_control r _ d t a = absurd a
+
 -- a declare is answered on an open link
-pub declared_open : (r : List Entry) (s : Step) (d : List TransactionId) (t : TransactionId) → Answer r s d (replies.Declared t) → is_open r (step_link s) ≡ true
+pub declared_open : (r : List Entry) (s : Step) (d : List TransactionId) (t : TransactionId) → Answer r s d (replies.Declared t) → is_open_at r (step_link s) ≡ true
 declared_open r (steps.Frame frame) d t a = absurd (frame_declared r frame (txn frame) t a.1)
 declared_open r (steps.Control k payload) d t a = control_declared r k (is_open r k) (message_of payload) d t a
 declared_open r (steps.LinkEnd k) d t a = absurd (linkend_declared (is_open r k) t a.1)
 declared_open r _ d t a = absurd a
 
-declares_open : (r : List Entry) (s : Step) (d : List TransactionId) (reply : Reply) (t : TransactionId) → Answer r s d reply → reply_declares t reply ≡ true → is_open r (step_link s) ≡ true
+pub declares_open : (r : List Entry) (s : Step) (d : List TransactionId) (reply : Reply) (t : TransactionId) → Answer r s d reply → reply_declares t reply ≡ true → is_open_at r (step_link s) ≡ true
 declares_open r s d (replies.Declared u) t a h = declared_open r s d u a
 declares_open r s d _ t a h = cc h
 
 -- what is declared and not discharged was declared on a link that was attached
 abbrev pub HomesAttached : List Entry → Type 0
-HomesAttached r = IsLegal r × ((t : TransactionId) → undischarged r t ≡ true → home r t < attached_count r)
+HomesAttached r = IsLegal r × ((t : TransactionId) (k : ℕ) → undischarged r t ≡ true → home r t ≡ Some k → k < attached_count r)
 
 none_homes : HomesAttached []
 unfolding undischarged since
-none_homes = (IsLegal-nil, λ t h. cc h)
+none_homes = (IsLegal-nil, λ t k h q. cc h)
 
 more_homes : (r : List Entry) (e : Entry) → HomesAttached r → Answer r e.step e.drawn.ids e.reply → HomesAttached (r ++ e ∷ [])
-more_homes r e p a = (IsLegal-snoc r e p.0 a, λ t h. by_case t (declares t e) refl h)
+more_homes r e p a = (IsLegal-snoc r e p.0 a, λ t k h q. by_case t k (declares t e) refl h q)
   where
-    by_case : (t : TransactionId) (b : Bool) → declares t e ≡ b → undischarged (r ++ e ∷ []) t ≡ true → home (r ++ e ∷ []) t < attached_count (r ++ e ∷ [])
-    by_case t true d h =
-        omega (arith, home-declared r e t d, count-snoc r e, open_below r (step_link e.step) p.0 (declares_open r e.step e.drawn.ids e.reply t a d))
-    by_case t false d h =
+    by_case : (t : TransactionId) (k : ℕ) (b : Bool) → declares t e ≡ b → undischarged (r ++ e ∷ []) t ≡ true → home (r ++ e ∷ []) t ≡ Some k → k < attached_count (r ++ e ∷ [])
+    by_case t k true d h q =
+        let named : step_link e.step ≡ Some k = sym (home-declared r e t d) ∙ q in
+        let o : is_open r k ≡ true = ap (is_open_at r) (sym named) ∙ declares_open r e.step e.drawn.ids e.reply t a d in
+        omega (arith, count-snoc r e, open_below r k p.0 o)
+    by_case t k false d h q =
         let u : undischarged r t ≡ true = (and_parts (undischarged r t) (not (discharges t e)) (sym (undischarged-other r e t d) ∙ h)).0 in
-        omega (arith, home-other r e t d, count-snoc r e, p.1 t u)
+        omega (arith, count-snoc r e, p.1 t k u (sym (home-other r e t d) ∙ q))
 
-pub homes_attached : (r : List Entry) (t : TransactionId) → IsLegal r → undischarged r t ≡ true → home r t < attached_count r
-homes_attached r t l u = (legal_induction HomesAttached none_homes more_homes r l).1 t u
+pub homes_attached : (r : List Entry) (t : TransactionId) (k : ℕ) → IsLegal r → undischarged r t ≡ true → home r t ≡ Some k → k < attached_count r
+homes_attached r t k l u q = (legal_induction HomesAttached none_homes more_homes r l).1 t k u q

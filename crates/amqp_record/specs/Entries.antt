@@ -4,6 +4,7 @@
 use Rattle.std.specs.Prelude.{ℕ, ◌==◌, Bool, true, false, Option, Some, None, List, map, nat_eq}
 use Rattle.std.specs.List.{flat_map}
 use Rattle.std.specs.Cmp.Lexicographic.{pointwise}
+use Rattle.amqp_txn_types.specs.Ids.{same_id, is_some_id}
 use Rattle.amqp_txn_types.specs.declared.id.TransactionId.{TransactionId}
 use Rattle.amqp_txn_types.specs.Frames.{txn}
 use Rattle.amqp_txn_codec.specs.declared.message.ControlMessageBody.{ControlMessageBody}
@@ -14,10 +15,6 @@ use Rattle.amqp_record.specs.declared.step.Step.TheVariants as steps
 use Rattle.amqp_record.specs.declared.reply.Reply.{Reply}
 use Rattle.amqp_record.specs.declared.reply.Reply.TheVariants as replies
 use Rattle.amqp_record.specs.declared.entry.Entry.{Entry}
-
--- two ids are one: they have the same octets (4.5.4, Transaction ID)
-abbrev pub same_id : TransactionId → TransactionId → Bool
-same_id t u = pointwise nat_eq t u
 
 -- the reply attached the link with this number
 abbrev pub reply_attaches : ℕ → Reply → Bool
@@ -59,32 +56,28 @@ message_discharges t _ = false
 
 -- the payload spells a discharge of the id, and it was accepted (4.3, Discharging a Transaction)
 abbrev pub step_discharges : TransactionId → Step → Reply → Bool
-step_discharges t (steps.Control link payload) (replies.Accepted echoes) = message_discharges t (message_of payload)
+step_discharges t (steps.Control link payload) (replies.Accepted echoes) =
+    message_discharges t (message_of payload)
 step_discharges t _ _ = false
 
 -- the entry discharged the id
 abbrev pub discharges : TransactionId → Entry → Bool
 discharges t e = step_discharges t e.step e.reply
 
--- there is an id, and it is this one
-abbrev pub is_some_id : TransactionId → Option TransactionId → Bool
-is_some_id t None = false
-is_some_id t (Some u) = same_id t u
-
 -- the step is a frame whose transactional state has this id (4.5.6, Transactional State)
-abbrev pub step_under : TransactionId → Step → Bool
-step_under t (steps.Frame frame) = is_some_id t (txn frame)
-step_under t _ = false
+abbrev pub step_is_under : TransactionId → Step → Bool
+step_is_under t (steps.Frame frame) = is_some_id t (txn frame)
+step_is_under t _ = false
 
 -- the step of the entry is a frame under the id
-abbrev pub under : TransactionId → Entry → Bool
-under t e = step_under t e.step
+abbrev pub is_under : TransactionId → Entry → Bool
+is_under t e = step_is_under t e.step
 
--- the number of the link that a step names; 0 where it names none
-abbrev pub step_link : Step → ℕ
-step_link (steps.Control link payload) = link
-step_link (steps.LinkEnd link) = link
-step_link _ = 0
+-- the number of the link that a step names, where it names one
+abbrev pub step_link : Step → Option ℕ
+step_link (steps.Control link payload) = Some link
+step_link (steps.LinkEnd link) = Some link
+step_link _ = None
 
 -- the steps of the entries
 abbrev pub steps_of : List Entry → List Step

@@ -2,18 +2,19 @@
 -- transaction; everything else nothing.
 use Rattle.std.specs.Prelude.{ℕ, Bool, true, false, cond, not, ◌&&◌, Option, Some, None, List, [], ◌∷◌, ◌++◌, length, map, slice_get}
 use Rattle.std.specs.List.{flat_map}
+use Rattle.amqp_txn_codec.specs.Discharges.{is_rollback}
 use Rattle.amqp_txn_types.specs.declared.id.TransactionId.{TransactionId}
 use Rattle.amqp_txn_types.specs.declared.performatives.Frame.{Frame}
-use Rattle.amqp_txn_types.specs.Frames.{plain, stripped}
+use Rattle.amqp_txn_types.specs.Frames.{is_plain_frame, stripped}
 use Rattle.amqp_txn_codec.specs.declared.message.ControlMessageBody.{ControlMessageBody}
 use Rattle.amqp_txn_codec.specs.declared.message.ControlMessageBody.TheVariants as messages
 use Rattle.amqp_txn_codec.specs.Reading.{message_of}
 use Rattle.amqp_record.specs.declared.step.Step.{Step}
 use Rattle.amqp_record.specs.declared.step.Step.TheVariants as steps
 use Rattle.amqp_record.specs.declared.entry.Entry.{Entry}
-use Rattle.amqp_record.specs.Entries.{steps_of, under}
+use Rattle.amqp_record.specs.Entries.{steps_of, is_under}
 use Rattle.amqp_record.specs.Links.{is_open}
-use Rattle.amqp_record.specs.Live.{is_held_on, mine}
+use Rattle.amqp_record.specs.Live.{is_held_on, frame_places}
 
 -- the frame of the step, where there is a step and it is a frame
 abbrev pub frame_of_step : Option Step → List Frame
@@ -26,26 +27,22 @@ frames_at all places = flat_map (λ i. frame_of_step (slice_get all i)) places
 
 -- the frames of a transaction since its last declare, as they came
 abbrev pub frames_of : List Entry → TransactionId → List Frame
-frames_of r t = frames_at (steps_of r) (mine r t)
+frames_of r t = frames_at (steps_of r) (frame_places r t)
 
 -- the frame of the entry, where it is under the id
 abbrev pub own_frame : TransactionId → Entry → List Frame
-own_frame t e = cond (under t e) (frame_of_step (Some e.step)) []
+own_frame t e = cond (is_under t e) (frame_of_step (Some e.step)) []
 
 -- the frames under the id among these entries, in order
 abbrev pub frames_under : TransactionId → List Entry → List Frame
 frames_under t [] = []
 frames_under t (e ∷ r) = own_frame t e ++ frames_under t r
 
--- a discharge rolls back exactly where its `fail` is Some(true), else it commits (4.5.3, Discharge)
-abbrev pub is_rollback : Option Bool → Bool
-is_rollback (Some true) = true
-is_rollback _ = false
-
 -- the id that a message on an open link commits: a discharge of an id that is live with this home
 abbrev pub commits_message : List Entry → ℕ → Option ControlMessageBody → Option TransactionId
 commits_message r k (Some (messages.Discharge discharge)) =
-    cond (not (is_rollback discharge.fail) && is_held_on r k discharge.txn_id) (Some discharge.txn_id) None
+    cond (not (is_rollback discharge.fail) && is_held_on r k discharge.txn_id)
+    (Some discharge.txn_id) None
 commits_message r k _ = None
 
 -- nothing on a link that is not open
@@ -55,18 +52,19 @@ if_open false o = None
 
 -- commits: the id that a step commits, if any (4.3, Discharging a Transaction)
 abbrev pub commits : List Entry → Step → Option TransactionId
-commits r (steps.Control k payload) = if_open (is_open r k) (commits_message r k (message_of payload))
+commits r (steps.Control k payload) =
+    if_open (is_open r k) (commits_message r k (message_of payload))
 commits r _ = None
 
 -- the places of the frames of the committed id, if there is one
 abbrev pub sources_of : List Entry → Option TransactionId → List ℕ
 sources_of r None = []
-sources_of r (Some t) = mine r t
+sources_of r (Some t) = frame_places r t
 
 -- sources: the places of the frames that a step hands, among the record followed by the step: its
 -- own place for a plain frame, those of the transaction for a commit (4.4, Transactional Work)
 abbrev pub sources : List Entry → Step → List ℕ
-sources r (steps.Frame frame) = cond (plain frame) (length r ∷ []) []
+sources r (steps.Frame frame) = cond (is_plain_frame frame) (length r ∷ []) []
 sources r (steps.Control k payload) = sources_of r (commits r (steps.Control k payload))
 sources r _ = []
 

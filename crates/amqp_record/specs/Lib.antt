@@ -1,6 +1,7 @@
 pub mod Entries
 pub mod Links
 pub mod Live
+pub mod Homes
 pub mod Hands
 pub mod Work
 pub mod Answers

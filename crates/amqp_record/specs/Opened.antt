@@ -1,12 +1,13 @@
 -- What a record says that the layer below opened, and what it refused while the session went on.
 use Rattle.std.specs.Prelude.{ℕ, Bool, true, false, cond, List, [], ◌∷◌}
 use Rattle.std.specs.List.{flat_map, count_by}
+use Rattle.amqp_layer.specs.Told.{refusal_of}
 use Rattle.amqp_txn_types.specs.declared.performatives.Attach.{Attach}
 use Rattle.amqp_txn_types.specs.declared.performatives.Frame.{Frame}
 use Rattle.amqp_txn_types.specs.declared.performatives.Frame.TheVariants as frames
-use Rattle.amqp_below.specs.declared.inner_error.SessionInnerError.{SessionInnerError}
-use Rattle.amqp_below.specs.declared.refusal.Refusal.{Refusal}
-use Rattle.amqp_below.specs.Faults.{is_no_memory}
+use Rattle.amqp_layer.specs.declared.inner_error.SessionInnerError.{SessionInnerError}
+use Rattle.amqp_layer.specs.declared.refusal.Refusal.{Refusal}
+use Rattle.amqp_layer.specs.Faults.{is_no_memory}
 use Rattle.amqp_record.specs.declared.step.Step.{Step}
 use Rattle.amqp_record.specs.declared.step.Step.TheVariants as steps
 use Rattle.amqp_record.specs.declared.reply.Reply.{Reply}
@@ -22,10 +23,6 @@ opened_with _ given = []
 abbrev pub opened_by : Step → Reply → List (Attach × List Frame)
 opened_by s (replies.Attached link given) = opened_with s given
 opened_by s _ = []
-
--- a refusal with its frame, and nothing for want of memory
-abbrev pub refusal_of : Frame → SessionInnerError → List Refusal
-refusal_of frame error = cond (is_no_memory error) [] (record { frame = frame; error = error } ∷ [])
 
 -- a frame with the error that it was refused with
 abbrev pub refused_with : Step → SessionInnerError → List Refusal

@@ -7,7 +7,7 @@ use Rattle.amqp_txn_codec.specs.declared.message.ControlMessageBody.TheVariants 
 use Rattle.amqp_txn_codec.specs.Reading.{message_of}
 use Rattle.amqp_record.specs.declared.step.Step.{Step}
 use Rattle.amqp_record.specs.declared.step.Step.TheVariants as steps
-use Rattle.amqp_record.specs.Entries.{same_id, is_some_id}
+use Rattle.amqp_txn_types.specs.Ids.{same_id, is_some_id}
 
 -- the message is a discharge of another id, be it a commit or a rollback
 abbrev pub discharges_another : TransactionId → Option ControlMessageBody → Bool

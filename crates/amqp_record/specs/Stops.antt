@@ -1,6 +1,6 @@
 -- The code of each stop: its cause without the values.
-use Rattle.amqp_below.specs.declared.inner_error.SessionInnerError.{SessionInnerError}
-use Rattle.amqp_below.specs.declared.inner_error.SessionInnerError.TheVariants as faults
+use Rattle.amqp_layer.specs.declared.inner_error.SessionInnerError.{SessionInnerError}
+use Rattle.amqp_layer.specs.declared.inner_error.SessionInnerError.TheVariants as faults
 use Rattle.amqp_txn_types.specs.declared.delivery.SessionStopReason.{SessionStopReason}
 use Rattle.amqp_txn_types.specs.declared.delivery.SessionStopReason.TheVariants as reasons
 use Rattle.amqp_record.specs.declared.stop.Stop.{Stop}

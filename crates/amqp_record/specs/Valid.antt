@@ -1,4 +1,5 @@
--- Valid steps: those that a session answers by doing what was asked, unless the layer below refuses.
+-- Valid steps: those that a session answers by doing what was asked, unless the layer below
+-- refuses.
 use Rattle.std.specs.Prelude.{ℕ, ◌≡◌, true, false, Option, Some, None, List}
 use Rattle.std.specs.List.{list_all}
 use Rattle.amqp_txn_types.specs.declared.id.TransactionId.{TransactionId}
@@ -31,6 +32,7 @@ ValidMessage r k next None = ⊥
 -- valid step after the record, the next 16 ids of the source being these (4.2 to 4.4)
 abbrev pub Valid : List Entry → Step → List TransactionId → Type 0
 Valid r (steps.Frame frame) next = ValidFrame r (txn frame)
-Valid r (steps.Control k payload) next = (is_open r k ≡ true) × ValidMessage r k next (message_of payload)
+Valid r (steps.Control k payload) next =
+    (is_open r k ≡ true) × ValidMessage r k next (message_of payload)
 Valid r (steps.LinkEnd k) next = is_open r k ≡ true
 Valid r _ next = ⊥

@@ -2,8 +2,8 @@
 use Rattle.std.specs.Prelude.{ℕ, cond, List, [], ◌∷◌, ◌++◌, map}
 use Rattle.std.specs.List.{flat_map, zip}
 use Rattle.amqp_txn_types.specs.declared.performatives.Frame.{Frame}
-use Rattle.amqp_txn_types.specs.Frames.{plain}
-use Rattle.amqp_below.specs.declared.answers.Answers.{Answers}
+use Rattle.amqp_txn_types.specs.Frames.{is_plain_frame}
+use Rattle.amqp_layer.specs.declared.answers.Answers.{Answers}
 use Rattle.amqp_record.specs.declared.step.Step.{Step}
 use Rattle.amqp_record.specs.declared.step.Step.TheVariants as steps
 use Rattle.amqp_record.specs.declared.reply.Reply.{Reply}
@@ -12,7 +12,8 @@ use Rattle.amqp_record.specs.declared.entry.Entry.{Entry}
 use Rattle.amqp_record.specs.Hands.{hands, sources}
 
 -- what f gives for each entry, with the entries before it, joined; `before` comes before them all
-abbrev pub joined_after : {A : Type 0} → (List Entry → Entry → List A) → List Entry → List Entry → List A
+abbrev pub joined_after : {A : Type 0} → (List Entry → Entry → List A) → List Entry → List Entry
+    → List A
 joined_after f before [] = []
 joined_after f before (e ∷ r) = f before e ++ joined_after f (before ++ e ∷ []) r
 
@@ -27,14 +28,15 @@ origins r = joined_after (λ before e. sources before e.step) [] r
 -- what a reply says was given back: one list for a plain frame, one for each echo of a commit; an
 -- accepted rollback has no echoes
 abbrev pub given_by : Step → Reply → List (List Frame)
-given_by (steps.Frame frame) (replies.Frames answers) = cond (plain frame) (answers.given ∷ []) []
+given_by (steps.Frame frame) (replies.Frames answers) =
+    cond (is_plain_frame frame) (answers.given ∷ []) []
 given_by (steps.Control k payload) (replies.Accepted echoes) = map (λ (a : Answers). a.given) echoes
 given_by _ _ = []
 
--- gave: what was given back for the frames that the record handed, one list for each, in order
-unfoldable pub gave : List Entry → List (List Frame)
-gave r = flat_map (λ e. given_by e.step e.reply) r
+-- what was given back for the frames that the record handed, one list for each, in order
+unfoldable pub given_back : List Entry → List (List Frame)
+given_back r = flat_map (λ e. given_by e.step e.reply) r
 
 -- pairs: each frame that the record handed with what was given back for it (4.4)
 unfoldable pub pairs : List Entry → List (Frame × List Frame)
-pairs r = zip (work r) (gave r)
+pairs r = zip (work r) (given_back r)

@@ -13,17 +13,20 @@ ghost use Rattle.amqp_txn_codec.specs.Reading.{message_of};
 ghost use Rattle.amqp_record.specs.declared.reply.Reply.TheVariants as replies;
 ghost use Rattle.amqp_record.specs.Live.{is_live};
 ghost use Rattle.amqp_record.specs.Links.{is_open};
-ghost use Rattle.amqp_record.specs.Hands.{frames_under, is_rollback, own_frame};
-ghost use Rattle.amqp_record.specs.Answers.{Answer, AnswerControl, AnswerDeclare, AnswerDischarge, AnswerFrame, AnswerLinkEnd, AnswerMessage, Draws, Echoed, WindowFits, WindowsFit, answered_under, presumptive};
+ghost use Rattle.amqp_record.specs.Hands.{frames_under, own_frame};
+ghost use Rattle.amqp_txn_codec.specs.Discharges.{is_rollback};
+ghost use Rattle.amqp_record.specs.Answers.{Answer, AnswerControl, AnswerDeclare, AnswerDischarge, AnswerFrame, AnswerLinkEnd, AnswerMessage, Draws, Echoed};
+ghost use Rattle.amqp_layer.specs.Windows.{WindowFits, AllWindowsFit};
+ghost use Rattle.amqp_txn_types.specs.Presumptive.{answered_under, presumptive};
 
 use crate::entry::Entry;
-use crate::handing::{is_coordinator_attach, is_under, rolls_back};
+use crate::handing::{is_coordinator_attach, is_under};
 use crate::live_ids::{entries_since, is_held_on, is_live};
 use crate::open_links::{is_open, links_attached};
 use crate::reply::{RejectText, Reply};
 use crate::step::Step;
-use amqp_below::{Answers, Echoes};
-use amqp_txn_codec::{ControlMessageBody, Discharge, decode};
+use amqp_layer::{Answers, Echoes};
+use amqp_txn_codec::{ControlMessageBody, Discharge, decode, rolls_back};
 use amqp_txn_types::{
     AmqpError, DeliveryState, Disposition, Frame, Outcome, Role, TransactionError, TransactionId,
     TransactionalState, txn_of,
@@ -31,8 +34,8 @@ use amqp_txn_types::{
 
 /// Whether the step may be given this reply after these entries, having drawn these ids.
 ///
-/// Part 4 of the standard, sections 4.2 (declaring), 4.3 (discharging) and 4.4 (transactional work).
-/// It looks at every entry a few times, so it serves small records.
+/// Part 4 of the standard, sections 4.2 (declaring), 4.3 (discharging) and 4.4 (transactional
+/// work). It looks at every entry a few times, so it serves small records.
 pub fn is_answer(entries: &[Entry], step: &Step, drawn: &[TransactionId], reply: &Reply) -> bool
     ensures { IsTrue result ↔ Answer entries.now step.now drawn.now reply.now }
 {
@@ -98,7 +101,8 @@ fn answers_control(
     drawn: &[TransactionId],
     reply: &Reply,
 ) -> bool
-    ensures { IsTrue result ↔ AnswerControl entries.now link (is_open entries.now link) (message_of payload.now) drawn.now reply.now }
+    ensures { IsTrue result ↔ AnswerControl entries.now link (is_open entries.now link)
+        (message_of payload.now) drawn.now reply.now }
 {
     if is_open(entries, link) {
         answers_message(entries, link, payload, drawn, reply)
@@ -126,7 +130,8 @@ fn answers_message(
     drawn: &[TransactionId],
     reply: &Reply,
 ) -> bool
-    ensures { IsTrue result ↔ AnswerMessage entries.now link (message_of payload.now) drawn.now reply.now }
+    ensures { IsTrue result ↔ AnswerMessage entries.now link (message_of payload.now) drawn.now
+        reply.now }
 {
     match decode(payload) {
         Ok(ControlMessageBody::Declare(declare)) => {
@@ -203,7 +208,8 @@ fn is_drawn_last(entries: &[Entry], drawn: &[TransactionId], txn_id: &Transactio
 }
 
 fn is_new_after(entries: &[Entry], before: &[TransactionId], txn_id: &TransactionId) -> bool
-    ensures { IsTrue result ↔ ((list_all (is_live entries.now) before.now ≡ true) × (is_live entries.now txn_id.now ≡ false)) }
+    ensures { IsTrue result ↔ ((list_all (is_live entries.now) before.now ≡ true)
+        × (is_live entries.now txn_id.now ≡ false)) }
 {
     are_live(entries, before) && !is_live(entries, txn_id)
 }
@@ -226,7 +232,8 @@ fn answers_discharge(
     drawn: &[TransactionId],
     reply: &Reply,
 ) -> bool
-    ensures { IsTrue result ↔ AnswerDischarge entries.now link discharge.txn_id discharge.fail drawn.now reply.now }
+    ensures { IsTrue result ↔ AnswerDischarge entries.now link discharge.txn_id discharge.fail
+        drawn.now reply.now }
 {
     let held = is_held_on(entries, link, &discharge.txn_id);
     match reply {
@@ -238,7 +245,8 @@ fn answers_discharge(
 }
 
 fn has_its_echoes(entries: &[Entry], discharge: Discharge, echoes: &Echoes) -> bool
-    ensures { IsTrue result ↔ Echoed entries.now discharge.txn_id (is_rollback discharge.fail) echoes.now }
+    ensures { IsTrue result ↔ Echoed entries.now discharge.txn_id (is_rollback discharge.fail)
+        echoes.now }
 {
     if rolls_back(discharge.fail) {
         are_no_echoes(echoes.as_slice())
@@ -249,7 +257,7 @@ fn has_its_echoes(entries: &[Entry], discharge: Discharge, echoes: &Echoes) -> b
 }
 
 fn are_echoes(entries: &[Entry], txn_id: &TransactionId, echoes: &[Answers]) -> bool
-    ensures { IsTrue result ↔ WindowsFit (frames_under txn_id.now entries.now) echoes.now }
+    ensures { IsTrue result ↔ AllWindowsFit (frames_under txn_id.now entries.now) echoes.now }
 {
     let mut rest = echoes;
     for entry in entries {
@@ -261,14 +269,18 @@ fn are_echoes(entries: &[Entry], txn_id: &TransactionId, echoes: &[Answers]) -> 
     are_no_echoes(rest)
 }
 
-/// The echoes that are left after that of this entry, which has one where it is a frame under the id;
+/// The echoes that are left after that of this entry, which has one where it is a frame under the
+/// id;
 /// `None` where there is none, or it doesn't fit.
 fn after_echo<'a>(
     entry: &Entry,
     txn_id: &TransactionId,
     echoes: &'a [Answers],
 ) -> Option<&'a [Answers]>
-    ensures { MatchOption result ((later : List Frame) → ¬ WindowsFit (own_frame txn_id.now entry.now ++ later) echoes.now) (λ left. (later : List Frame) → (WindowsFit (own_frame txn_id.now entry.now ++ later) echoes.now ↔ WindowsFit later left.now)) }
+    ensures { MatchOption result ((later : List Frame)
+        → ¬ AllWindowsFit (own_frame txn_id.now entry.now ++ later) echoes.now) (λ left.
+        (later : List Frame) → (AllWindowsFit (own_frame txn_id.now entry.now ++ later) echoes.now
+        ↔ AllWindowsFit later left.now)) }
 {
     match frame_under(entry, txn_id) {
         Some(frame) => after_echo_of(frame, echoes),
@@ -277,7 +289,9 @@ fn after_echo<'a>(
 }
 
 fn after_echo_of<'a>(frame: &Frame, echoes: &'a [Answers]) -> Option<&'a [Answers]>
-    ensures { MatchOption result ((later : List Frame) → ¬ WindowsFit (frame.now ∷ later) echoes.now) (λ left. (later : List Frame) → (WindowsFit (frame.now ∷ later) echoes.now ↔ WindowsFit later left.now)) }
+    ensures { MatchOption result ((later : List Frame)
+        → ¬ AllWindowsFit (frame.now ∷ later) echoes.now) (λ left. (later : List Frame)
+        → (AllWindowsFit (frame.now ∷ later) echoes.now ↔ AllWindowsFit later left.now)) }
 {
     match echoes.split_first() {
         Some((echo, left)) => {
@@ -292,7 +306,8 @@ fn after_echo_of<'a>(frame: &Frame, echoes: &'a [Answers]) -> Option<&'a [Answer
 }
 
 fn frame_under<'a>(entry: &'a Entry, txn_id: &TransactionId) -> Option<&'a Frame>
-    ensures { MatchOption result (own_frame txn_id.now entry.now ≡ []) (λ frame. own_frame txn_id.now entry.now ≡ frame.now ∷ []) }
+    ensures { MatchOption result (own_frame txn_id.now entry.now ≡ [])
+        (λ frame. own_frame txn_id.now entry.now ≡ frame.now ∷ []) }
 {
     match &entry.step {
         Step::Frame(frame) => {
@@ -322,7 +337,10 @@ fn fits_window(frame: &Frame, answers: &Answers) -> bool
 }
 
 fn is_told_at_once(frame: &Frame, txn_id: &TransactionId, answers: &Answers) -> bool
-    ensures { IsTrue result ↔ (answers.now ≡ record { given = answered_under txn_id.now frame.now; window = None }) }
+    ensures { IsTrue result ↔ (answers.now ≡ record {
+      given = answered_under txn_id.now frame.now;
+      window = None;
+    }) }
 {
     answers.window.is_none() && gives_presumed(frame, txn_id, answers.given.as_slice())
 }
@@ -354,7 +372,8 @@ fn is_nothing(given: &[Frame]) -> bool
 }
 
 fn is_presumed_alone(given: &[Frame], number: u32, txn_id: &TransactionId) -> bool
-    ensures { IsTrue result ↔ (given.now ≡ frames.Disposition (presumptive number txn_id.now) ∷ []) }
+    ensures { IsTrue result ↔ (given.now
+        ≡ frames.Disposition (presumptive number txn_id.now) ∷ []) }
 {
     match given.split_first() {
         Some((first, others)) => { is_presumed_frame(first, number, txn_id) && is_nothing(others) }
@@ -383,7 +402,8 @@ fn is_presumed_disposition(disposition: &Disposition, number: u32, txn_id: &Tran
 }
 
 fn is_accepted_under(state: &Option<DeliveryState>, txn_id: &TransactionId) -> bool
-    ensures { IsTrue result ↔ (state.now ≡ Some (states.TransactionalState (record { txn_id = txn_id.now; outcome = Some outcomes.Accepted }))) }
+    ensures { IsTrue result ↔ (state.now ≡ Some (states.TransactionalState
+        (record { txn_id = txn_id.now; outcome = Some outcomes.Accepted }))) }
 {
     match state {
         Some(

@@ -4,7 +4,7 @@ ghost use Rattle.std.specs.Prelude.{◌≡◌, IfOk};
 
 use crate::reply::Reply;
 use crate::step::Step;
-use amqp_below::Drawn;
+use amqp_ids::Drawn;
 use amqp_txn_types::{Items, NoMemory, TryClone};
 
 /// A step with the ids that it drew and its reply.

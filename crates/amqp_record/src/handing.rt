@@ -1,18 +1,20 @@
 //! What a step hands to the layer below after a record, by looking at every entry.
 
-ghost use Rattle.std.specs.Prelude.{◌≡◌, ◌++◌, ◌∷◌, [], cond, map, Some, IfOk, IsSome, OnOk};
-ghost use Rattle.amqp_txn_types.specs.Frames.{coord, plain, stripped, txn};
+ghost use Rattle.std.specs.Prelude.{◌≡◌, ◌++◌, ◌∷◌, [], cond, map, Some, IfOk, OnOk};
+ghost use Rattle.amqp_txn_types.specs.Frames.{is_coordinator_attach, is_plain_frame, stripped, txn};
 ghost use Rattle.amqp_txn_codec.specs.Reading.{message_of};
-ghost use Rattle.amqp_record.specs.Entries.{step_under, is_some_id};
-ghost use Rattle.amqp_record.specs.Hands.{commits, commits_message, frame_of_step, frames_under, hands, is_rollback};
+ghost use Rattle.amqp_record.specs.Entries.{step_is_under};
+ghost use Rattle.amqp_txn_types.specs.Ids.{is_some_id};
+ghost use Rattle.amqp_record.specs.Hands.{commits, commits_message, frame_of_step, frames_under, hands};
+ghost use Rattle.amqp_txn_codec.specs.Discharges.{is_rollback};
 
 use crate::entry::Entry;
 use crate::live_ids::{entries_since, is_held_on};
 use crate::open_links::is_open;
 use crate::step::Step;
-use amqp_txn_codec::{ControlMessageBody, decode};
+use amqp_txn_codec::{ControlMessageBody, decode, rolls_back};
 use amqp_txn_types::{
-    Frame, Frames, NoMemory, TransactionId, TryClone, TxnWorkFrame, is_coordinator, strip, txn_of,
+    Frame, Frames, NoMemory, TransactionId, TryClone, is_coordinator, strip_frame, txn_of,
 };
 use std::alloc::Global;
 
@@ -36,11 +38,11 @@ pub fn commits(entries: &[Entry], step: &Step) -> Option<TransactionId>
 }
 
 /// The frames that the step hands to the layer below after these entries: a plain frame itself, and
-/// the frames of the transaction that the step commits, in order, each stripped of its transactional
-/// state.
+/// the frames of the transaction that the step commits, in order, each stripped of its
+/// transactional state.
 ///
-/// Part 4 of the standard, section 4.4 (transactional work). It looks at every entry a few times, so
-/// it serves small records. The only error is want of memory.
+/// Part 4 of the standard, section 4.4 (transactional work). It looks at every entry a few times,
+/// so it serves small records. The only error is want of memory.
 pub fn hands(alloc: Global, entries: &[Entry], step: &Step) -> Result<Frames, NoMemory>
     ensures { IfOk result (λ frames. frames ≡ hands entries.now step.now) }
 {
@@ -51,16 +53,6 @@ pub fn hands(alloc: Global, entries: &[Entry], step: &Step) -> Result<Frames, No
             None => Ok(Frames::new(alloc)),
         },
         _ => Ok(Frames::new(alloc)),
-    }
-}
-
-/// Whether a discharge with this `fail` rolls back; else it commits.
-pub fn rolls_back(fail: Option<bool>) -> bool
-    ensures { result ≡ is_rollback fail }
-{
-    match fail {
-        Some(true) => true,
-        _ => false,
     }
 }
 
@@ -80,7 +72,7 @@ fn commits_by_message(entries: &[Entry], link: u64, payload: &[u8]) -> Option<Tr
 }
 
 fn handed_at_once(alloc: Global, frame: &Frame) -> Result<Frames, NoMemory>
-    ensures { IfOk result (λ frames. frames ≡ cond (plain frame.now) (frame.now ∷ []) []) }
+    ensures { IfOk result (λ frames. frames ≡ cond (is_plain_frame frame.now) (frame.now ∷ []) []) }
 {
     let mut handed = Frames::new(alloc);
     if is_plain(frame) {
@@ -104,7 +96,8 @@ fn stripped_frames(
 }
 
 fn add_if_under(handed: &mut Frames, step: &Step, txn_id: &TransactionId) -> Result<(), NoMemory>
-    ensures { OnOk result (handed.new ≡ handed.old ++ map stripped (cond (step_under txn_id.now step.now) (frame_of_step (Some step.now)) [])) }
+    ensures { OnOk result (handed.new ≡ handed.old ++ map stripped
+        (cond (step_is_under txn_id.now step.now) (frame_of_step (Some step.now)) [])) }
 {
     match step {
         Step::Frame(frame) => match txn_of(frame) {
@@ -143,7 +136,7 @@ pub fn is_under(frame: &Frame, txn_id: &TransactionId) -> bool
 
 /// Whether the frame is plain: neither under a transaction nor a coordinator attach.
 pub fn is_plain(frame: &Frame) -> bool
-    ensures { result ≡ plain frame.now }
+    ensures { result ≡ is_plain_frame frame.now }
 {
     match txn_of(frame) {
         Some(_) => false,
@@ -152,24 +145,12 @@ pub fn is_plain(frame: &Frame) -> bool
 }
 
 /// Whether the frame is a coordinator attach, which opens a control link.
-#[tactic(auto, unfolding(amqp_txn_types::specs::Frames::coord))]
+#[tactic(auto, unfolding(amqp_txn_types::specs::Frames::is_coordinator_attach))]
 pub fn is_coordinator_attach(frame: &Frame) -> bool
-    ensures { result ≡ coord frame.now }
+    ensures { result ≡ is_coordinator_attach frame.now }
 {
     match frame {
-        Frame::Attach(attach) => is_coordinator(attach.as_ref()),
+        Frame::Attach(attach) => is_coordinator(attach),
         _ => false,
-    }
-}
-
-#[tactic(auto, unfolding(amqp_txn_types::specs::Frames::stripped))]
-fn strip_frame(frame: Frame) -> Frame
-    requires { IsSome (txn frame) }
-    ensures { result ≡ stripped frame }
-{
-    match frame {
-        Frame::Transfer { transfer, payload } => strip(TxnWorkFrame::Post { transfer, payload }),
-        Frame::Disposition(disposition) => strip(TxnWorkFrame::Retire(disposition)),
-        other => other,
     }
 }

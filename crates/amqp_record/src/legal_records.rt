@@ -8,14 +8,14 @@ ghost use Rattle.amqp_record.specs.Work.{work};
 use crate::answering::is_answer;
 use crate::entry::Entry;
 use crate::handing::{add, hands};
-use amqp_below::Drawn;
+use amqp_ids::Drawn;
 use amqp_txn_types::{Frames, NoMemory, TransactionId};
 use std::alloc::Global;
 
 /// Whether each entry is an answer after the entries before it.
 ///
-/// Part 4 of the standard, sections 4.1 to 4.4. For each entry it looks at all before it a few times,
-/// so it serves small records.
+/// Part 4 of the standard, sections 4.1 to 4.4. For each entry it looks at all before it a few
+/// times, so it serves small records.
 pub fn is_legal(entries: &[Entry]) -> bool
     ensures { IsTrue result ↔ IsLegal entries.now }
 {
@@ -29,7 +29,8 @@ pub fn is_legal(entries: &[Entry]) -> bool
 
 /// Whether the entry is an answer after these entries.
 pub fn is_entry_after(entries: &[Entry], entry: &Entry) -> bool
-    ensures { IsTrue result ↔ Answer entries.now entry.now.step entry.now.drawn.ids entry.now.reply }
+    ensures { IsTrue result ↔ Answer entries.now entry.now.step entry.now.drawn.ids
+        entry.now.reply }
 {
     let count = entry.drawn.len();
     if count > 16 {
@@ -39,7 +40,8 @@ pub fn is_entry_after(entries: &[Entry], entry: &Entry) -> bool
     is_answer(entries, &entry.step, &ids[..count], &entry.reply)
 }
 
-/// All frames that the entries handed to the layer below, in order. The only error is want of memory.
+/// All frames that the entries handed to the layer below, in order. The only error is want of
+/// memory.
 pub fn work(alloc: Global, entries: &[Entry]) -> Result<Frames, NoMemory>
     ensures { IfOk result (λ frames. frames ≡ work entries.now) }
 {

@@ -1,11 +1,11 @@
 //! The record of a session: its steps, what each was answered, and what they say of one another.
 //!
-//! A transactional session is asked to take [`Step`]s: frames of the peer, messages on control links,
-//! ends. It answers each by a [`Reply`]. An [`Entry`] is a step with the ids that it drew and its
-//! reply, and a record is the list of entries in order. What a session may answer and what it hands to
-//! the layer below is a function of its record alone. The definitions in `specs/` say which: they look
-//! back over the entries, and know no buffer, no map of live ids and no state. Part 4 of the standard
-//! (OASIS AMQP 1.0, Transactions) names what they define.
+//! A transactional session is asked to take [`Step`]s: frames of the peer, messages on control
+//! links, ends. It answers each by a [`Reply`]. An [`Entry`] is a step with the ids that it drew
+//! and its reply, and a record is the list of entries in order. What a session may answer and what
+//! it hands to the layer below is a function of its record alone. The definitions in `specs/` say
+//! which: they look back over the entries, and know no buffer, no map of live ids and no state.
+//! Part 4 of the standard (OASIS AMQP 1.0, Transactions) names what they define.
 //!
 //! The life of one transaction, as a record shows it:
 //!
@@ -28,9 +28,9 @@
 //!                                  not live, until t is declared anew
 //! ```
 //!
-//! While t isn't live, a frame under it has no answer (the session stops), and a discharge of it on an
-//! open link is rejected as unknown. A discharge on another link than its home is rejected too, and
-//! leaves t as it was.
+//! While t isn't live, a frame under it has no answer (the session stops), and a discharge of it on
+//! an open link is rejected as unknown. A discharge on another link than its home is rejected too,
+//! and leaves t as it was.
 //!
 //! The functions [`is_open`], [`is_live`], [`commits`], [`hands`], [`is_answer`], [`is_legal`] and
 //! [`work`] compute these definitions by looking at every entry: a plain, slow program for small
@@ -44,12 +44,13 @@
 //! let handed = work(rt.alloc(), entries)?; // the frames of its posts, stripped
 //! ```
 //!
-//! It stands on `amqp_txn_types` (frames, ids and strip), `amqp_txn_codec` (the message of a payload)
-//! and `amqp_below` (what the layer below gives back, and the ids that a source gives). It carries
-//! the laws that a reader may want of every record: [`a_record_hands_the_frames_at_its_origins`],
-//! [`a_live_id_has_one_open_home`], [`a_commit_hands_the_frames_of_its_own_id`],
-//! [`others_leave_an_id_alone`] and [`a_discharged_id_is_unknown_until_declared_anew`]. That a session
-//! answers by its record is proved where sessions are.
+//! It stands on `amqp_txn_types` (frames, ids and strip), `amqp_txn_codec` (the message of a
+//! payload), `amqp_layer` (what the layer below gives back) and `amqp_ids` (the ids that a step
+//! draws). It carries the laws that a reader may want of every record:
+//! [`a_record_hands_the_frames_at_its_origins`], [`a_live_id_has_one_open_home`],
+//! [`a_commit_hands_the_frames_of_its_own_id`], [`others_leave_an_id_alone`] and
+//! [`a_discharged_id_is_unknown_until_declared_anew`]. That a session answers by its record is
+//! proved where sessions are.
 #![tactic(auto)]
 
 mod answering;
@@ -59,7 +60,6 @@ mod laws;
 mod legal_records;
 mod live_ids;
 mod open_links;
-mod presuming;
 mod reply;
 mod step;
 mod stop;
@@ -68,7 +68,7 @@ mod tests;
 
 pub use answering::is_answer;
 pub use entry::{Drawn16, Entries, Entry};
-pub use handing::{commits, hands, is_coordinator_attach, is_plain, is_under, rolls_back};
+pub use handing::{commits, hands, is_coordinator_attach, is_plain, is_under};
 pub use laws::{
     a_commit_hands_the_frames_of_its_own_id, a_discharged_id_is_unknown_until_declared_anew,
     a_live_id_has_one_open_home, a_record_hands_the_frames_at_its_origins,
@@ -77,7 +77,6 @@ pub use laws::{
 pub use legal_records::{is_entry_after, is_legal, work};
 pub use live_ids::{entries_since, home, is_held_on, is_live, since};
 pub use open_links::{is_open, links_attached};
-pub use presuming::presumed_disposition;
 pub use reply::{RejectText, Reply};
 pub use step::{Step, Steps};
 pub use stop::{Driven, StepError, Stop, StopCode, code_of_end, code_of_fault};

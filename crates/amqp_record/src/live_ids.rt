@@ -4,7 +4,7 @@ ghost use Rattle.std.specs.Prelude.{◌≡◌, suc, drop};
 ghost use Rattle.std.specs.List.{list_any};
 ghost use Rattle.amqp_txn_codec.specs.Reading.{message_of};
 ghost use Rattle.amqp_record.specs.Entries.{declares, discharges, message_discharges, step_link};
-ghost use Rattle.amqp_record.specs.Live.{since, home, entries_since, undischarged, is_live, is_held_on};
+ghost use Rattle.amqp_record.specs.Live.{since, home, entries_since, undischarged, is_live, is_held_on, is_link, is_open_at};
 
 use crate::entry::Entry;
 use crate::open_links::is_open;
@@ -29,29 +29,29 @@ pub fn since(entries: &[Entry], txn_id: &TransactionId) -> Option<usize>
     last
 }
 
-/// The link on which the id was last declared, 0 where it never was.
+/// The link on which the id was last declared; `None` where it never was.
 #[tactic(auto, unfolding(crate::specs::Live::home))]
-pub fn home(entries: &[Entry], txn_id: &TransactionId) -> u64
+pub fn home(entries: &[Entry], txn_id: &TransactionId) -> Option<u64>
     ensures { result ≡ home entries.now txn_id.now }
 {
     match since(entries, txn_id) {
-        None => 0,
+        None => None,
         Some(place) => match entries.get(place) {
-            None => 0,
+            None => None,
             Some(entry) => link_named(&entry.step),
         },
     }
 }
 
-/// Whether the id is live after these entries: it was declared, it was not discharged since, and the
-/// link that declared it is open.
+/// Whether the id is live after these entries: it was declared, it was not discharged since, and
+/// the link that declared it is open.
 ///
 /// Part 4 of the standard, sections 4.1 to 4.3. It looks at every entry a few times.
 #[tactic(auto, unfolding(crate::specs::Live::is_live))]
 pub fn is_live(entries: &[Entry], txn_id: &TransactionId) -> bool
     ensures { result ≡ is_live entries.now txn_id.now }
 {
-    is_undischarged(entries, txn_id) && is_open(entries, home(entries, txn_id))
+    is_undischarged(entries, txn_id) && is_open_at(entries, home(entries, txn_id))
 }
 
 /// Whether the id is live and the link is its home, so that a discharge of it on this link is
@@ -59,7 +59,7 @@ pub fn is_live(entries: &[Entry], txn_id: &TransactionId) -> bool
 pub fn is_held_on(entries: &[Entry], link: u64, txn_id: &TransactionId) -> bool
     ensures { result ≡ is_held_on entries.now link txn_id.now }
 {
-    is_live(entries, txn_id) && home(entries, txn_id) == link
+    is_live(entries, txn_id) && is_link(link, home(entries, txn_id))
 }
 
 /// The entries after the last declare of the id, none where it never was declared.
@@ -133,11 +133,29 @@ fn spells_discharge(payload: &[u8], txn_id: &TransactionId) -> bool
     }
 }
 
-fn link_named(step: &Step) -> u64
+fn link_named(step: &Step) -> Option<u64>
     ensures { result ≡ step_link step.now }
 {
     match step {
-        Step::Control { link, .. } | Step::LinkEnd { link } => *link,
-        _ => 0,
+        Step::Control { link, .. } | Step::LinkEnd { link } => Some(*link),
+        _ => None,
+    }
+}
+
+fn is_open_at(entries: &[Entry], home: Option<u64>) -> bool
+    ensures { result ≡ is_open_at entries.now home }
+{
+    match home {
+        Some(link) => is_open(entries, link),
+        None => false,
+    }
+}
+
+fn is_link(link: u64, home: Option<u64>) -> bool
+    ensures { result ≡ is_link link home }
+{
+    match home {
+        Some(home) => home == link,
+        None => false,
     }
 }

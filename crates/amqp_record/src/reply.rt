@@ -3,7 +3,7 @@
 ghost use Rattle.std.specs.Prelude.{◌≡◌, option_copied};
 ghost use Rattle.amqp_record.specs.Texts.{text_of};
 
-use amqp_below::{Answers, Echoes, SessionInnerError};
+use amqp_layer::{Answers, Echoes, SessionInnerError};
 use amqp_txn_types::{AmqpError, Frames, NoMemory, TransactionError, TransactionId, TryClone};
 
 /// The text beside a rejected control message.
@@ -50,12 +50,13 @@ pub enum Reply {
     LinkEnded,
     /// To a message on a link that isn't open, or to the end of one.
     NoLink,
-    /// To a payload that is no control message: the link is closed, as if it ended, with this error.
+    /// To a payload that is no control message: the link is closed, as if it ended, with this
+    /// error.
     LinkClosed(AmqpError),
     /// To a declare: the id of the new transaction (section 4.5.5, declared).
     Declared(TransactionId),
-    /// To a discharge: for a commit what the layer below gave back for each of its frames, in order;
-    /// for a rollback nothing.
+    /// To a discharge: for a commit what the layer below gave back for each of its frames, in
+    /// order; for a rollback nothing.
     Accepted(Echoes),
     /// To a declare or a discharge that is refused (section 4.5.8, transaction error).
     Rejected {

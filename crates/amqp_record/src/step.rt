@@ -43,5 +43,7 @@ impl TryClone for Step {
     }
 }
 
+const _: () = prove!(size_of::<Step>() <= 256);
+
 /// Steps, in order.
 pub type Steps = Items<Step>;

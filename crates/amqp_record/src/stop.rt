@@ -4,8 +4,10 @@ ghost use Rattle.std.specs.Prelude.{◌≡◌};
 ghost use Rattle.amqp_record.specs.Stops.{code_of, fault_code, ended_code};
 
 use crate::entry::Entries;
-use amqp_below::SessionInnerError;
+use amqp_layer::SessionInnerError;
 use amqp_txn_types::SessionStopReason;
+use std::fmt;
+use thiserror::Error as ThisError;
 
 /// The cause of a stop, without its values.
 #[derive(Clone, Copy, Debug, PartialEq, Eq)]
@@ -59,6 +61,17 @@ pub enum Stop {
     NoMemory,
 }
 
+impl fmt::Display for Stop {
+    fn fmt<W: fmt::Write>(&self, f: &mut fmt::Formatter<W>) -> fmt::Result {
+        match self {
+            Stop::Done => write!(f, "every step was answered"),
+            Stop::Fault(error) => write!(f, "a frame was not taken: {error}"),
+            Stop::Ended(reason) => write!(f, "the session ended: {reason:?}"),
+            Stop::NoMemory => write!(f, "out of memory"),
+        }
+    }
+}
+
 impl Stop {
     /// The cause without its values.
     pub fn code(&self) -> StopCode
@@ -105,20 +118,25 @@ pub fn code_of_end(reason: &SessionStopReason) -> StopCode
 }
 
 /// Why a step has no reply.
-#[derive(Debug, Drop, PartialEq)]
+#[derive(Debug, Drop, PartialEq, ThisError)]
 pub enum StepError {
     /// The step is a frame under an id that isn't live, or the layer below refused a frame of it.
+    #[error("a frame was not taken: {error}")]
     Fault {
         /// What is wrong; `UnknownTxnId` stands for the first cause alone.
         error: SessionInnerError,
-        /// How many of the step's frames the layer below took, one whose answer was refused included.
+        /// How many of the step's frames the layer below took, one whose answer was refused
+        /// included.
         handed: usize,
     },
     /// The step ends the session.
+    #[error("the session ended: {0:?}")]
     Ended(SessionStopReason),
     /// The session had stopped before, with this code.
+    #[error("the session had stopped: {0:?}")]
     Stopped(StopCode),
     /// Want of memory. The session is as it was before the step.
+    #[error("out of memory")]
     NoMemory,
 }
 

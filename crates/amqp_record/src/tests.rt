@@ -1,10 +1,13 @@
-//! What no clause says: that there is an answer where there is memory, and one short record by hand.
+//! What no clause says: that there is an answer where there is memory, and one short record by
+//! hand.
 
 use crate::*;
-use amqp_below::{Answers, Drawn};
+use amqp_ids::Drawn;
+use amqp_layer::{Answers, SessionInnerError};
 use amqp_txn_types::{
-    AmqpError, Attach, Boxed, Coordinator, Detach, Frame, Frames, Handle, NoMemory, Payload,
-    ReceiverSettleMode, Role, SenderSettleMode, TargetArchetype, Text, TransactionId, TryClone,
+    AmqpError, Attach, Coordinator, Detach, Frame, Frames, Handle, NoMemory, Payload,
+    ReceiverSettleMode, Role, SenderSettleMode, SessionStopReason, TargetArchetype, Text,
+    TransactionId, TryClone,
 };
 use std::alloc::Global;
 use std::process::Abort;
@@ -25,7 +28,7 @@ fn control_attach(alloc: Global) -> Result<Frame, NoMemory> {
         desired_capabilities: None,
         properties: None,
     };
-    Ok(Frame::Attach(Boxed::new(alloc, attach)?))
+    Ok(Frame::Attach(attach))
 }
 
 fn entry(alloc: Global, step: Step, reply: Reply) -> Entry {
@@ -205,5 +208,59 @@ fn a_control_attach_is_not_plain(rt: HostRuntime) -> Result<(), Fail> {
     drop(frame);
     assert!(rt; !plain);
     assert!(rt; !under);
+    Ok(())
+}
+
+fn is_text(alloc: Global, error: &StepError, text: &str) -> Result<bool, Fail> {
+    let shown = format!(in alloc; "{error}")?;
+    Ok(shown.as_str() == text)
+}
+
+fn is_text_of_stop(alloc: Global, stop: &Stop, text: &str) -> Result<bool, Fail> {
+    let shown = format!(in alloc; "{stop}")?;
+    Ok(shown.as_str() == text)
+}
+
+#[test]
+fn each_error_of_a_step_has_its_text(rt: HostRuntime) -> Result<(), Fail> {
+    let fault = StepError::Fault {
+        error: SessionInnerError::HandleInUse,
+        handed: 1,
+    };
+    let rows = [
+        (fault, "a frame was not taken: the handle is in use"),
+        (
+            StepError::Ended(SessionStopReason::RemoteEnded),
+            "the session ended: RemoteEnded",
+        ),
+        (
+            StepError::Stopped(StopCode::Ended),
+            "the session had stopped: Ended",
+        ),
+        (StepError::NoMemory, "out of memory"),
+    ];
+    for (error, text) in rows {
+        assert!(rt; is_text(rt.alloc(), &error, text)?);
+    }
+    Ok(())
+}
+
+#[test]
+fn each_stop_has_its_text(rt: HostRuntime) -> Result<(), Fail> {
+    let rows = [
+        (Stop::Done, "every step was answered"),
+        (
+            Stop::Fault(SessionInnerError::UnknownTxnId),
+            "a frame was not taken: the transaction id is not known",
+        ),
+        (
+            Stop::Ended(SessionStopReason::Ended),
+            "the session ended: Ended",
+        ),
+        (Stop::NoMemory, "out of memory"),
+    ];
+    for (stop, text) in rows {
+        assert!(rt; is_text_of_stop(rt.alloc(), &stop, text)?);
+    }
     Ok(())
 }

@@ -10,10 +10,10 @@ use Rattle.amqp_txn_codec.specs.declared.message.Discharge.{Discharge}
 use Rattle.amqp_txn_codec.specs.declared.message.ControlMessageBody.{ControlMessageBody}
 use Rattle.amqp_txn_codec.specs.declared.message.ControlMessageBody.TheVariants as messages
 use Rattle.amqp_txn_codec.specs.Reading.{message_of}
-use Rattle.amqp_below.specs.Drawn.{DrawnIds}
-use Rattle.amqp_below.specs.Told.{Told}
+use Rattle.amqp_ids.specs.Drawn.{DrawnIds}
+use Rattle.amqp_layer.specs.Told.{Told}
 use Rattle.amqp_txn_types.specs.Counts.{Rose}
-use Rattle.amqp_below.specs.Ids.{AreNext, Drew}
+use Rattle.amqp_ids.specs.Ids.{AreNext, Drew}
 use Rattle.amqp_record.specs.declared.entry.Entry.{Entry}
 use Rattle.amqp_record.specs.declared.step.Step.{Step}
 use Rattle.amqp_record.specs.declared.step.Step.TheVariants as steps

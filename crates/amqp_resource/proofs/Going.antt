@@ -12,17 +12,18 @@ use Rattle.amqp_txn_types.specs.declared.delivery.SessionStopReason.{SessionStop
 use Rattle.amqp_txn_types.specs.declared.performatives.Attach.{Attach}
 use Rattle.amqp_txn_types.specs.declared.performatives.Frame.{Frame}
 use Rattle.amqp_txn_types.specs.declared.performatives.Frame.TheVariants as frames
-use Rattle.amqp_txn_types.specs.Frames.{txn, coord, is_plain, plain, attaches_coordinator, stripped}
+use Rattle.amqp_txn_types.specs.Frames.{txn, is_coordinator_attach, is_plain_by, is_plain_frame, attaches_coordinator, stripped}
 use Rattle.amqp_txn_codec.specs.declared.message.Discharge.{Discharge}
 use Rattle.amqp_txn_codec.specs.declared.message.ControlMessageBody.{ControlMessageBody}
 use Rattle.amqp_txn_codec.specs.declared.message.ControlMessageBody.TheVariants as messages
 use Rattle.amqp_txn_codec.specs.Reading.{message_of}
-use Rattle.amqp_below.specs.declared.answers.Answers.{Answers}
-use Rattle.amqp_below.specs.declared.inner_error.SessionInnerError.{SessionInnerError}
-use Rattle.amqp_below.specs.declared.inner_error.SessionInnerError.TheVariants as faults
-use Rattle.amqp_below.specs.declared.refusal.Refusal.{Refusal}
-use Rattle.amqp_below.specs.Drawn.{DrawnIds}
-use Rattle.amqp_below.specs.Told.{Told, Steady, Opens, grown}
+use Rattle.amqp_layer.specs.declared.answers.Answers.{Answers}
+use Rattle.amqp_layer.specs.declared.inner_error.SessionInnerError.{SessionInnerError}
+use Rattle.amqp_layer.specs.declared.inner_error.SessionInnerError.TheVariants as faults
+use Rattle.amqp_layer.specs.declared.refusal.Refusal.{Refusal}
+use Rattle.amqp_ids.specs.Drawn.{DrawnIds}
+use Rattle.amqp_layer.specs.Told.{Told, Steady, Opens, refusal_of}
+use Rattle.amqp_txn_types.specs.Growing.{grown}
 use Rattle.amqp_record.specs.declared.entry.Entry.{Entry}
 use Rattle.amqp_record.specs.declared.step.Step.{Step}
 use Rattle.amqp_record.specs.declared.step.Step.TheVariants as steps
@@ -32,26 +33,31 @@ use Rattle.amqp_record.specs.declared.reply.RejectText.{RejectText}
 use Rattle.amqp_record.specs.declared.reply.RejectText.TheVariants as texts
 use Rattle.amqp_record.specs.declared.stop.StepError.{StepError}
 use Rattle.amqp_record.specs.declared.stop.StepError.TheVariants as errors
-use Rattle.amqp_record.specs.Entries.{same_id, is_some_id, message_discharges, step_discharges}
+use Rattle.amqp_record.specs.Entries.{message_discharges, step_discharges}
+use Rattle.amqp_txn_types.specs.Ids.{same_id, is_some_id}
 use Rattle.amqp_record.specs.Links.{is_open}
-use Rattle.amqp_record.specs.Live.{is_live, home, is_held_on}
-use Rattle.amqp_record.specs.Hands.{frames_of, is_rollback, hands}
+use Rattle.amqp_record.specs.Live.{is_link, is_live, home, is_held_on}
+use Rattle.amqp_record.specs.Hands.{frames_of, hands}
+use Rattle.amqp_txn_codec.specs.Discharges.{is_rollback}
 use Rattle.amqp_record.specs.Work.{given_by}
-use Rattle.amqp_record.specs.Answers.{answered_under, WindowFits, WindowsFit, Answer, AnswerFrame, AnswerControl, AnswerMessage, AnswerLinkEnd, Draws, Echoed}
-use Rattle.amqp_record.specs.Opened.{opened_by, refused_by, refusal_of}
+use Rattle.amqp_record.specs.Answers.{Answer, AnswerFrame, AnswerControl, AnswerMessage, AnswerLinkEnd, Draws, Echoed}
+use Rattle.amqp_txn_types.specs.Presumptive.{answered_under}
+use Rattle.amqp_layer.specs.Windows.{WindowFits, AllWindowsFit}
+use Rattle.amqp_record.specs.Opened.{opened_by, refused_by}
 use Rattle.amqp_record.proofs.Whole.{plain_none, hands-plain, hands-other_frame, hands-commit, hands-no_commit, not_held_no_commit, commits-at, commits-discharge, commits-rollback}
 use Rattle.amqp_resource.specs.declared.held.Held.{Held}
-use Rattle.amqp_resource.specs.declared.taking.TakeError.{TakeError}
-use Rattle.amqp_resource.specs.Held.{Kept, LiveIds, SameHeld, Stands, Tied, ids_on, is_among, is_in, is_kept_on, is_on, kept_by, look, unless_on, with_frame}
+use Rattle.amqp_layer.specs.declared.taking.TakeError.{TakeError}
+use Rattle.amqp_resource.specs.Held.{Kept, LiveIds, SameHeld, Stands, Tied, ids_on, is_among, is_in, is_kept_on, kept_by, look, unless_on, with_frame}
 use Rattle.amqp_resource.specs.Draws.{is_kept, DrewLive, DrewUnused}
-use Rattle.amqp_resource.specs.Taking.{TookFrames, TakesFrame, taken_frames}
+use Rattle.amqp_layer.specs.Taking.{TookFrames, TakesFrame, taken_frames}
 use Rattle.amqp_resource.specs.Committing.{HandedSome, HandedPart, RefusedAt, given_of}
-use Rattle.amqp_below.specs.declared.transacting.CommitFault.{CommitFault}
-use Rattle.amqp_below.specs.declared.transacting.CommitFault.TheVariants as commit_faults
+use Rattle.amqp_sessions.specs.declared.transacting.CommitFault.{CommitFault}
+use Rattle.amqp_sessions.specs.declared.transacting.CommitFault.TheVariants as commit_faults
 use Rattle.amqp_resource.specs.Transacting.{CommittedWith, Ended, step_error_of}
-use Rattle.amqp_resource.specs.Steps.{Went, Refused, Stayed, StepGave, AddsRefusal, FrameMayFault, IsDead, IsPost, IsUnder, UnderDead, EndGave, ended_by, entry_of, fault_of, is_live_under, is_unknown, message_takes_memory, nothing_drawn, takes_memory}
+use Rattle.amqp_resource.specs.Steps.{StepAnswered, Refused, NothingDone, StepGave, AddsRefusal, FrameMayFault, IsDead, IsPost, IsUnder, UnderDead, EndGave, ended_by, entry_of, fault_of, is_live_under, is_unknown, message_takes_memory, nothing_drawn, takes_memory}
 use Rattle.amqp_resource.proofs.Kept.{tied_same}
-use Rattle.amqp_resource.proofs.Handing.{grown-nil, refused_after-err}
+use Rattle.amqp_resource.proofs.Handing.{refused_after-err}
+use Rattle.amqp_txn_types.proofs.Growing.{grown-nil}
 use Rattle.amqp_resource.proofs.Standing.{Quiet, stands-quiet, stands-post, stands-attached, stands-discharged, stands-closed, stands-declared}
 
 -- ---- nothing more below
@@ -66,8 +72,8 @@ hands_nothing : (old new : Option (List (Frame × List Frame))) (r : List Entry)
 hands_nothing old new r s reply h t = t ∙ sym (ap (λ fs. grown old (zip fs (given_by s reply))) h ∙ grown-nil old)
 
 -- a reply to a step that hands nothing
-went-steady : (g : Held) (old new : Told) (r : List Entry) (s : Step) (d : DrawnIds) (reply : Reply) → Answer r s d.ids reply → Stands g (r ++ entry_of s d reply ∷ []) → hands r s ≡ [] → opened_by s reply ≡ [] → refused_by s reply ≡ [] → Steady old new → Went g old new r s d reply
-went-steady g old new r s d reply a st h o f t = record {
+answered-steady : (g : Held) (old new : Told) (r : List Entry) (s : Step) (d : DrawnIds) (reply : Reply) → Answer r s d.ids reply → Stands g (r ++ entry_of s d reply ∷ []) → hands r s ≡ [] → opened_by s reply ≡ [] → refused_by s reply ≡ [] → Steady old new → StepAnswered g old new r s d reply
+answered-steady g old new r s d reply a st h o f t = record {
   answer = a;
   stands = st;
   taken = hands_nothing old.taken new.taken r s reply h t.taken;
@@ -113,8 +119,8 @@ refused_gives h old new r s error own handed k e f =
 
 -- ---- plain frames
 
-pub plain_no_coordinator : (frame : Frame) (o : Option TransactionId) → is_plain o (coord frame) ≡ true → coord frame ≡ false
-plain_no_coordinator frame None h = flip (coord frame) h
+pub plain_no_coordinator : (frame : Frame) (o : Option TransactionId) → is_plain_by o (is_coordinator_attach frame) ≡ true → is_coordinator_attach frame ≡ false
+plain_no_coordinator frame None h = flip (is_coordinator_attach frame) h
   where
     flip : (b : Bool) → not b ≡ true → b ≡ false
     flip false x = refl
@@ -124,14 +130,14 @@ plain_no_coordinator frame (Some t) h = cc h
 quiet-frames : (frame : Frame) (a : Answers) → Quiet (entry_of (steps.Frame frame) nothing_drawn (replies.Frames a))
 quiet-frames frame a = record { declares = λ t. refl; discharges = λ t. refl; attaches = λ k. refl; closes = λ k. refl; attached = refl }
 
-answer-plain : (r : List Entry) (frame : Frame) (a : Answers) → plain frame ≡ true → WindowFits frame a → Answer r (steps.Frame frame) [] (replies.Frames a)
+answer-plain : (r : List Entry) (frame : Frame) (a : Answers) → is_plain_frame frame ≡ true → WindowFits frame a → Answer r (steps.Frame frame) [] (replies.Frames a)
 answer-plain r frame a p w =
     let P : Option TransactionId → Type 0 = λ o. AnswerFrame r frame o (replies.Frames a) in
     (refl, subst P (sym (plain_none frame p)) (plain_no_coordinator frame (txn frame) p, w))
 
 -- a plain frame that was taken
-pub went-plain : (h : Held) (r : List Entry) (frame : Frame) (a : Answers) (old new : Told) → plain frame ≡ true → Stands h r → TakesFrame old new frame (Ok a) → Went h old new r (steps.Frame frame) nothing_drawn (replies.Frames a)
-went-plain h r frame a old new p s t = record {
+pub answered-plain : (h : Held) (r : List Entry) (frame : Frame) (a : Answers) (old new : Told) → is_plain_frame frame ≡ true → Stands h r → TakesFrame old new frame (Ok a) → StepAnswered h old new r (steps.Frame frame) nothing_drawn (replies.Frames a)
+answered-plain h r frame a old new p s t = record {
   answer = answer-plain r frame a p t.taken.1;
   stands = stands-quiet h r (entry_of (steps.Frame frame) nothing_drawn (replies.Frames a)) s (answer-plain r frame a p t.taken.1) (quiet-frames frame a) (λ u. ap (is_some_id u) (plain_none frame p));
   taken = t.taken.0 ∙ ap (grown old.taken) (sym (ap (λ fs. zip fs (given_by (steps.Frame frame) (replies.Frames a))) (hands-plain r frame p) ∙ ap (λ b. zip (frame ∷ []) (cond b (a.given ∷ []) [])) p));
@@ -139,11 +145,11 @@ went-plain h r frame a old new p s t = record {
   refused = t.refused;
 }
 
-plain_adds : (r : List Entry) (frame : Frame) (own : SessionInnerError) (b : Bool) → plain frame ≡ true → AddsRefusal (steps.Frame frame) (hands r (steps.Frame frame)) (cond b 1 0) (fault_of own) (cond b [] (refusal_of frame own))
+plain_adds : (r : List Entry) (frame : Frame) (own : SessionInnerError) (b : Bool) → is_plain_frame frame ≡ true → AddsRefusal (steps.Frame frame) (hands r (steps.Frame frame)) (cond b 1 0) (fault_of own) (cond b [] (refusal_of frame own))
 plain_adds r frame own true p = (own, refl, inr (refl, inr (omega arith)))
 plain_adds r frame own false p = (own, refl, inl (frame, ap (λ (fs : List Frame). slice_get fs 0) (hands-plain r frame p), refl))
 
-plain_took : (old new : Option (List (Frame × List Frame))) (r : List Entry) (frame : Frame) (b : Bool) → plain frame ≡ true → TookFrames old new (taken_frames b frame) → (cond b 1 0 ≤ length (hands r (steps.Frame frame))) × TookFrames old new (take (cond b 1 0) (hands r (steps.Frame frame)))
+plain_took : (old new : Option (List (Frame × List Frame))) (r : List Entry) (frame : Frame) (b : Bool) → is_plain_frame frame ≡ true → TookFrames old new (taken_frames b frame) → (cond b 1 0 ≤ length (hands r (steps.Frame frame))) × TookFrames old new (take (cond b 1 0) (hands r (steps.Frame frame)))
 plain_took old new r frame true p t = (
   let e : length (hands r (steps.Frame frame)) ≡ 1 = ap length (hands-plain r frame p) in omega arith,
   subst (λ (fs : List Frame). TookFrames old new (take 1 fs)) (sym (hands-plain r frame p)) t,
@@ -151,7 +157,7 @@ plain_took old new r frame true p t = (
 plain_took old new r frame false p t = (omega arith, t)
 
 -- a plain frame that was refused
-pub refused-plain : (r : List Entry) (frame : Frame) (e : TakeError) (old new : Told) → plain frame ≡ true → TakesFrame old new frame (Err e) → Refused old new r (steps.Frame frame) (fault_of e.error) (cond e.taken 1 0)
+pub refused-plain : (r : List Entry) (frame : Frame) (e : TakeError) (old new : Told) → is_plain_frame frame ≡ true → TakesFrame old new frame (Err e) → Refused old new r (steps.Frame frame) (fault_of e.error) (cond e.taken 1 0)
 refused-plain r frame e old new p t =
     let part = plain_took old.taken new.taken r frame e.taken p t.taken in
     record {
@@ -161,8 +167,8 @@ refused-plain r frame e old new p t =
       refused = (cond e.taken [] (refusal_of frame e.error), plain_adds r frame e.error e.taken p, t.refused);
     }
 
-pub stayed-plain : (h : Held) (r : List Entry) (frame : Frame) → plain frame ≡ true → Stands h r → Stayed h r (steps.Frame frame)
-stayed-plain h r frame p s = record { stands = s; takes = ap (is_live_under r) (plain_none frame p) }
+pub undone-plain : (h : Held) (r : List Entry) (frame : Frame) → is_plain_frame frame ≡ true → Stands h r → NothingDone h r (steps.Frame frame)
+undone-plain h r frame p s = record { stands = s; takes = ap (is_live_under r) (plain_none frame p) }
 
 -- ---- a frame under an id
 
@@ -170,7 +176,7 @@ stayed-plain h r frame p s = record { stands = s; takes = ap (is_live_under r) (
 pub kept_live : (h : Held) (r : List Entry) (t : TransactionId) → Stands h r → is_kept h.live.entries t ≡ is_live r t
 kept_live h r t s = ap is_some (s.live t) ∙ by_case (is_live r t)
   where
-    by_case : (b : Bool) → is_some {T = Kept} (cond b (Some (Some (home r t), frames_of r t)) None) ≡ b
+    by_case : (b : Bool) → is_some {T = Kept} (cond b (Some (home r t, frames_of r t)) None) ≡ b
     by_case true = refl
     by_case false = refl
 
@@ -185,8 +191,8 @@ answer-post r frame u e l =
     let P : Option TransactionId → Type 0 = λ o. AnswerFrame r frame o (post_reply u frame) in
     (refl, subst P (sym e) (l, refl))
 
-not_plain : (frame : Frame) (u : TransactionId) → txn frame ≡ Some u → plain frame ≡ false
-not_plain frame u e = ap (λ o. is_plain o (coord frame)) e
+not_plain : (frame : Frame) (u : TransactionId) → txn frame ≡ Some u → is_plain_frame frame ≡ false
+not_plain frame u e = ap (λ o. is_plain_by o (is_coordinator_attach frame)) e
 
 -- a frame more changes no holder
 pub tied-post : (h g : Held) (u : TransactionId) (frame : Frame) → Tied h → ((t : TransactionId) → look g.live.entries t ≡ cond (same_id t u) (with_frame (look h.live.entries t) frame) (look h.live.entries t)) → ((k : ℕ) → ids_on g.links.entries k ≡ ids_on h.links.entries k) → Tied g
@@ -197,10 +203,10 @@ tied-post h g u frame tied lg kg k t = ap (is_among t) (kg k) ∙ tied k t ∙ s
     same_holder true (Some kept) = refl
     same_holder false o = refl
 
-pub went-post : (h g : Held) (r : List Entry) (frame : Frame) (u : TransactionId) (old new : Told) → txn frame ≡ Some u → Stands h r → is_kept h.live.entries u ≡ true → ((t : TransactionId) → look g.live.entries t ≡ cond (same_id t u) (with_frame (look h.live.entries t) frame) (look h.live.entries t)) → ((k : ℕ) → ids_on g.links.entries k ≡ ids_on h.links.entries k) → g.opened ≡ h.opened → Steady old new → Went g old new r (steps.Frame frame) nothing_drawn (post_reply u frame)
-went-post h g r frame u old new e s at lg kg og t =
+pub answered-post : (h g : Held) (r : List Entry) (frame : Frame) (u : TransactionId) (old new : Told) → txn frame ≡ Some u → Stands h r → is_kept h.live.entries u ≡ true → ((t : TransactionId) → look g.live.entries t ≡ cond (same_id t u) (with_frame (look h.live.entries t) frame) (look h.live.entries t)) → ((k : ℕ) → ids_on g.links.entries k ≡ ids_on h.links.entries k) → g.opened ≡ h.opened → Steady old new → StepAnswered g old new r (steps.Frame frame) nothing_drawn (post_reply u frame)
+answered-post h g r frame u old new e s at lg kg og t =
     let a = answer-post r frame u e (stands_live h r u s at) in
-    went-steady g old new r (steps.Frame frame) nothing_drawn (post_reply u frame) a
+    answered-steady g old new r (steps.Frame frame) nothing_drawn (post_reply u frame) a
     (stands-post h g r (entry_of (steps.Frame frame) nothing_drawn (post_reply u frame)) frame u s a (quiet-frames frame (record { given = answered_under u frame; window = None })) refl (λ v. ap (is_some_id v) e) (tied-post h g u frame s.tied lg kg) lg (λ k. ap is_some (kg k)) og)
     (hands-other_frame r frame (not_plain frame u e)) refl refl t
 
@@ -210,16 +216,16 @@ unknown-post h r frame u e s n = (subst (IsDead r) (sym e) (sym (kept_live h r u
 -- the answer of a post was refused below
 pub refused-post : (h : Held) (r : List Entry) (frame : Frame) (u : TransactionId) (own : SessionInnerError) (old new : Told) → txn frame ≡ Some u → Stands h r → is_kept h.live.entries u ≡ true → 1 ≤ length (answered_under u frame) → Steady old new → Refused old new r (steps.Frame frame) (fault_of own) 0
 refused-post h r frame u own old new e s at some t =
-    let under : IsPost (steps.Frame frame) = subst IsUnder (sym e) tt in
+    let is_under : IsPost (steps.Frame frame) = subst IsUnder (sym e) tt in
     record {
       fits = subst (FrameMayFault r frame) (sym e) (stands_live h r u s at, some);
       took = (omega arith, ([], refl, t.taken ∙ sym (grown-nil old.taken)));
       opened = t.opened;
-      refused = ([], (own, refl, inr (refl, inl under)), t.refused ∙ sym (grown-nil old.refused));
+      refused = ([], (own, refl, inr (refl, inl is_under)), t.refused ∙ sym (grown-nil old.refused));
     }
 
-pub stayed-post : (h g : Held) (r : List Entry) (frame : Frame) (u : TransactionId) → txn frame ≡ Some u → Stands h r → is_kept h.live.entries u ≡ true → Stands g r → Stayed g r (steps.Frame frame)
-stayed-post h g r frame u e s at sg = record { stands = sg; takes = ap (is_live_under r) e ∙ stands_live h r u s at }
+pub undone-post : (h g : Held) (r : List Entry) (frame : Frame) (u : TransactionId) → txn frame ≡ Some u → Stands h r → is_kept h.live.entries u ≡ true → Stands g r → NothingDone g r (steps.Frame frame)
+undone-post h g r frame u e s at sg = record { stands = sg; takes = ap (is_live_under r) e ∙ stands_live h r u s at }
 
 -- ---- an attach to a coordinator
 
@@ -227,18 +233,18 @@ pub txn-attach : (attach : Attach) → txn (frames.Attach attach) ≡ None
 unfolding txn
 txn-attach attach = refl
 
-pub coord-attach : (attach : Attach) → coord (frames.Attach attach) ≡ attaches_coordinator attach
-unfolding coord
+pub coord-attach : (attach : Attach) → is_coordinator_attach (frames.Attach attach) ≡ attaches_coordinator attach
+unfolding is_coordinator_attach
 coord-attach attach = refl
 
-coordinator_not_plain : (attach : Attach) → attaches_coordinator attach ≡ true → plain (frames.Attach attach) ≡ false
-coordinator_not_plain attach c = ap (λ o. is_plain o (coord (frames.Attach attach))) (txn-attach attach) ∙ ap not (coord-attach attach ∙ c)
+coordinator_not_plain : (attach : Attach) → attaches_coordinator attach ≡ true → is_plain_frame (frames.Attach attach) ≡ false
+coordinator_not_plain attach c = ap (λ o. is_plain_by o (is_coordinator_attach (frames.Attach attach))) (txn-attach attach) ∙ ap not (coord-attach attach ∙ c)
 
 attach_answer : (r : List Entry) (attach : Attach) (reply : Reply) → AnswerFrame r (frames.Attach attach) None reply → Answer r (steps.Frame (frames.Attach attach)) [] reply
 attach_answer r attach reply a = let P : Option TransactionId → Type 0 = λ o. AnswerFrame r (frames.Attach attach) o reply in (refl, subst P (sym (txn-attach attach)) a)
 
-pub went-attached : (h g : Held) (r : List Entry) (attach : Attach) (given : List Frame) (old new : Told) → attaches_coordinator attach ≡ true → Stands h r → ((t : TransactionId) → look g.live.entries t ≡ look h.live.entries t) → ((k : ℕ) → ids_on g.links.entries k ≡ cond (h.opened == k) (Some []) (ids_on h.links.entries k)) → g.opened ≡ h.opened + 1 → Opens old new attach (Ok given) → Went g old new r (steps.Frame (frames.Attach attach)) nothing_drawn (replies.Attached h.opened given)
-went-attached h g r attach given old new c s lg kg og t =
+pub answered-attached : (h g : Held) (r : List Entry) (attach : Attach) (given : List Frame) (old new : Told) → attaches_coordinator attach ≡ true → Stands h r → ((t : TransactionId) → look g.live.entries t ≡ look h.live.entries t) → ((k : ℕ) → ids_on g.links.entries k ≡ cond (h.opened == k) (Some []) (ids_on h.links.entries k)) → g.opened ≡ h.opened + 1 → Opens old new attach (Ok given) → StepAnswered g old new r (steps.Frame (frames.Attach attach)) nothing_drawn (replies.Attached h.opened given)
+answered-attached h g r attach given old new c s lg kg og t =
     let a = attach_answer r attach (replies.Attached h.opened given) (coord-attach attach ∙ c, s.opened) in
     record {
       answer = a;
@@ -248,8 +254,8 @@ went-attached h g r attach given old new c s lg kg og t =
       refused = adds_nothing old.refused new.refused [] refl t.refused;
     }
 
-pub went-attach_refused : (h g : Held) (r : List Entry) (attach : Attach) (error : SessionInnerError) (old new : Told) → attaches_coordinator attach ≡ true → Stands h r → SameHeld h g → Opens old new attach (Err error) → Went g old new r (steps.Frame (frames.Attach attach)) nothing_drawn (replies.AttachRefused error)
-went-attach_refused h g r attach error old new c s same t =
+pub answered-attach_refused : (h g : Held) (r : List Entry) (attach : Attach) (error : SessionInnerError) (old new : Told) → attaches_coordinator attach ≡ true → Stands h r → SameHeld h g → Opens old new attach (Err error) → StepAnswered g old new r (steps.Frame (frames.Attach attach)) nothing_drawn (replies.AttachRefused error)
+answered-attach_refused h g r attach error old new c s same t =
     let a = attach_answer r attach (replies.AttachRefused error) (coord-attach attach ∙ c) in
     record {
       answer = a;
@@ -260,8 +266,8 @@ went-attach_refused h g r attach error old new c s same t =
       refused = t.refused ∙ refused_after-err old.refused (frames.Attach attach) error;
     }
 
-pub stayed-attach : (g : Held) (r : List Entry) (attach : Attach) → Stands g r → Stayed g r (steps.Frame (frames.Attach attach))
-stayed-attach g r attach s = record { stands = s; takes = ap (is_live_under r) (txn-attach attach) }
+pub undone-attach : (g : Held) (r : List Entry) (attach : Attach) → Stands g r → NothingDone g r (steps.Frame (frames.Attach attach))
+undone-attach g r attach s = record { stands = s; takes = ap (is_live_under r) (txn-attach attach) }
 
 -- ---- a discharge
 
@@ -274,11 +280,11 @@ control_answer r k payload m d reply o e a =
 quiet-rejected : (k : ℕ) (payload : List ℕ) (d : DrawnIds) (text : RejectText) → Quiet (entry_of (steps.Control k payload) d (replies.Rejected transaction_errors.UnknownId text))
 quiet-rejected k payload d text = record { declares = λ t. refl; discharges = λ t. refl; attaches = λ j. refl; closes = λ j. refl; attached = refl }
 
-pub went-absent : (h : Held) (r : List Entry) (k : ℕ) (payload : List ℕ) (discharge : Discharge) (told : Told) → message_of payload ≡ Some (messages.Discharge discharge) → is_in h.links.entries k ≡ true → Stands h r → is_held_on r k discharge.txn_id ≡ false → Went h told told r (steps.Control k payload) nothing_drawn (replies.Rejected transaction_errors.UnknownId texts.Absent)
-went-absent h r k payload discharge told m o s n =
+pub answered-absent : (h : Held) (r : List Entry) (k : ℕ) (payload : List ℕ) (discharge : Discharge) (told : Told) → message_of payload ≡ Some (messages.Discharge discharge) → is_in h.links.entries k ≡ true → Stands h r → is_held_on r k discharge.txn_id ≡ false → StepAnswered h told told r (steps.Control k payload) nothing_drawn (replies.Rejected transaction_errors.UnknownId texts.Absent)
+answered-absent h r k payload discharge told m o s n =
     let opened : is_open r k ≡ true = sym (s.links k) ∙ o in
     let a = control_answer r k payload (Some (messages.Discharge discharge)) [] (replies.Rejected transaction_errors.UnknownId texts.Absent) opened m (n, refl) in
-    went-steady h told told r (steps.Control k payload) nothing_drawn (replies.Rejected transaction_errors.UnknownId texts.Absent) a
+    answered-steady h told told r (steps.Control k payload) nothing_drawn (replies.Rejected transaction_errors.UnknownId texts.Absent) a
     (stands-quiet h r (entry_of (steps.Control k payload) nothing_drawn (replies.Rejected transaction_errors.UnknownId texts.Absent)) s a (quiet-rejected k payload nothing_drawn texts.Absent) (λ t. refl))
     (hands-no_commit r k payload (not_held_no_commit r k payload discharge opened m n)) refl refl (steady-same told)
 
@@ -286,27 +292,24 @@ went-absent h r k payload discharge told m o s n =
 pub not_kept : (h : Held) (r : List Entry) (k : ℕ) (u : TransactionId) → Stands h r → look h.live.entries u ≡ None → is_held_on r k u ≡ false
 not_kept h r k u s n = by_case (is_live r u) refl
   where
-    by_case : (b : Bool) → is_live r u ≡ b → (is_live r u && (home r u == k)) ≡ false
-    by_case true x = let e : kept_by r u ≡ Some (Some (home r u), frames_of r u) = ap (λ b. cond b (Some (Some (home r u), frames_of r u)) None) x in cc (e, sym (s.live u) ∙ n)
-    by_case false x = ap (λ b. b && (home r u == k)) x
+    by_case : (b : Bool) → is_live r u ≡ b → (is_live r u && is_link k (home r u)) ≡ false
+    by_case true x = let e : kept_by r u ≡ Some (home r u, frames_of r u) = ap (λ b. cond b (Some (home r u, frames_of r u)) None) x in cc (e, sym (s.live u) ∙ n)
+    by_case false x = ap (λ b. b && is_link k (home r u)) x
 
 -- what is kept has the record's home and frames
-pub kept-home : (h : Held) (r : List Entry) (u : TransactionId) (o : Option ℕ) (fs : List Frame) → Stands h r → look h.live.entries u ≡ Some (o, fs) → (is_live r u ≡ true) × (Some (home r u) ≡ o) × (frames_of r u ≡ fs)
+pub kept-home : (h : Held) (r : List Entry) (u : TransactionId) (o : Option ℕ) (fs : List Frame) → Stands h r → look h.live.entries u ≡ Some (o, fs) → (is_live r u ≡ true) × (home r u ≡ o) × (frames_of r u ≡ fs)
 kept-home h r u o fs s e = by_case (is_live r u) refl
   where
-    by_case : (b : Bool) → is_live r u ≡ b → (is_live r u ≡ true) × (Some (home r u) ≡ o) × (frames_of r u ≡ fs)
+    by_case : (b : Bool) → is_live r u ≡ b → (is_live r u ≡ true) × (home r u ≡ o) × (frames_of r u ≡ fs)
     by_case true x =
-        let both : Some (Some (home r u), frames_of r u) ≡ Some (o, fs) = sym (ap (λ b. cond b (Some (Some (home r u), frames_of r u)) None) x) ∙ sym (s.live u) ∙ e in
-        let pair : ◌≡◌ {A = Kept} (Some (home r u), frames_of r u) (o, fs) = cc both in
+        let both : Some (home r u, frames_of r u) ≡ Some (o, fs) = sym (ap (λ b. cond b (Some (home r u, frames_of r u)) None) x) ∙ sym (s.live u) ∙ e in
+        let pair : ◌≡◌ {A = Kept} (home r u, frames_of r u) (o, fs) = cc both in
         (x, ap (λ (p : Kept). p.0) pair, ap (λ (p : Kept). p.1) pair)
-    by_case false x = let none : None ≡ Some (o, fs) = sym (ap (λ b. cond b (Some (Some (home r u), frames_of r u)) None) x) ∙ sym (s.live u) ∙ e in cc none
+    by_case false x = let none : None ≡ Some (o, fs) = sym (ap (λ b. cond b (Some (home r u, frames_of r u)) None) x) ∙ sym (s.live u) ∙ e in cc none
 
 -- an id that is kept for a link has it as its home
-pub kept-on : (h : Held) (r : List Entry) (u : TransactionId) (k : ℕ) (fs : List Frame) → Stands h r → look h.live.entries u ≡ Some (Some k, fs) → (is_live r u ≡ true) × (home r u ≡ k) × (frames_of r u ≡ fs)
-kept-on h r u k fs s e =
-    let kept = kept-home h r u (Some k) fs s e in
-    let same : home r u ≡ k = cc kept.1 in
-    (kept.0, same, kept.2)
+pub kept-on : (h : Held) (r : List Entry) (u : TransactionId) (k : ℕ) (fs : List Frame) → Stands h r → look h.live.entries u ≡ Some (Some k, fs) → (is_live r u ≡ true) × (home r u ≡ Some k) × (frames_of r u ≡ fs)
+kept-on h r u k fs s e = kept-home h r u (Some k) fs s e
 
 discharges_says : (k : ℕ) (payload : List ℕ) (t : TransactionId) (discharge : Discharge) (echoes : List Answers) → message_of payload ≡ Some (messages.Discharge discharge) → step_discharges t (steps.Control k payload) (replies.Accepted echoes) ≡ same_id t discharge.txn_id
 discharges_says k payload t discharge echoes m = ap (message_discharges t) m
@@ -316,20 +319,20 @@ stands-accepted : (h g : Held) (r : List Entry) (k : ℕ) (payload : List ℕ) (
 stands-accepted h g r k payload discharge echoes m s a x =
     stands-discharged h g r (entry_of (steps.Control k payload) nothing_drawn (replies.Accepted echoes)) discharge.txn_id s a (λ t. refl) (λ t. discharges_says k payload t discharge echoes m) (λ t. refl) (λ j. refl) (λ j. refl) refl (x.tied s.tied) x.live x.links x.opened
 
-held_on : (r : List Entry) (k : ℕ) (u : TransactionId) → is_live r u ≡ true → home r u ≡ k → is_held_on r k u ≡ true
-held_on r k u l e = ap (λ b. b && (home r u == k)) l ∙ eq-eqb (home r u) k e
+held_on : (r : List Entry) (k : ℕ) (u : TransactionId) → is_live r u ≡ true → home r u ≡ Some k → is_held_on r k u ≡ true
+held_on r k u l e = ap (λ b. b && is_link k (home r u)) l ∙ ap (is_link k) e ∙ eq-eqb k k refl
 
 accepted_answer : (r : List Entry) (k : ℕ) (payload : List ℕ) (discharge : Discharge) (echoes : List Answers) (b : Bool) → is_open r k ≡ true → message_of payload ≡ Some (messages.Discharge discharge) → is_held_on r k discharge.txn_id ≡ true → is_rollback discharge.fail ≡ b → Echoed r discharge.txn_id b echoes → Answer r (steps.Control k payload) [] (replies.Accepted echoes)
 accepted_answer r k payload discharge echoes b o m l rb x =
     let P : Bool → Type 0 = λ c. Echoed r discharge.txn_id c echoes in
     control_answer r k payload (Some (messages.Discharge discharge)) [] (replies.Accepted echoes) o m (l, refl, subst P (sym rb) x)
 
-pub went-rollback : (h g : Held) (r : List Entry) (k : ℕ) (payload : List ℕ) (discharge : Discharge) (fs : List Frame) (told : Told) → message_of payload ≡ Some (messages.Discharge discharge) → is_rollback discharge.fail ≡ true → is_in h.links.entries k ≡ true → Stands h r → look h.live.entries discharge.txn_id ≡ Some (Some k, fs) → Ended h g discharge.txn_id → Went g told told r (steps.Control k payload) nothing_drawn (replies.Accepted [])
-went-rollback h g r k payload discharge fs told m rb o s at x =
+pub answered-rollback : (h g : Held) (r : List Entry) (k : ℕ) (payload : List ℕ) (discharge : Discharge) (fs : List Frame) (told : Told) → message_of payload ≡ Some (messages.Discharge discharge) → is_rollback discharge.fail ≡ true → is_in h.links.entries k ≡ true → Stands h r → look h.live.entries discharge.txn_id ≡ Some (Some k, fs) → Ended h g discharge.txn_id → StepAnswered g told told r (steps.Control k payload) nothing_drawn (replies.Accepted [])
+answered-rollback h g r k payload discharge fs told m rb o s at x =
     let opened : is_open r k ≡ true = sym (s.links k) ∙ o in
     let kept = kept-on h r discharge.txn_id k fs s at in
     let a = accepted_answer r k payload discharge [] true opened m (held_on r k discharge.txn_id kept.0 kept.1) rb refl in
-    went-steady g told told r (steps.Control k payload) nothing_drawn (replies.Accepted []) a
+    answered-steady g told told r (steps.Control k payload) nothing_drawn (replies.Accepted []) a
     (stands-accepted h g r k payload discharge [] m s a x)
     (hands-no_commit r k payload (commits-rollback r k payload discharge opened m rb)) refl refl (steady-same told)
 
@@ -339,11 +342,11 @@ commit_hands h r k payload discharge fs m rb o s at =
     let kept = kept-on h r discharge.txn_id k fs s at in
     hands-commit r k payload discharge.txn_id (commits-discharge r k payload discharge opened m rb (held_on r k discharge.txn_id kept.0 kept.1)) ∙ ap (map stripped) kept.2
 
-pub went-commit : (h g : Held) (r : List Entry) (k : ℕ) (payload : List ℕ) (discharge : Discharge) (fs : List Frame) (echoes : List Answers) (old new : Told) → message_of payload ≡ Some (messages.Discharge discharge) → is_rollback discharge.fail ≡ false → is_in h.links.entries k ≡ true → Stands h r → look h.live.entries discharge.txn_id ≡ Some (Some k, fs) → Ended h g discharge.txn_id → HandedSome old new fs echoes → Went g old new r (steps.Control k payload) nothing_drawn (replies.Accepted echoes)
-went-commit h g r k payload discharge fs echoes old new m rb o s at x t =
+pub answered-commit : (h g : Held) (r : List Entry) (k : ℕ) (payload : List ℕ) (discharge : Discharge) (fs : List Frame) (echoes : List Answers) (old new : Told) → message_of payload ≡ Some (messages.Discharge discharge) → is_rollback discharge.fail ≡ false → is_in h.links.entries k ≡ true → Stands h r → look h.live.entries discharge.txn_id ≡ Some (Some k, fs) → Ended h g discharge.txn_id → HandedSome old new fs echoes → StepAnswered g old new r (steps.Control k payload) nothing_drawn (replies.Accepted echoes)
+answered-commit h g r k payload discharge fs echoes old new m rb o s at x t =
     let opened : is_open r k ≡ true = sym (s.links k) ∙ o in
     let kept = kept-on h r discharge.txn_id k fs s at in
-    let fits : WindowsFit (frames_of r discharge.txn_id) echoes = subst (λ (x : List Frame). WindowsFit x echoes) (sym kept.2) t.fits in
+    let fits : AllWindowsFit (frames_of r discharge.txn_id) echoes = subst (λ (x : List Frame). AllWindowsFit x echoes) (sym kept.2) t.fits in
     let a = accepted_answer r k payload discharge echoes false opened m (held_on r k discharge.txn_id kept.0 kept.1) rb fits in
     record {
       answer = a;
@@ -372,8 +375,8 @@ refused-commit h r k payload discharge fs own handed old new m rb o s at t =
       );
     }
 
-pub stayed-commit : (h : Held) (r : List Entry) (k : ℕ) (payload : List ℕ) (discharge : Discharge) (fs : List Frame) → message_of payload ≡ Some (messages.Discharge discharge) → is_rollback discharge.fail ≡ false → is_in h.links.entries k ≡ true → Stands h r → look h.live.entries discharge.txn_id ≡ Some (Some k, fs) → Stayed h r (steps.Control k payload)
-stayed-commit h r k payload discharge fs m rb o s at =
+pub undone-commit : (h : Held) (r : List Entry) (k : ℕ) (payload : List ℕ) (discharge : Discharge) (fs : List Frame) → message_of payload ≡ Some (messages.Discharge discharge) → is_rollback discharge.fail ≡ false → is_in h.links.entries k ≡ true → Stands h r → look h.live.entries discharge.txn_id ≡ Some (Some k, fs) → NothingDone h r (steps.Control k payload)
+undone-commit h r k payload discharge fs m rb o s at =
     let kept = kept-on h r discharge.txn_id k fs s at in
     record {
       stands = s;
@@ -385,7 +388,7 @@ stayed-commit h r k payload discharge fs m rb o s at =
 -- a commit that failed, as the answer of a step: it wanted memory, or was refused below
 pub fault_goes : (h g : Held) (old new : Told) (r : List Entry) (k : ℕ) (payload : List ℕ) (discharge : Discharge) (fs : List Frame) (U : Type 0) (fault : CommitFault) → message_of payload ≡ Some (messages.Discharge discharge) → is_rollback discharge.fail ≡ false → is_in h.links.entries k ≡ true → Stands h r → look h.live.entries discharge.txn_id ≡ Some (Some k, fs) → CommittedWith h g old new discharge.txn_id fs U (Err fault) → StepGave g old new r (steps.Control k payload) (Err (step_error_of fault))
 fault_goes h g old new r k payload discharge fs U commit_faults.NoMemory m rb o s at c =
-    let stayed = stayed-commit h r k payload discharge fs m rb o s at in
+    let stayed = undone-commit h r k payload discharge fs m rb o s at in
     record { stands = stands-moved h g r s c.0; takes = stayed.takes }
 fault_goes h g old new r k payload discharge fs U (commit_faults.Refused error handed) m rb o s at c =
     let x = c.1 in
@@ -393,19 +396,19 @@ fault_goes h g old new r k payload discharge fs U (commit_faults.Refused error h
     (refused-commit h r k payload discharge fs x.0 handed old new m rb o s at x.2.handed)
 
 -- what isn't kept for the link isn't held on it
-pub held_elsewhere : (h : Held) (r : List Entry) (k : ℕ) (u : TransactionId) (o : Option ℕ) (fs : List Frame) → Stands h r → look h.live.entries u ≡ Some (o, fs) → is_on k o ≡ false → is_held_on r k u ≡ false
+pub held_elsewhere : (h : Held) (r : List Entry) (k : ℕ) (u : TransactionId) (o : Option ℕ) (fs : List Frame) → Stands h r → look h.live.entries u ≡ Some (o, fs) → is_link k o ≡ false → is_held_on r k u ≡ false
 held_elsewhere h r k u o fs s e n =
     let kept = kept-home h r u o fs s e in
-    let away : (home r u == k) ≡ false = ap (is_on k) kept.1 ∙ n in
+    let away : is_link k (home r u) ≡ false = ap (is_link k) kept.1 ∙ n in
     ap (λ b. is_live r u && b) away ∙ and_right (is_live r u) false refl
 
 -- a link that is on what is kept is the one that is kept
-on_some : (o : Option ℕ) (k : ℕ) → is_on k o ≡ true → o ≡ Some k
+on_some : (o : Option ℕ) (k : ℕ) → is_link k o ≡ true → o ≡ Some k
 on_some None k e = cc e
 on_some (Some j) k e = ap (λ n. Some n) (eqb-true j k e)
 
 -- what is kept for the link, by its test
-pub held_here : (h : Held) (u : TransactionId) (o : Option ℕ) (fs : List Frame) (k : ℕ) → look h.live.entries u ≡ Some (o, fs) → is_on k o ≡ true → look h.live.entries u ≡ Some (Some k, fs)
+pub held_here : (h : Held) (u : TransactionId) (o : Option ℕ) (fs : List Frame) (k : ℕ) → look h.live.entries u ≡ Some (o, fs) → is_link k o ≡ true → look h.live.entries u ≡ Some (Some k, fs)
 held_here h u o fs k a e = a ∙ ap (λ x. Some (x, fs)) (on_some o k e)
 
 -- ---- links that end or close
@@ -413,34 +416,34 @@ held_here h u o fs k a e = a ∙ ap (λ x. Some (x, fs)) (on_some o k e)
 link_end_answer : (r : List Entry) (k : ℕ) (b : Bool) (reply : Reply) → is_open r k ≡ b → AnswerLinkEnd b reply → Answer r (steps.LinkEnd k) [] reply
 link_end_answer r k b reply o a = let P : Bool → Type 0 = λ x. AnswerLinkEnd x reply in (refl, subst P (sym o) a)
 
-pub went-no_link_end : (h : Held) (r : List Entry) (k : ℕ) (told : Told) → is_in h.links.entries k ≡ false → Stands h r → Went h told told r (steps.LinkEnd k) nothing_drawn replies.NoLink
-went-no_link_end h r k told o s =
+pub answered-no_link_end : (h : Held) (r : List Entry) (k : ℕ) (told : Told) → is_in h.links.entries k ≡ false → Stands h r → StepAnswered h told told r (steps.LinkEnd k) nothing_drawn replies.NoLink
+answered-no_link_end h r k told o s =
     let a = link_end_answer r k false replies.NoLink (sym (s.links k) ∙ o) tt in
-    went-steady h told told r (steps.LinkEnd k) nothing_drawn replies.NoLink a
+    answered-steady h told told r (steps.LinkEnd k) nothing_drawn replies.NoLink a
     (stands-quiet h r (entry_of (steps.LinkEnd k) nothing_drawn replies.NoLink) s a (record { declares = λ t. refl; discharges = λ t. refl; attaches = λ j. refl; closes = λ j. refl; attached = refl }) (λ t. refl))
     refl refl refl (steady-same told)
 
-pub went-link_end : (h g : Held) (r : List Entry) (k : ℕ) (told : Told) → is_in h.links.entries k ≡ true → Stands h r → Tied g → ((t : TransactionId) → look g.live.entries t ≡ unless_on k (look h.live.entries t)) → ((j : ℕ) → is_in g.links.entries j ≡ cond (k == j) false (is_in h.links.entries j)) → g.opened ≡ h.opened → Went g told told r (steps.LinkEnd k) nothing_drawn replies.LinkEnded
-went-link_end h g r k told o s tg lg kg og =
+pub answered-link_end : (h g : Held) (r : List Entry) (k : ℕ) (told : Told) → is_in h.links.entries k ≡ true → Stands h r → Tied g → ((t : TransactionId) → look g.live.entries t ≡ unless_on k (look h.live.entries t)) → ((j : ℕ) → is_in g.links.entries j ≡ cond (k == j) false (is_in h.links.entries j)) → g.opened ≡ h.opened → StepAnswered g told told r (steps.LinkEnd k) nothing_drawn replies.LinkEnded
+answered-link_end h g r k told o s tg lg kg og =
     let a = link_end_answer r k true replies.LinkEnded (sym (s.links k) ∙ o) tt in
-    went-steady g told told r (steps.LinkEnd k) nothing_drawn replies.LinkEnded a
+    answered-steady g told told r (steps.LinkEnd k) nothing_drawn replies.LinkEnded a
     (stands-closed h g r (entry_of (steps.LinkEnd k) nothing_drawn replies.LinkEnded) k s a (λ t. refl) (λ t. refl) (λ t. refl) (λ j. refl) (λ j. refl) refl tg lg kg og)
     refl refl refl (steady-same told)
 
-pub went-close : (h g : Held) (r : List Entry) (k : ℕ) (payload : List ℕ) (told : Told) → message_of payload ≡ None → is_in h.links.entries k ≡ true → Stands h r → Tied g → ((t : TransactionId) → look g.live.entries t ≡ unless_on k (look h.live.entries t)) → ((j : ℕ) → is_in g.links.entries j ≡ cond (k == j) false (is_in h.links.entries j)) → g.opened ≡ h.opened → Went g told told r (steps.Control k payload) nothing_drawn (replies.LinkClosed amqp_errors.NotAllowed)
-went-close h g r k payload told m o s tg lg kg og =
+pub answered-close : (h g : Held) (r : List Entry) (k : ℕ) (payload : List ℕ) (told : Told) → message_of payload ≡ None → is_in h.links.entries k ≡ true → Stands h r → Tied g → ((t : TransactionId) → look g.live.entries t ≡ unless_on k (look h.live.entries t)) → ((j : ℕ) → is_in g.links.entries j ≡ cond (k == j) false (is_in h.links.entries j)) → g.opened ≡ h.opened → StepAnswered g told told r (steps.Control k payload) nothing_drawn (replies.LinkClosed amqp_errors.NotAllowed)
+answered-close h g r k payload told m o s tg lg kg og =
     let opened : is_open r k ≡ true = sym (s.links k) ∙ o in
     let a = control_answer r k payload None [] (replies.LinkClosed amqp_errors.NotAllowed) opened m refl in
-    went-steady g told told r (steps.Control k payload) nothing_drawn (replies.LinkClosed amqp_errors.NotAllowed) a
+    answered-steady g told told r (steps.Control k payload) nothing_drawn (replies.LinkClosed amqp_errors.NotAllowed) a
     (stands-closed h g r (entry_of (steps.Control k payload) nothing_drawn (replies.LinkClosed amqp_errors.NotAllowed)) k s a (λ t. refl) (λ t. refl) (λ t. refl) (λ j. refl) (λ j. refl) refl tg lg kg og)
     (hands-no_commit r k payload (commits-at r k payload true None opened m)) refl refl (steady-same told)
 
-pub went-no_link : (h : Held) (r : List Entry) (k : ℕ) (payload : List ℕ) (told : Told) → is_in h.links.entries k ≡ false → Stands h r → Went h told told r (steps.Control k payload) nothing_drawn replies.NoLink
-went-no_link h r k payload told o s =
+pub answered-no_link : (h : Held) (r : List Entry) (k : ℕ) (payload : List ℕ) (told : Told) → is_in h.links.entries k ≡ false → Stands h r → StepAnswered h told told r (steps.Control k payload) nothing_drawn replies.NoLink
+answered-no_link h r k payload told o s =
     let shut : is_open r k ≡ false = sym (s.links k) ∙ o in
     let P : Bool → Type 0 = λ b. AnswerControl r k b (message_of payload) [] replies.NoLink in
     let a : Answer r (steps.Control k payload) [] replies.NoLink = subst P (sym shut) refl in
-    went-steady h told told r (steps.Control k payload) nothing_drawn replies.NoLink a
+    answered-steady h told told r (steps.Control k payload) nothing_drawn replies.NoLink a
     (stands-quiet h r (entry_of (steps.Control k payload) nothing_drawn replies.NoLink) s a (record { declares = λ t. refl; discharges = λ t. refl; attaches = λ j. refl; closes = λ j. refl; attached = refl }) (λ t. refl))
     (hands-no_commit r k payload (commits-at r k payload false (message_of payload) shut refl)) refl refl (steady-same told)
 
@@ -452,11 +455,11 @@ declare_of global = Some (messages.Declare (record { global_id = global }))
 declare_hands_nothing : (r : List Entry) (k : ℕ) (payload : List ℕ) (global : Option TransactionId) → is_open r k ≡ true → message_of payload ≡ declare_of global → hands r (steps.Control k payload) ≡ []
 declare_hands_nothing r k payload global o m = hands-no_commit r k payload (commits-at r k payload true (declare_of global) o m)
 
-pub went-global : (h : Held) (r : List Entry) (k : ℕ) (payload : List ℕ) (global : TransactionId) (told : Told) → message_of payload ≡ declare_of (Some global) → is_in h.links.entries k ≡ true → Stands h r → Went h told told r (steps.Control k payload) nothing_drawn (replies.Rejected transaction_errors.UnknownId texts.GlobalId)
-went-global h r k payload global told m o s =
+pub answered-global : (h : Held) (r : List Entry) (k : ℕ) (payload : List ℕ) (global : TransactionId) (told : Told) → message_of payload ≡ declare_of (Some global) → is_in h.links.entries k ≡ true → Stands h r → StepAnswered h told told r (steps.Control k payload) nothing_drawn (replies.Rejected transaction_errors.UnknownId texts.GlobalId)
+answered-global h r k payload global told m o s =
     let opened : is_open r k ≡ true = sym (s.links k) ∙ o in
     let a = control_answer r k payload (declare_of (Some global)) [] (replies.Rejected transaction_errors.UnknownId texts.GlobalId) opened m refl in
-    went-steady h told told r (steps.Control k payload) nothing_drawn (replies.Rejected transaction_errors.UnknownId texts.GlobalId) a
+    answered-steady h told told r (steps.Control k payload) nothing_drawn (replies.Rejected transaction_errors.UnknownId texts.GlobalId) a
     (stands-quiet h r (entry_of (steps.Control k payload) nothing_drawn (replies.Rejected transaction_errors.UnknownId texts.GlobalId)) s a (quiet-rejected k payload nothing_drawn texts.GlobalId) (λ t. refl))
     (declare_hands_nothing r k payload (Some global) opened m) refl refl (steady-same told)
 
@@ -464,28 +467,28 @@ all_same : (p q : TransactionId → Bool) (xs : List TransactionId) → ((x : Tr
 all_same p q [] h = refl
 all_same p q (x ∷ xs) h = ap (λ b. b && list_all p xs) (h x) ∙ ap (λ b. q x && b) (all_same p q xs h)
 
-pub went-declared : (h g : Held) (r : List Entry) (k : ℕ) (payload : List ℕ) (d : DrawnIds) (t : TransactionId) (told : Told) → message_of payload ≡ declare_of None → is_in h.links.entries k ≡ true → Stands h r → DrewUnused h.live.entries d.ids t → Tied g → ((x : TransactionId) → look g.live.entries x ≡ cond (same_id x t) (Some (Some k, [])) (look h.live.entries x)) → ((j : ℕ) → is_in g.links.entries j ≡ is_in h.links.entries j) → g.opened ≡ h.opened → Went g told told r (steps.Control k payload) d (replies.Declared t)
-went-declared h g r k payload d t told m o s u tg lg kg og =
+pub answered-declared : (h g : Held) (r : List Entry) (k : ℕ) (payload : List ℕ) (d : DrawnIds) (t : TransactionId) (told : Told) → message_of payload ≡ declare_of None → is_in h.links.entries k ≡ true → Stands h r → DrewUnused h.live.entries d.ids t → Tied g → ((x : TransactionId) → look g.live.entries x ≡ cond (same_id x t) (Some (Some k, [])) (look h.live.entries x)) → ((j : ℕ) → is_in g.links.entries j ≡ is_in h.links.entries j) → g.opened ≡ h.opened → StepAnswered g told told r (steps.Control k payload) d (replies.Declared t)
+answered-declared h g r k payload d t told m o s u tg lg kg og =
     let opened : is_open r k ≡ true = sym (s.links k) ∙ o in
     let dead : is_live r t ≡ false = sym (kept_live h r t s) ∙ ap is_some u.unused in
     let before = u.parts.0 in
     let draws : Draws r d.ids t = (before, u.parts.1, u.count, sym (all_same (is_kept h.live.entries) (is_live r) before (λ x. kept_live h r x s)) ∙ u.parts.2, dead) in
     let a = control_answer r k payload (declare_of None) d.ids (replies.Declared t) opened m draws in
-    went-steady g told told r (steps.Control k payload) d (replies.Declared t) a
+    answered-steady g told told r (steps.Control k payload) d (replies.Declared t) a
     (stands-declared h g r (entry_of (steps.Control k payload) d (replies.Declared t)) t s a dead opened (λ x. refl) (λ x. refl) (λ x. refl) (λ j. refl) (λ j. refl) refl
     tg lg kg og)
     (declare_hands_nothing r k payload None opened m) refl refl (steady-same told)
 
-pub went-repeat : (h g : Held) (r : List Entry) (k : ℕ) (payload : List ℕ) (d : DrawnIds) (told : Told) → message_of payload ≡ declare_of None → is_in h.links.entries k ≡ true → Stands h r → DrewLive h.live.entries d.ids → SameHeld h g → Went g told told r (steps.Control k payload) d (replies.Rejected transaction_errors.UnknownId texts.IdsRepeat)
-went-repeat h g r k payload d told m o s u same =
+pub answered-repeat : (h g : Held) (r : List Entry) (k : ℕ) (payload : List ℕ) (d : DrawnIds) (told : Told) → message_of payload ≡ declare_of None → is_in h.links.entries k ≡ true → Stands h r → DrewLive h.live.entries d.ids → SameHeld h g → StepAnswered g told told r (steps.Control k payload) d (replies.Rejected transaction_errors.UnknownId texts.IdsRepeat)
+answered-repeat h g r k payload d told m o s u same =
     let opened : is_open r k ≡ true = sym (s.links k) ∙ o in
     let a = control_answer r k payload (declare_of None) d.ids (replies.Rejected transaction_errors.UnknownId texts.IdsRepeat) opened m (u.count, sym (all_same (is_kept h.live.entries) (is_live r) d.ids (λ x. kept_live h r x s)) ∙ u.all) in
-    went-steady g told told r (steps.Control k payload) d (replies.Rejected transaction_errors.UnknownId texts.IdsRepeat) a
+    answered-steady g told told r (steps.Control k payload) d (replies.Rejected transaction_errors.UnknownId texts.IdsRepeat) a
     (stands-quiet g r (entry_of (steps.Control k payload) d (replies.Rejected transaction_errors.UnknownId texts.IdsRepeat)) (stands-moved h g r s same) a (quiet-rejected k payload d texts.IdsRepeat) (λ t. refl))
     (declare_hands_nothing r k payload None opened m) refl refl (steady-same told)
 
-pub stayed-declare : (h g : Held) (r : List Entry) (k : ℕ) (payload : List ℕ) → message_of payload ≡ declare_of None → is_in h.links.entries k ≡ true → Stands h r → Stands g r → Stayed g r (steps.Control k payload)
-stayed-declare h g r k payload m o s sg = record {
+pub undone-declare : (h g : Held) (r : List Entry) (k : ℕ) (payload : List ℕ) → message_of payload ≡ declare_of None → is_in h.links.entries k ≡ true → Stands h r → Stands g r → NothingDone g r (steps.Control k payload)
+undone-declare h g r k payload m o s sg = record {
   stands = sg;
   takes = ap (λ b. b && message_takes_memory r k (message_of payload)) (sym (s.links k) ∙ o) ∙ ap (message_takes_memory r k) m;
 }

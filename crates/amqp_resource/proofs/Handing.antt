@@ -6,24 +6,17 @@ use Rattle.std.proofs.lemmas.List.{length-append, length-map, map-append, take-m
 use Rattle.amqp_txn_types.specs.declared.performatives.Frame.{Frame}
 use Rattle.amqp_txn_types.specs.declared.performatives.Frame.TheVariants as frames
 use Rattle.amqp_txn_types.specs.Frames.{is_transfer, stripped}
-use Rattle.amqp_below.specs.declared.answers.Answers.{Answers}
-use Rattle.amqp_below.specs.declared.inner_error.SessionInnerError.{SessionInnerError}
-use Rattle.amqp_below.specs.Faults.{is_no_memory}
-use Rattle.amqp_below.specs.declared.refusal.Refusal.{Refusal}
-use Rattle.amqp_below.specs.Told.{Told, grown, refused_after}
-use Rattle.amqp_record.specs.Answers.{WindowFits, WindowsFit}
-use Rattle.amqp_record.specs.Opened.{refusal_of}
-use Rattle.amqp_record.proofs.Whole.{zip-append, length-WindowsFit}
-use Rattle.amqp_resource.specs.Taking.{TookFrames, taken_frames}
+use Rattle.amqp_layer.specs.declared.answers.Answers.{Answers}
+use Rattle.amqp_layer.specs.declared.inner_error.SessionInnerError.{SessionInnerError}
+use Rattle.amqp_layer.specs.Faults.{is_no_memory}
+use Rattle.amqp_layer.specs.declared.refusal.Refusal.{Refusal}
+use Rattle.amqp_layer.specs.Told.{Told, refused_after, refusal_of}
+use Rattle.amqp_txn_types.specs.Growing.{grown}
+use Rattle.amqp_txn_types.proofs.Growing.{grown-grown, grown-nil}
+use Rattle.amqp_layer.specs.Windows.{WindowFits, AllWindowsFit}
+use Rattle.amqp_record.proofs.Whole.{zip-append, length-AllWindowsFit}
+use Rattle.amqp_layer.specs.Taking.{TookFrames, taken_frames}
 use Rattle.amqp_resource.specs.Committing.{HandedSome, HandedPart, RefusedAt, given_of}
-
-pub grown-grown : {A : Type 0} (o : Option (List A)) (xs ys : List A) → grown (grown o xs) ys ≡ grown o (xs ++ ys)
-grown-grown None xs ys = refl
-grown-grown (Some zs) xs ys = ap Some (append_assoc zs xs ys)
-
-pub grown-nil : {A : Type 0} (o : Option (List A)) → grown o [] ≡ o
-grown-nil None = refl
-grown-nil (Some zs) = ap Some (append-nil zs)
 
 -- an Err of a call below adds its refusal
 pub refused_after-err : (before : Option (List Refusal)) (frame : Frame) (error : SessionInnerError) → refused_after {T = List Frame} before frame (Err error) ≡ grown before (refusal_of frame error)
@@ -68,14 +61,14 @@ transfer_stripped (frames.Transfer t p) = refl
 transfer_stripped (frames.Disposition d) = refl
 transfer_stripped (frames.Detach d) = refl
 
-pub WindowsFit-snoc : (handed : List Frame) (answers : List Answers) (frame : Frame) (a : Answers) → WindowsFit handed answers → WindowFits frame a → WindowsFit (handed ++ frame ∷ []) (answers ++ a ∷ [])
+pub WindowsFit-snoc : (handed : List Frame) (answers : List Answers) (frame : Frame) (a : Answers) → AllWindowsFit handed answers → WindowFits frame a → AllWindowsFit (handed ++ frame ∷ []) (answers ++ a ∷ [])
 WindowsFit-snoc [] [] frame a w f = (f, tt)
 WindowsFit-snoc [] (b ∷ answers) frame a w f = absurd w
 WindowsFit-snoc (g ∷ handed) [] frame a w f = absurd w
 WindowsFit-snoc (g ∷ handed) (b ∷ answers) frame a w f = (w.0, WindowsFit-snoc handed answers frame a w.1 f)
 
-lengths : (kept : List Frame) (echoes : List Answers) → WindowsFit kept echoes → length (map stripped kept) ≡ length (given_of echoes)
-lengths kept echoes w = length-map kept stripped ∙ sym (length-WindowsFit kept echoes w) ∙ sym (length-map echoes (λ (a : Answers). a.given))
+lengths : (kept : List Frame) (echoes : List Answers) → AllWindowsFit kept echoes → length (map stripped kept) ≡ length (given_of echoes)
+lengths kept echoes w = length-map kept stripped ∙ sym (length-AllWindowsFit kept echoes w) ∙ sym (length-map echoes (λ (a : Answers). a.given))
 
 -- one more
 pub handed-more : (old mid new : Told) (all rest : List Frame) (x : Frame) (echoes : List Answers) (a : Answers) → HandedSome old mid (take (length echoes) all) echoes → drop (length echoes) all ≡ x ∷ rest → new.taken ≡ grown mid.taken ((stripped x, a.given) ∷ []) → new.opened ≡ mid.opened → new.refused ≡ mid.refused → WindowFits (stripped x) a → HandedSome old new (take (length echoes + 1) all) (echoes ++ a ∷ [])

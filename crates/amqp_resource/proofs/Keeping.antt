@@ -13,21 +13,21 @@ use Rattle.amqp_txn_types.specs.declared.delivery.SessionStopReason.{SessionStop
 use Rattle.amqp_txn_types.specs.declared.performatives.Attach.{Attach}
 use Rattle.amqp_txn_types.specs.declared.performatives.Frame.{Frame}
 use Rattle.amqp_txn_types.specs.declared.performatives.Frame.TheVariants as frames
-use Rattle.amqp_txn_types.specs.Frames.{attaches_coordinator, plain, stripped, txn}
+use Rattle.amqp_txn_types.specs.Frames.{attaches_coordinator, is_plain_frame, stripped, txn}
 use Rattle.amqp_txn_codec.specs.declared.message.Discharge.{Discharge}
 use Rattle.amqp_txn_codec.specs.declared.message.ControlMessageBody.{ControlMessageBody}
 use Rattle.amqp_txn_codec.specs.declared.message.ControlMessageBody.TheVariants as messages
 use Rattle.amqp_txn_codec.specs.Reading.{message_of}
-use Rattle.amqp_below.specs.declared.answers.Answers.{Answers}
-use Rattle.amqp_below.specs.declared.inner_error.SessionInnerError.{SessionInnerError}
-use Rattle.amqp_below.specs.declared.inner_error.SessionInnerError.TheVariants as faults
-use Rattle.amqp_below.specs.declared.transacting.AllocTxnIdError.{AllocTxnIdError}
-use Rattle.amqp_below.specs.declared.transacting.AllocTxnIdError.TheVariants as allocations
-use Rattle.amqp_below.specs.declared.transacting.CommitFault.{CommitFault}
-use Rattle.amqp_below.specs.declared.transacting.CommitFault.TheVariants as commit_faults
-use Rattle.amqp_below.specs.Drawn.{DrawnIds}
-use Rattle.amqp_below.specs.Told.{Opens, Steady, Told}
-use Rattle.amqp_record.specs.Entries.{same_id}
+use Rattle.amqp_layer.specs.declared.answers.Answers.{Answers}
+use Rattle.amqp_layer.specs.declared.inner_error.SessionInnerError.{SessionInnerError}
+use Rattle.amqp_layer.specs.declared.inner_error.SessionInnerError.TheVariants as faults
+use Rattle.amqp_sessions.specs.declared.transacting.AllocTxnIdError.{AllocTxnIdError}
+use Rattle.amqp_sessions.specs.declared.transacting.AllocTxnIdError.TheVariants as allocations
+use Rattle.amqp_sessions.specs.declared.transacting.CommitFault.{CommitFault}
+use Rattle.amqp_sessions.specs.declared.transacting.CommitFault.TheVariants as commit_faults
+use Rattle.amqp_ids.specs.Drawn.{DrawnIds}
+use Rattle.amqp_layer.specs.Told.{Opens, Steady, Told, refusal_of}
+use Rattle.amqp_txn_types.specs.Ids.{same_id}
 use Rattle.amqp_record.specs.declared.step.Step.{Step}
 use Rattle.amqp_record.specs.declared.step.Step.TheVariants as steps
 use Rattle.amqp_record.specs.declared.reply.Reply.{Reply}
@@ -37,20 +37,20 @@ use Rattle.amqp_record.specs.declared.stop.StepError.{StepError}
 use Rattle.amqp_record.specs.declared.stop.StepError.TheVariants as errors
 use Rattle.amqp_record.specs.declared.entry.Entry.{Entry}
 use Rattle.amqp_record.specs.Links.{is_open}
-use Rattle.amqp_record.specs.Answers.{answered_under}
-use Rattle.amqp_record.specs.Opened.{refusal_of}
-use Rattle.amqp_record.specs.Hands.{is_rollback}
+use Rattle.amqp_txn_types.specs.Presumptive.{answered_under}
+use Rattle.amqp_txn_codec.specs.Discharges.{is_rollback}
 use Rattle.amqp_record.proofs.Whole.{open_below, plain_none}
 use Rattle.amqp_resource.specs.declared.held.Held.{Held}
-use Rattle.amqp_resource.specs.declared.taking.TakeError.{TakeError}
+use Rattle.amqp_layer.specs.declared.taking.TakeError.{TakeError}
 use Rattle.amqp_resource.specs.Held.{SameHeld, Stands, Tied, ids_on, is_among, is_in, is_kept_on, look, unless_on, with_frame}
 use Rattle.amqp_resource.specs.Draws.{DrewLive, DrewUnused, is_kept}
-use Rattle.amqp_resource.specs.Taking.{TakesFrame, TookFrames, taken_frames}
+use Rattle.amqp_layer.specs.Taking.{TakesFrame, TookFrames, taken_frames}
 use Rattle.amqp_resource.specs.Transacting.{AllocatedIn, CommittedIn, CommittedWith, Ended, RolledBackIn, frames_kept, step_error_of}
 use Rattle.amqp_resource.specs.Steps.{EndGave, is_unknown, AddsRefusal, IsPost, IsUnder, fault_of, nothing_drawn}
-use Rattle.amqp_resource.specs.Keeping.{ControlKeeps, DischargeHands, EndKeeps, Fits, FrameCalls, FrameKeeps, IsUnkept, Keeps, PlainKeeps, Rejects, Rests, SameLinks, Stopped, TookPart, UnderUnkept, is_kept_under, message_hands, message_wants, step_hands, step_wants}
+use Rattle.amqp_resource.specs.Keeping.{ControlKeeps, DischargeHands, EndKeeps, Fits, FrameCalls, FrameKeeps, IsUnkept, Keeps, PlainKeeps, Rejects, NothingChanges, SameLinks, StepRefused, TookPart, UnderUnkept, is_kept_under, message_hands, message_wants, step_hands, step_wants}
 use Rattle.amqp_resource.proofs.Kept.{in_updated, tied_added, tied_opened, tied_same}
-use Rattle.amqp_resource.proofs.Handing.{grown-nil, refused_after-err}
+use Rattle.amqp_resource.proofs.Handing.{refused_after-err}
+use Rattle.amqp_txn_types.proofs.Growing.{grown-nil}
 use Rattle.amqp_resource.proofs.Going.{coord-attach, fault_known, part_adds, plain_no_coordinator, post_reply, tied-post, txn-attach, when_known}
 
 -- ---- what goes on to fit together
@@ -130,24 +130,24 @@ same-links h = record { links = λ j. refl; opened = refl }
 moved-links : (h g : Held) → SameHeld h g → SameLinks h g
 moved-links h g same = record { links = λ j. ap is_some (same.links j); opened = same.opened }
 
-rests : (h : Held) (told : Told) → Rests h h told told
-rests h told = record { live = λ t. refl; links = same-links h; below = refl }
+unchanged : (h : Held) (told : Told) → NothingChanges h h told told
+unchanged h told = record { live = λ t. refl; links = same-links h; below = refl }
 
-rests-moved : (h g : Held) (told : Told) → SameHeld h g → Rests h g told told
-rests-moved h g told same = record { live = same.live; links = moved-links h g same; below = refl }
+unchanged-moved : (h g : Held) (told : Told) → SameHeld h g → NothingChanges h g told told
+unchanged-moved h g told same = record { live = same.live; links = moved-links h g same; below = refl }
 
 -- ---- frames
 
 -- a frame that is plain is under no id and attaches to no coordinator
-plain_answers : (h g : Held) (told now : Told) (frame : Frame) (reply : Reply) → plain frame ≡ true → PlainKeeps h g told now frame false reply → FrameKeeps h g told now frame (txn frame) reply
+plain_answers : (h g : Held) (told now : Told) (frame : Frame) (reply : Reply) → is_plain_frame frame ≡ true → PlainKeeps h g told now frame false reply → FrameKeeps h g told now frame (txn frame) reply
 plain_answers h g told now frame reply p x =
     subst (λ (o : Option TransactionId). FrameKeeps h g told now frame o reply) (sym (plain_none frame p))
     (subst (λ (b : Bool). PlainKeeps h g told now frame b reply) (sym (plain_no_coordinator frame (txn frame) p)) x)
 
-plain_kept : (h : Held) (frame : Frame) → plain frame ≡ true → IsUnkept h.live.entries (txn frame) → ⊥
+plain_kept : (h : Held) (frame : Frame) → is_plain_frame frame ≡ true → IsUnkept h.live.entries (txn frame) → ⊥
 plain_kept h frame p u = subst (IsUnkept h.live.entries) (plain_none frame p) u
 
-pub keeps-plain : (h : Held) (told now : Told) (frame : Frame) (d : DrawnIds) (a : Answers) → d ≡ nothing_drawn → plain frame ≡ true → TakesFrame told now frame (Ok a) → Fits h → Keeps h h told now (steps.Frame frame) (Ok (d, replies.Frames a))
+pub keeps-plain : (h : Held) (told now : Told) (frame : Frame) (d : DrawnIds) (a : Answers) → d ≡ nothing_drawn → is_plain_frame frame ≡ true → TakesFrame told now frame (Ok a) → Fits h → Keeps h h told now (steps.Frame frame) (Ok (d, replies.Frames a))
 keeps-plain h told now frame d a n p t f = record {
   fits = f;
   answer = (ap (λ (x : DrawnIds). x.ids) n, plain_answers h h told now frame (replies.Frames a) p ((λ u. refl), same-links h, t));
@@ -162,7 +162,7 @@ one_adds : (frame : Frame) (own : SessionInnerError) (b : Bool) → AddsRefusal 
 one_adds frame own true = (own, refl, inr (refl, inr (omega arith)))
 one_adds frame own false = (own, refl, inl (frame, refl, refl))
 
-plain_stopped : (h : Held) (told now : Told) (frame : Frame) (e : TakeError) → plain frame ≡ true → TakesFrame told now frame (Err e) → Stopped h told now (steps.Frame frame) (fault_of e.error) (cond e.taken 1 0)
+plain_stopped : (h : Held) (told now : Told) (frame : Frame) (e : TakeError) → is_plain_frame frame ≡ true → TakesFrame told now frame (Err e) → StepRefused h told now (steps.Frame frame) (fault_of e.error) (cond e.taken 1 0)
 plain_stopped h told now frame e p t =
     let gives : step_hands h (steps.Frame frame) ≡ frame ∷ [] = ap (λ b. cond b (frame ∷ []) []) p in
     record {
@@ -177,18 +177,18 @@ plain_stopped h told now frame e p t =
     }
 
 -- a refusal below, as the fault that it is given as
-pub fault_answers : (h : Held) (told now : Told) (s : Step) (error own : SessionInnerError) (handed : ℕ) → is_unknown error ≡ false → error ≡ fault_of own → Stopped h told now s (fault_of own) handed → MatchBool (is_unknown error) (UnderUnkept h s × (handed ≡ 0)) (Stopped h told now s error handed)
+pub fault_answers : (h : Held) (told now : Told) (s : Step) (error own : SessionInnerError) (handed : ℕ) → is_unknown error ≡ false → error ≡ fault_of own → StepRefused h told now s (fault_of own) handed → MatchBool (is_unknown error) (UnderUnkept h s × (handed ≡ 0)) (StepRefused h told now s error handed)
 fault_answers h told now s error own handed known e x =
-    when_known (is_unknown error) _ _ known (subst (λ (y : SessionInnerError). Stopped h told now s y handed) (sym e) x)
+    when_known (is_unknown error) _ _ known (subst (λ (y : SessionInnerError). StepRefused h told now s y handed) (sym e) x)
 
-pub keeps-plain_refused : (h : Held) (told now : Told) (frame : Frame) (e : TakeError) (error : SessionInnerError) (handed : ℕ) → plain frame ≡ true → is_unknown error ≡ false → error ≡ fault_of e.error → handed ≡ cond e.taken 1 0 → TakesFrame told now frame (Err e) → Fits h → Keeps h h told now (steps.Frame frame) (Err (errors.Fault error handed))
+pub keeps-plain_refused : (h : Held) (told now : Told) (frame : Frame) (e : TakeError) (error : SessionInnerError) (handed : ℕ) → is_plain_frame frame ≡ true → is_unknown error ≡ false → error ≡ fault_of e.error → handed ≡ cond e.taken 1 0 → TakesFrame told now frame (Err e) → Fits h → Keeps h h told now (steps.Frame frame) (Err (errors.Fault error handed))
 keeps-plain_refused h told now frame e error handed p known same n t f = record {
   fits = f;
-  answer = fault_answers h told now (steps.Frame frame) error e.error handed known same (subst (λ (k : ℕ). Stopped h told now (steps.Frame frame) (fault_of e.error) k) (sym n) (plain_stopped h told now frame e p t));
+  answer = fault_answers h told now (steps.Frame frame) error e.error handed known same (subst (λ (k : ℕ). StepRefused h told now (steps.Frame frame) (fault_of e.error) k) (sym n) (plain_stopped h told now frame e p t));
   unknown = λ u. absurd (plain_kept h frame p u);
 }
 
-pub keeps-plain_wanting : (h : Held) (told now : Told) (frame : Frame) → plain frame ≡ true → Fits h → Keeps h h told now (steps.Frame frame) (Err errors.NoMemory)
+pub keeps-plain_wanting : (h : Held) (told now : Told) (frame : Frame) → is_plain_frame frame ≡ true → Fits h → Keeps h h told now (steps.Frame frame) (Err errors.NoMemory)
 keeps-plain_wanting h told now frame p f = record {
   fits = f;
   answer = ap (is_kept_under h.live.entries) (plain_none frame p);
@@ -224,14 +224,14 @@ keeps-dead h g told now frame u e n f = record {
 
 pub keeps-post_refused : (h g : Held) (told now : Told) (frame : Frame) (u : TransactionId) (error own : SessionInnerError) → txn frame ≡ Some u → is_kept h.live.entries u ≡ true → 1 ≤ length (answered_under u frame) → is_unknown error ≡ false → error ≡ fault_of own → Steady told now → Fits g → Keeps h g told now (steps.Frame frame) (Err (errors.Fault error 0))
 keeps-post_refused h g told now frame u error own e at some known same steady f =
-    let under : IsPost (steps.Frame frame) = subst IsUnder (sym e) tt in
+    let is_under : IsPost (steps.Frame frame) = subst IsUnder (sym e) tt in
     record {
       fits = f;
       answer = fault_answers h told now (steps.Frame frame) error own 0 known same (record {
         calls = subst (FrameCalls h.live.entries frame) (sym e) (at, some);
         took = (omega arith, ([], refl, steady.taken ∙ sym (grown-nil told.taken)));
         opened = steady.opened;
-        refused = ([], (own, refl, inr (refl, inl under)), steady.refused ∙ sym (grown-nil told.refused));
+        refused = ([], (own, refl, inr (refl, inl is_under)), steady.refused ∙ sym (grown-nil told.refused));
       });
       unknown = λ n. absurd (live_under h frame u e at n);
     }
@@ -299,7 +299,7 @@ keeps-link_end h g told k d n o lg kg tied og f = record {
 pub keeps-no_end : (h : Held) (told : Told) (k : ℕ) (d : DrawnIds) → d ≡ nothing_drawn → is_in h.links.entries k ≡ false → Fits h → Keeps h h told told (steps.LinkEnd k) (Ok (d, replies.NoLink))
 keeps-no_end h told k d n o f = record {
   fits = f;
-  answer = (ap (λ (x : DrawnIds). x.ids) n, subst (λ (b : Bool). EndKeeps k h h told told b replies.NoLink) (sym o) (rests h told));
+  answer = (ap (λ (x : DrawnIds). x.ids) n, subst (λ (b : Bool). EndKeeps k h h told told b replies.NoLink) (sym o) (unchanged h told));
   unknown = λ u. absurd u;
 }
 
@@ -313,7 +313,7 @@ control_answers h g told now k payload m d b reply e o x =
 pub keeps-no_link : (h : Held) (told : Told) (k : ℕ) (payload : List ℕ) (d : DrawnIds) → d ≡ nothing_drawn → is_in h.links.entries k ≡ false → Fits h → Keeps h h told told (steps.Control k payload) (Ok (d, replies.NoLink))
 keeps-no_link h told k payload d n o f = record {
   fits = f;
-  answer = control_answers h h told told k payload (message_of payload) d false replies.NoLink refl o (ap (λ (x : DrawnIds). x.ids) n, rests h told);
+  answer = control_answers h h told told k payload (message_of payload) d false replies.NoLink refl o (ap (λ (x : DrawnIds). x.ids) n, unchanged h told);
   unknown = λ u. absurd u;
 }
 
@@ -327,7 +327,7 @@ keeps-closed h g told k payload d n e o lg kg tied og f = record {
 pub keeps-rejected : (h g : Held) (told : Told) (k : ℕ) (payload : List ℕ) (m : Option ControlMessageBody) (d : DrawnIds) (text : RejectText) → message_of payload ≡ m → is_in h.links.entries k ≡ true → Rejects k h.live.entries d.ids text m → SameHeld h g → Fits h → Keeps h g told told (steps.Control k payload) (Ok (d, replies.Rejected transaction_errors.UnknownId text))
 keeps-rejected h g told k payload m d text e o x same f = record {
   fits = fits-same h g same f;
-  answer = control_answers h g told told k payload m d true (replies.Rejected transaction_errors.UnknownId text) e o (refl, x, rests-moved h g told same);
+  answer = control_answers h g told told k payload m d true (replies.Rejected transaction_errors.UnknownId text) e o (refl, x, unchanged-moved h g told same);
   unknown = λ u. absurd u;
 }
 

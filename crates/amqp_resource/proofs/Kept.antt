@@ -9,12 +9,13 @@ use Rattle.std.proofs.lemmas.Bool.{eqb-true, and_right}
 use Rattle.amqp_txn_types.specs.declared.id.TransactionId.{TransactionId}
 use Rattle.amqp_txn_types.specs.declared.items.NoMemory.{NoMemory}
 use Rattle.amqp_txn_types.specs.declared.performatives.Frame.{Frame}
-use Rattle.amqp_record.specs.Answers.{answered_under}
-use Rattle.amqp_record.specs.Entries.{same_id}
+use Rattle.amqp_txn_types.specs.Presumptive.{answered_under}
+use Rattle.amqp_txn_types.specs.Ids.{same_id}
 use Rattle.amqp_record.proofs.Ids.{same_id-eq, same_id-sym}
 use Rattle.amqp_resource.specs.declared.held.Live.{Live}
 use Rattle.amqp_resource.specs.declared.held.Held.{Held}
-use Rattle.amqp_resource.specs.Held.{Kept, LiveIds, OpenLinks, SameHeld, Tied, ids_on, is_among, is_kept_on, is_on, kept_of, look, look_without, unless_on, with_frame}
+use Rattle.amqp_record.specs.Live.{is_link}
+use Rattle.amqp_resource.specs.Held.{Kept, LiveIds, OpenLinks, SameHeld, Tied, ids_on, is_among, is_kept_on, kept_of, look, look_without, unless_on, with_frame}
 use Rattle.amqp_resource.specs.Posting.{Posted}
 
 -- ---- one look-up changed
@@ -83,16 +84,16 @@ one_more false = refl
 apart : (b c x : Bool) → c ≡ false → (y : Bool) → cond (b && c) x y ≡ y
 apart b c x e y = ap (λ d. cond (b && d) x y) e ∙ ap (λ d. cond d x y) (and_right b false refl)
 
-pub tied_taken : (h g : Held) (id : TransactionId) (holder : Option ℕ) (fs : List Frame) → look h.live.entries id ≡ Some (holder, fs) → ((t : TransactionId) → look g.live.entries t ≡ look_without id h.live.entries t) → ((k : ℕ) → (t : TransactionId) → is_among t (ids_on g.links.entries k) ≡ cond (is_on k holder && same_id id t) false (is_among t (ids_on h.links.entries k))) → Tied h → Tied g
-tied_taken h g id holder fs at lg kg tied k t = kg k t ∙ ap (cond (is_on k holder && same_id id t) false) (tied k t) ∙ by_case (same_id t id) refl ∙ sym (ap (is_kept_on k) (lg t))
+pub tied_taken : (h g : Held) (id : TransactionId) (holder : Option ℕ) (fs : List Frame) → look h.live.entries id ≡ Some (holder, fs) → ((t : TransactionId) → look g.live.entries t ≡ look_without id h.live.entries t) → ((k : ℕ) → (t : TransactionId) → is_among t (ids_on g.links.entries k) ≡ cond (is_link k holder && same_id id t) false (is_among t (ids_on h.links.entries k))) → Tied h → Tied g
+tied_taken h g id holder fs at lg kg tied k t = kg k t ∙ ap (cond (is_link k holder && same_id id t) false) (tied k t) ∙ by_case (same_id t id) refl ∙ sym (ap (is_kept_on k) (lg t))
   where
-    by_case : (b : Bool) → same_id t id ≡ b → cond (is_on k holder && same_id id t) false (is_kept_on k (look h.live.entries t)) ≡ is_kept_on k (look_without id h.live.entries t)
+    by_case : (b : Bool) → same_id t id ≡ b → cond (is_link k holder && same_id id t) false (is_kept_on k (look h.live.entries t)) ≡ is_kept_on k (look_without id h.live.entries t)
     by_case true s =
-        ap (λ b. cond (is_on k holder && b) false (is_kept_on k (look h.live.entries t))) (same_id-sym id t ∙ s)
-        ∙ ap (λ o. cond (is_on k holder && true) false (is_kept_on k o)) (look_same h.live.entries t id s ∙ at)
-        ∙ none_twice (is_on k holder) ∙ sym (ap (λ b. is_kept_on k (cond b None (look h.live.entries t))) s)
+        ap (λ b. cond (is_link k holder && b) false (is_kept_on k (look h.live.entries t))) (same_id-sym id t ∙ s)
+        ∙ ap (λ o. cond (is_link k holder && true) false (is_kept_on k o)) (look_same h.live.entries t id s ∙ at)
+        ∙ none_twice (is_link k holder) ∙ sym (ap (λ b. is_kept_on k (cond b None (look h.live.entries t))) s)
     by_case false s =
-        apart (is_on k holder) (same_id id t) false (same_id-sym id t ∙ s) (is_kept_on k (look h.live.entries t))
+        apart (is_link k holder) (same_id id t) false (same_id-sym id t ∙ s) (is_kept_on k (look h.live.entries t))
         ∙ sym (ap (λ b. is_kept_on k (cond b None (look h.live.entries t))) s)
 
 -- ---- an id declared
@@ -104,7 +105,7 @@ tied_declared h g id link new on unused lg kg tied k t = kg k t ∙ ap (cond (li
     by_case true s =
         ap (λ b. cond (link == k && b) true (is_kept_on k (look h.live.entries t))) (same_id-sym id t ∙ s)
         ∙ ap (λ o. cond (link == k && true) true (is_kept_on k o)) (look_same h.live.entries t id s ∙ unused)
-        ∙ one_more (link == k) ∙ sym (ap (λ b. is_kept_on k (cond b (Some new) (look h.live.entries t))) s ∙ ap (is_on k) on)
+        ∙ one_more (link == k) ∙ sym (ap (λ b. is_kept_on k (cond b (Some new) (look h.live.entries t))) s ∙ ap (is_link k) on)
     by_case false s =
         apart (link == k) (same_id id t) true (same_id-sym id t ∙ s) (is_kept_on k (look h.live.entries t))
         ∙ sym (ap (λ b. is_kept_on k (cond b (Some new) (look h.live.entries t))) s)
@@ -127,21 +128,21 @@ look_dropped old new links link found ids at same dropped t =
 
 gone_on : (k : ℕ) (o : Option Kept) → is_kept_on k (unless_on k o) ≡ false
 gone_on k None = refl
-gone_on k (Some kept) = by_case (is_on k kept.0) refl
+gone_on k (Some kept) = by_case (is_link k kept.0) refl
   where
-    by_case : (b : Bool) → is_on k kept.0 ≡ b → is_kept_on k (cond (is_on k kept.0) None (Some kept)) ≡ false
+    by_case : (b : Bool) → is_link k kept.0 ≡ b → is_kept_on k (cond (is_link k kept.0) None (Some kept)) ≡ false
     by_case true e = ap (λ b. is_kept_on k (cond b None (Some kept))) e
     by_case false e = ap (λ b. is_kept_on k (cond b None (Some kept))) e ∙ e
 
-on_other : (k link : ℕ) (o : Option ℕ) → (link == k) ≡ false → is_on link o ≡ true → is_on k o ≡ false
+on_other : (k link : ℕ) (o : Option ℕ) → (link == k) ≡ false → is_link link o ≡ true → is_link k o ≡ false
 on_other k link None n e = refl
 on_other k link (Some j) n e = ap (λ i. i == k) (eqb-true j link e) ∙ n
 
 kept_on_other : (k link : ℕ) (o : Option Kept) → (link == k) ≡ false → is_kept_on k (unless_on link o) ≡ is_kept_on k o
 kept_on_other k link None n = refl
-kept_on_other k link (Some kept) n = by_case (is_on link kept.0) refl
+kept_on_other k link (Some kept) n = by_case (is_link link kept.0) refl
   where
-    by_case : (b : Bool) → is_on link kept.0 ≡ b → is_kept_on k (cond (is_on link kept.0) None (Some kept)) ≡ is_on k kept.0
+    by_case : (b : Bool) → is_link link kept.0 ≡ b → is_kept_on k (cond (is_link link kept.0) None (Some kept)) ≡ is_link k kept.0
     by_case true e = ap (λ b. is_kept_on k (cond b None (Some kept))) e ∙ sym (on_other k link kept.0 n e)
     by_case false e = ap (λ b. is_kept_on k (cond b None (Some kept))) e
 

@@ -6,3 +6,4 @@ pub mod Parts
 pub mod Complete
 pub mod Running
 pub mod Keeping
+pub mod Calling

@@ -1,5 +1,5 @@
 -- The parts of what a step leaves, as its public clauses say them.
-use Rattle.std.proofs.Common.{◌≡◌, ℕ, Bool, true, false, Option, Some, None, Result, Ok, Err, List, [], ◌∷◌, ◌++◌, refl, sym, ◌∙◌, ap, inl, inr}
+use Rattle.std.proofs.Common.{◌≡◌, ℕ, Bool, true, false, Option, Some, None, Result, Ok, Err, List, [], ◌∷◌, ◌++◌, refl, sym, ◌∙◌, ap, subst, inl, inr}
 use Rattle.std.specs.Prelude.{◌⊎◌, ⊤, is_some, MatchBool, IfOk, IfErr, OnErr}
 use Rattle.amqp_txn_types.specs.declared.id.TransactionId.{TransactionId}
 use Rattle.amqp_txn_types.specs.declared.delivery.Error.{Error}
@@ -8,11 +8,14 @@ use Rattle.amqp_txn_types.specs.declared.performatives.Frame.{Frame}
 use Rattle.amqp_txn_types.specs.Frames.{txn}
 use Rattle.amqp_txn_codec.specs.declared.message.ControlMessageBody.{ControlMessageBody}
 use Rattle.amqp_txn_codec.specs.declared.message.ControlMessageBody.TheVariants as messages
+use Rattle.amqp_txn_codec.specs.declared.message.Discharge.{Discharge}
+use Rattle.amqp_txn_codec.specs.Discharges.{is_rollback}
 use Rattle.amqp_txn_codec.specs.Reading.{message_of}
-use Rattle.amqp_below.specs.declared.inner_error.SessionInnerError.{SessionInnerError}
-use Rattle.amqp_below.specs.declared.inner_error.SessionInnerError.TheVariants as faults
-use Rattle.amqp_below.specs.Drawn.{DrawnIds}
-use Rattle.amqp_below.specs.Told.{Told}
+use Rattle.amqp_layer.specs.declared.answers.Answers.{Answers}
+use Rattle.amqp_layer.specs.declared.inner_error.SessionInnerError.{SessionInnerError}
+use Rattle.amqp_layer.specs.declared.inner_error.SessionInnerError.TheVariants as faults
+use Rattle.amqp_ids.specs.Drawn.{DrawnIds}
+use Rattle.amqp_layer.specs.Told.{Told}
 use Rattle.amqp_txn_types.specs.Counts.{Rose}
 use Rattle.amqp_record.specs.declared.entry.Entry.{Entry}
 use Rattle.amqp_record.specs.declared.step.Step.{Step}
@@ -27,7 +30,7 @@ use Rattle.amqp_resource.specs.declared.held.Held.{Held}
 use Rattle.amqp_resource.specs.Held.{SameHeld, Stands}
 use Rattle.amqp_resource.specs.declared.session.TxnSession.{TxnSession}
 use Rattle.amqp_resource.specs.Session.{SameSession, StopAfter, below_of, held_of, stop_of}
-use Rattle.amqp_resource.specs.Steps.{AnswersEnd, EndGave, FrameMayFault, IfAttachRefused, IfEnded, IfRefused, IfUnknown, IsControlAttach, IsDead, IsFirstStop, MayFault, OnAttachRefused, OnNoMemory, OnOwnError, OpenedBy, Refused, RefusedAdds, RefusedBy, StepCause, StepGave, TookFirst, TookHands, UnderDead, ended_by, entry_of, is_live_under, is_unknown, has_error, local_end, remote_end, takes_memory}
+use Rattle.amqp_resource.specs.Steps.{AnswersEnd, EndGave, FrameMayFault, IfAttachRefused, IfEnded, IfRefused, IfUnknown, IsControlAttach, IsDead, IsFirstStop, MayFault, OnAttachRefused, OnNoMemory, OnNoCall, OpenedBy, Refused, RefusedAdds, RefusedBy, StepCause, StepGave, TookFirst, TookHands, UnderDead, calls_nothing, ended_by, entry_of, is_live_under, is_unknown, has_error, local_end, remote_end, rolls_back_by, takes_memory}
 
 -- ---- choices
 
@@ -43,45 +46,49 @@ in_both : (A : Type 0) {B C : Type 0} (b : Bool) → (B → C) → MatchBool b A
 in_both A true f x y = y
 in_both A false f x y = f x
 
-pub own_weaker : (result : Result (DrawnIds × Reply) StepError) (P Q : Type 0) → (P → Q) → OnOwnError result P → OnOwnError result Q
-own_weaker (Ok out) P Q f x = tt
-own_weaker (Err (errors.Fault error handed)) P Q f x = on_true _ (is_unknown error) f x
-own_weaker (Err (errors.Ended reason)) P Q f x = f x
-own_weaker (Err (errors.Stopped code)) P Q f x = f x
-own_weaker (Err errors.NoMemory) P Q f x = f x
+pub no_call_weaker : (s : Step) (result : Result (DrawnIds × Reply) StepError) (P Q : Type 0) → (P → Q) → OnNoCall s result P → OnNoCall s result Q
+no_call_weaker s (Ok out) P Q f x = on_true _ (calls_nothing s out.1) f x
+no_call_weaker s (Err (errors.Fault error handed)) P Q f x = on_true _ (is_unknown error) f x
+no_call_weaker s (Err (errors.Ended reason)) P Q f x = f x
+no_call_weaker s (Err (errors.Stopped code)) P Q f x = f x
+no_call_weaker s (Err errors.NoMemory) P Q f x = f x
 
 on_either : (P : Type 0) (b : Bool) → P → MatchBool b P ⊤
 on_either P true x = x
 on_either P false x = tt
 
-pub own_holds : (result : Result (DrawnIds × Reply) StepError) (P : Type 0) → P → OnOwnError result P
-own_holds (Ok out) P x = tt
-own_holds (Err (errors.Fault error handed)) P x = on_either P (is_unknown error) x
-own_holds (Err (errors.Ended reason)) P x = x
-own_holds (Err (errors.Stopped code)) P x = x
-own_holds (Err errors.NoMemory) P x = x
+pub no_call_holds : (s : Step) (result : Result (DrawnIds × Reply) StepError) (P : Type 0) → P → OnNoCall s result P
+no_call_holds s (Ok out) P x = on_either P (calls_nothing s out.1) x
+no_call_holds s (Err (errors.Fault error handed)) P x = on_either P (is_unknown error) x
+no_call_holds s (Err (errors.Ended reason)) P x = x
+no_call_holds s (Err (errors.Stopped code)) P x = x
+no_call_holds s (Err errors.NoMemory) P x = x
+
+-- an accepted commit may have called
+pub commit_calls : (k : ℕ) (payload : List ℕ) (discharge : Discharge) (d : DrawnIds) (echoes : List Answers) (P : Type 0) → message_of payload ≡ Some (messages.Discharge discharge) → is_rollback discharge.fail ≡ false → OnNoCall (steps.Control k payload) (Ok (d, replies.Accepted echoes)) P
+commit_calls k payload discharge d echoes P m b = subst (λ (c : Bool). MatchBool c P ⊤) (sym (ap rolls_back_by m ∙ b)) tt
 
 -- ---- what is so of a reply
 
-pub gave_answer : (h : Held) (old new : Told) (r : List Entry) (s : Step) (result : Result (DrawnIds × Reply) StepError) → StepGave h old new r s result → IfOk result (λ out. Answer r s out.0.ids out.1)
-gave_answer h old new r s (Ok out) g = g.answer
-gave_answer h old new r s (Err error) g = tt
+pub step_answer : (h : Held) (old new : Told) (r : List Entry) (s : Step) (result : Result (DrawnIds × Reply) StepError) → StepGave h old new r s result → IfOk result (λ out. Answer r s out.0.ids out.1)
+step_answer h old new r s (Ok out) g = g.answer
+step_answer h old new r s (Err error) g = tt
 
-pub gave_stands : (h : Held) (old new : Told) (r : List Entry) (s : Step) (result : Result (DrawnIds × Reply) StepError) → StepGave h old new r s result → IfOk result (λ out. Stands h (r ++ entry_of s out.0 out.1 ∷ []))
-gave_stands h old new r s (Ok out) g = g.stands
-gave_stands h old new r s (Err error) g = tt
+pub step_stands : (h : Held) (old new : Told) (r : List Entry) (s : Step) (result : Result (DrawnIds × Reply) StepError) → StepGave h old new r s result → IfOk result (λ out. Stands h (r ++ entry_of s out.0 out.1 ∷ []))
+step_stands h old new r s (Ok out) g = g.stands
+step_stands h old new r s (Err error) g = tt
 
-pub gave_taken : (h : Held) (old new : Told) (r : List Entry) (s : Step) (result : Result (DrawnIds × Reply) StepError) → StepGave h old new r s result → IfOk result (λ out. TookHands old new r s out.1)
-gave_taken h old new r s (Ok out) g = g.taken
-gave_taken h old new r s (Err error) g = tt
+pub step_taken : (h : Held) (old new : Told) (r : List Entry) (s : Step) (result : Result (DrawnIds × Reply) StepError) → StepGave h old new r s result → IfOk result (λ out. TookHands old new r s out.1)
+step_taken h old new r s (Ok out) g = g.taken
+step_taken h old new r s (Err error) g = tt
 
-pub gave_opened : (h : Held) (old new : Told) (r : List Entry) (s : Step) (result : Result (DrawnIds × Reply) StepError) → StepGave h old new r s result → IfOk result (λ out. OpenedBy old new s out.1)
-gave_opened h old new r s (Ok out) g = g.opened
-gave_opened h old new r s (Err error) g = tt
+pub step_opened : (h : Held) (old new : Told) (r : List Entry) (s : Step) (result : Result (DrawnIds × Reply) StepError) → StepGave h old new r s result → IfOk result (λ out. OpenedBy old new s out.1)
+step_opened h old new r s (Ok out) g = g.opened
+step_opened h old new r s (Err error) g = tt
 
-pub gave_refused : (h : Held) (old new : Told) (r : List Entry) (s : Step) (result : Result (DrawnIds × Reply) StepError) → StepGave h old new r s result → IfOk result (λ out. RefusedBy old new s out.1)
-gave_refused h old new r s (Ok out) g = g.refused
-gave_refused h old new r s (Err error) g = tt
+pub step_refused : (h : Held) (old new : Told) (r : List Entry) (s : Step) (result : Result (DrawnIds × Reply) StepError) → StepGave h old new r s result → IfOk result (λ out. RefusedBy old new s out.1)
+step_refused h old new r s (Ok out) g = g.refused
+step_refused h old new r s (Err error) g = tt
 
 -- ---- what is so of a refusal below
 
@@ -92,16 +99,16 @@ on_refused h old new r s (Err (errors.Ended reason)) P f g = tt
 on_refused h old new r s (Err (errors.Stopped code)) P f g = tt
 on_refused h old new r s (Err errors.NoMemory) P f g = tt
 
-pub gave_part : (h : Held) (old new : Told) (r : List Entry) (s : Step) (result : Result (DrawnIds × Reply) StepError) → StepGave h old new r s result → IfRefused result (λ error handed. TookFirst old new r s handed)
-gave_part h old new r s result g = on_refused h old new r s result (λ error handed. TookFirst old new r s handed) (λ error handed x. x.took) g
+pub step_part : (h : Held) (old new : Told) (r : List Entry) (s : Step) (result : Result (DrawnIds × Reply) StepError) → StepGave h old new r s result → IfRefused result (λ error handed. TookFirst old new r s handed)
+step_part h old new r s result g = on_refused h old new r s result (λ error handed. TookFirst old new r s handed) (λ error handed x. x.took) g
 
-pub gave_last : (h : Held) (old new : Told) (r : List Entry) (s : Step) (result : Result (DrawnIds × Reply) StepError) → StepGave h old new r s result → IfRefused result (λ error handed. RefusedAdds old new r s error handed)
-gave_last h old new r s result g = on_refused h old new r s result (λ error handed. RefusedAdds old new r s error handed) (λ error handed x. x.refused) g
+pub step_last : (h : Held) (old new : Told) (r : List Entry) (s : Step) (result : Result (DrawnIds × Reply) StepError) → StepGave h old new r s result → IfRefused result (λ error handed. RefusedAdds old new r s error handed)
+step_last h old new r s result g = on_refused h old new r s result (λ error handed. RefusedAdds old new r s error handed) (λ error handed x. x.refused) g
 
-pub gave_cause : (h : Held) (old new : Told) (r : List Entry) (s : Step) (result : Result (DrawnIds × Reply) StepError) → StepGave h old new r s result → IfRefused result (λ error handed. MayFault r s)
-gave_cause h old new r s result g = on_refused h old new r s result (λ error handed. MayFault r s) (λ error handed x. x.fits) g
+pub step_cause : (h : Held) (old new : Told) (r : List Entry) (s : Step) (result : Result (DrawnIds × Reply) StepError) → StepGave h old new r s result → IfRefused result (λ error handed. MayFault r s)
+step_cause h old new r s result g = on_refused h old new r s result (λ error handed. MayFault r s) (λ error handed x. x.fits) g
 
-pub opened_none : (h : Held) (old new : Told) (r : List Entry) (s : Step) (result : Result (DrawnIds × Reply) StepError) → StepGave h old new r s result → OnOwnError result (new.opened ≡ old.opened) → OnErr result (new.opened ≡ old.opened)
+pub opened_none : (h : Held) (old new : Told) (r : List Entry) (s : Step) (result : Result (DrawnIds × Reply) StepError) → StepGave h old new r s result → OnNoCall s result (new.opened ≡ old.opened) → OnErr result (new.opened ≡ old.opened)
 opened_none h old new r s (Ok out) g x = tt
 opened_none h old new r s (Err (errors.Fault error handed)) g x = in_both _ (is_unknown error) (λ f. f.opened) g x
 opened_none h old new r s (Err (errors.Ended reason)) g x = x
@@ -139,20 +146,20 @@ dead_no_end : (r : List Entry) (s : Step) (reason : SessionStopReason) → Under
 dead_no_end r (steps.Frame frame) reason u e = cc e
 dead_no_end r _ reason u e = u
 
-pub gave_unknown : (h : Held) (old new : Told) (r : List Entry) (s : Step) (result : Result (DrawnIds × Reply) StepError) → StepGave h old new r s result → UnderDead r s → result ≡ Err (errors.Fault faults.UnknownTxnId 0)
-gave_unknown h old new r s (Ok out) g u = absurd (dead_unanswered r s out.0.ids out.1 u g.answer)
-gave_unknown h old new r s (Err (errors.Fault faults.UnknownTxnId handed)) g u = ap (λ n. Err (errors.Fault faults.UnknownTxnId n)) g.1
-gave_unknown h old new r s (Err (errors.Fault error handed)) g u = absurd (dead_no_fault r s u g.fits)
-gave_unknown h old new r s (Err (errors.Ended reason)) g u = absurd (dead_no_end r s reason u g)
-gave_unknown h old new r s (Err (errors.Stopped code)) g u = absurd g
-gave_unknown h old new r s (Err errors.NoMemory) g u = absurd (dead_no_memory r s u g.takes)
+pub step_unknown : (h : Held) (old new : Told) (r : List Entry) (s : Step) (result : Result (DrawnIds × Reply) StepError) → StepGave h old new r s result → UnderDead r s → result ≡ Err (errors.Fault faults.UnknownTxnId 0)
+step_unknown h old new r s (Ok out) g u = absurd (dead_unanswered r s out.0.ids out.1 u g.answer)
+step_unknown h old new r s (Err (errors.Fault faults.UnknownTxnId handed)) g u = ap (λ n. Err (errors.Fault faults.UnknownTxnId n)) g.1
+step_unknown h old new r s (Err (errors.Fault error handed)) g u = absurd (dead_no_fault r s u g.fits)
+step_unknown h old new r s (Err (errors.Ended reason)) g u = absurd (dead_no_end r s reason u g)
+step_unknown h old new r s (Err (errors.Stopped code)) g u = absurd g
+step_unknown h old new r s (Err errors.NoMemory) g u = absurd (dead_no_memory r s u g.takes)
 
-pub gave_unknown_only : (h : Held) (old new : Told) (r : List Entry) (s : Step) (result : Result (DrawnIds × Reply) StepError) → StepGave h old new r s result → IfUnknown result (λ handed. UnderDead r s × (handed ≡ 0))
-gave_unknown_only h old new r s (Ok out) g = tt
-gave_unknown_only h old new r s (Err (errors.Fault error handed)) g = on_true _ (is_unknown error) (λ x. x) g
-gave_unknown_only h old new r s (Err (errors.Ended reason)) g = tt
-gave_unknown_only h old new r s (Err (errors.Stopped code)) g = tt
-gave_unknown_only h old new r s (Err errors.NoMemory) g = tt
+pub step_unknown_only : (h : Held) (old new : Told) (r : List Entry) (s : Step) (result : Result (DrawnIds × Reply) StepError) → StepGave h old new r s result → IfUnknown result (λ handed. UnderDead r s × (handed ≡ 0))
+step_unknown_only h old new r s (Ok out) g = tt
+step_unknown_only h old new r s (Err (errors.Fault error handed)) g = on_true _ (is_unknown error) (λ x. x) g
+step_unknown_only h old new r s (Err (errors.Ended reason)) g = tt
+step_unknown_only h old new r s (Err (errors.Stopped code)) g = tt
+step_unknown_only h old new r s (Err errors.NoMemory) g = tt
 
 -- ---- ends
 
@@ -180,19 +187,19 @@ end_is (Some own) (Err errors.NoMemory) reason a e = inr refl
 
 -- ---- want of memory
 
-pub gave_memory : (h : Held) (old new : Told) (r : List Entry) (s : Step) (result : Result (DrawnIds × Reply) StepError) → StepGave h old new r s result → OnNoMemory result (Stands h r × (takes_memory r s ≡ true))
-gave_memory h old new r s (Ok out) g = tt
-gave_memory h old new r s (Err (errors.Fault error handed)) g = tt
-gave_memory h old new r s (Err (errors.Ended reason)) g = tt
-gave_memory h old new r s (Err (errors.Stopped code)) g = tt
-gave_memory h old new r s (Err errors.NoMemory) g = (g.stands, g.takes)
+pub step_memory : (h : Held) (old new : Told) (r : List Entry) (s : Step) (result : Result (DrawnIds × Reply) StepError) → StepGave h old new r s result → OnNoMemory result (Stands h r × (takes_memory r s ≡ true))
+step_memory h old new r s (Ok out) g = tt
+step_memory h old new r s (Err (errors.Fault error handed)) g = tt
+step_memory h old new r s (Err (errors.Ended reason)) g = tt
+step_memory h old new r s (Err (errors.Stopped code)) g = tt
+step_memory h old new r s (Err errors.NoMemory) g = (g.stands, g.takes)
 
-pub same_session : {S : Type 0} (old new : TxnSession S) (result : Result (DrawnIds × Reply) StepError) → OnNoMemory result (SameHeld (held_of old) (held_of new)) → OnOwnError result (below_of new ≡ below_of old) → StopAfter result (stop_of new) → stop_of old ≡ None → OnNoMemory result (SameSession old new)
-same_session old new (Ok out) held below stop runs = tt
-same_session old new (Err (errors.Fault error handed)) held below stop runs = tt
-same_session old new (Err (errors.Ended reason)) held below stop runs = tt
-same_session old new (Err (errors.Stopped code)) held below stop runs = tt
-same_session old new (Err errors.NoMemory) held below stop runs = record { held = held; below = below; stop = stop ∙ sym runs }
+pub same_session : {S : Type 0} (old new : TxnSession S) (s : Step) (result : Result (DrawnIds × Reply) StepError) → OnNoMemory result (SameHeld (held_of old) (held_of new)) → OnNoCall s result (below_of new ≡ below_of old) → StopAfter result (stop_of new) → stop_of old ≡ None → OnNoMemory result (SameSession old new)
+same_session old new s (Ok out) held below stop runs = tt
+same_session old new s (Err (errors.Fault error handed)) held below stop runs = tt
+same_session old new s (Err (errors.Ended reason)) held below stop runs = tt
+same_session old new s (Err (errors.Stopped code)) held below stop runs = tt
+same_session old new s (Err errors.NoMemory) held below stop runs = record { held = held; below = below; stop = stop ∙ sym runs }
 
 -- ---- causes
 
@@ -251,6 +258,6 @@ by_attach : (before now : ℕ) (r : List Entry) (s : Step) (d : List Transaction
 by_attach before now r s d (replies.AttachRefused error) a c = (c, attach_only r s d error a)
 by_attach before now r s d _ a c = tt
 
-pub gave_attach : (h : Held) (old new : Told) (before now : ℕ) (r : List Entry) (s : Step) (result : Result (DrawnIds × Reply) StepError) → StepGave h old new r s result → StepCause before now s result → OnAttachRefused result (Rose before now × IsControlAttach s)
-gave_attach h old new before now r s (Ok out) g c = by_attach before now r s out.0.ids out.1 g.answer c
-gave_attach h old new before now r s (Err error) g c = tt
+pub step_attach : (h : Held) (old new : Told) (before now : ℕ) (r : List Entry) (s : Step) (result : Result (DrawnIds × Reply) StepError) → StepGave h old new r s result → StepCause before now s result → OnAttachRefused result (Rose before now × IsControlAttach s)
+step_attach h old new before now r s (Ok out) g c = by_attach before now r s out.0.ids out.1 g.answer c
+step_attach h old new before now r s (Err error) g c = tt

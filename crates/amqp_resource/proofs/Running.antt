@@ -8,12 +8,13 @@ use Rattle.std.proofs.lemmas.List.Sums.{sum_by-append}
 use Rattle.amqp_txn_types.specs.declared.id.TransactionId.{TransactionId}
 use Rattle.amqp_txn_types.specs.declared.delivery.SessionStopReason.{SessionStopReason}
 use Rattle.amqp_txn_types.specs.declared.performatives.Frame.{Frame}
-use Rattle.amqp_below.specs.declared.inner_error.SessionInnerError.TheVariants as faults
-use Rattle.amqp_below.specs.Drawn.{DrawnIds}
-use Rattle.amqp_below.specs.Told.{Told, grown}
+use Rattle.amqp_layer.specs.declared.inner_error.SessionInnerError.TheVariants as faults
+use Rattle.amqp_ids.specs.Drawn.{DrawnIds}
+use Rattle.amqp_layer.specs.Told.{Told}
+use Rattle.amqp_txn_types.specs.Growing.{grown}
 use Rattle.amqp_txn_types.specs.Counts.{Rose}
-use Rattle.amqp_below.specs.Ids.{Drew}
-use Rattle.amqp_below.proofs.Draws.{Drew-append, Drew-none}
+use Rattle.amqp_ids.specs.Ids.{Drew}
+use Rattle.amqp_ids.proofs.Draws.{Drew-append, Drew-none}
 use Rattle.amqp_record.specs.declared.entry.Entry.{Entry}
 use Rattle.amqp_record.specs.declared.step.Step.{Step}
 use Rattle.amqp_record.specs.declared.reply.Reply.{Reply}
@@ -25,17 +26,17 @@ use Rattle.amqp_record.specs.declared.stop.StepError.{StepError}
 use Rattle.amqp_record.specs.declared.stop.StepError.TheVariants as errors
 use Rattle.amqp_record.specs.Entries.{drawn_of, steps_of}
 use Rattle.amqp_record.specs.Hands.{hands}
-use Rattle.amqp_record.specs.Work.{pairs, work, gave, given_by}
+use Rattle.amqp_record.specs.Work.{pairs, work, given_back, given_by}
 use Rattle.amqp_record.specs.Opened.{attach_refused_count, is_attach_refused, opened_by, opens, refused_by, refuses}
 use Rattle.amqp_record.proofs.Whole.{pairs-snoc}
 use Rattle.amqp_resource.specs.declared.held.Held.{Held}
 use Rattle.amqp_resource.specs.declared.session.TxnSession.{TxnSession}
 use Rattle.amqp_resource.specs.Held.{Stands}
-use Rattle.amqp_resource.specs.Taking.{TookFrames}
-use Rattle.amqp_resource.specs.Steps.{IfAttachRefused, IfEnded, IfRefused, IfUnknown, IsControlAttach, IsFirstStop, MayFault, OnNoMemory, OnOwnError, OpenedBy, RefusedAdds, RefusedBy, TookFirst, TookHands, UnderDead, ended_by, entry_of, is_unknown, takes_memory}
+use Rattle.amqp_layer.specs.Taking.{TookFrames}
+use Rattle.amqp_resource.specs.Steps.{IfAttachRefused, IfEnded, IfRefused, IfUnknown, IsControlAttach, IsFirstStop, MayFault, OnNoMemory, OnNoCall, OpenedBy, RefusedAdds, RefusedBy, TookFirst, TookHands, UnderDead, ended_by, entry_of, is_unknown, takes_memory}
 use Rattle.amqp_resource.specs.Session.{StopAfter, held_of, stop_of}
-use Rattle.amqp_resource.specs.Drive.{Left, NextStep, RunLeaves, RunRefused, RunRose, RunTook, StopCause, StopsBy, StopsWith}
-use Rattle.amqp_resource.proofs.Handing.{grown-grown, grown-nil}
+use Rattle.amqp_resource.specs.Drive.{Left, NextStep, RunLeaves, RunRefused, RunRose, RunTook, StopCause, StopsBy, StopsWith, WantedMemory}
+use Rattle.amqp_txn_types.proofs.Growing.{grown-grown, grown-nil}
 
 -- ---- the record that a run has made so far
 
@@ -51,7 +52,7 @@ pub record Ran (old new : Told) (before after : ℕ → TransactionId) (h : Held
   pub drew : Drew before after (drawn_of r)
 
 pairs-nil : pairs [] ≡ []
-unfolding pairs work gave
+unfolding pairs work given_back
 pairs-nil = refl
 
 pub ran-nil : (old : Told) (f : ℕ → TransactionId) (h : Held) → Stands h [] → Ran old old f f h []
@@ -171,7 +172,7 @@ pub record Broke (g : Held) (old new : Told) (r : List Entry) (s : Step) (error 
   pub ended : (reason : SessionStopReason) → ended_by s ≡ Some reason → (failed error ≡ Err (errors.Ended reason)) ⊎ (failed error ≡ Err errors.NoMemory)
   pub ended_only : IfEnded (failed error) (λ reason. ended_by s ≡ Some reason)
   pub memory : OnNoMemory (failed error) (Stands g r × (takes_memory r s ≡ true))
-  pub own : OnOwnError (failed error) (new ≡ old)
+  pub own : OnNoCall s (failed error) (new ≡ old)
   pub later : old.refusals ≤ new.refusals
   pub fixed : new.fixed ≡ old.fixed
   pub stops : StopAfter (failed error) kept
@@ -188,7 +189,7 @@ pub broke_cause : (g : Held) (old new : Told) (r : List Entry) (s : Step) (error
 broke_cause g old new r s (errors.Fault error handed) kept all rest l b = (s, rest, l, pick (is_unknown error) (λ (x : UnderDead r s × (handed ≡ 0)). x.0) (λ (x : MayFault r s). x) b.unknown_only b.refusal)
 broke_cause g old new r s (errors.Ended reason) kept all rest l b = (s, rest, l, b.ended_only)
 broke_cause g old new r s (errors.Stopped code) kept all rest l b = absurd b.first
-broke_cause g old new r s errors.NoMemory kept all rest l b = (s, rest, l, tt)
+broke_cause g old new r s errors.NoMemory kept all rest l b = inr (s, rest, l, b.memory.1)
 
 pub broke_not_done : (g : Held) (old new : Told) (r : List Entry) (s : Step) (error : StepError) (kept : Option StopCode) → Broke g old new r s error kept → stop_by error ≡ stops.Done → ⊥
 broke_not_done g old new r s (errors.Fault error handed) kept b e = cc e
@@ -254,7 +255,7 @@ broke_leaves x old new r s errors.NoMemory b = (b.memory.0, b.stops)
 pub done_rose : (old new : Told) (f k : ℕ → TransactionId) (h : Held) (r : List Entry) → Ran old new f k h r → RunRose old.refusals new.refusals r stops.Done
 done_rose old new f k h r ran = rose-last old.refusals new.refusals new.refusals (attach_refused_count r) true ran.rose (omega arith) tt
 
--- a run that had no room has steps to make
-pub some_step : (all : List Step) → (length all ≡ 0 → ⊥) → NextStep all [] (λ s. ⊤)
-some_step [] n = absurd (n refl)
-some_step (s ∷ rest) n = (s, rest, refl, tt)
+-- a run that had no room has steps to make, and no entry
+pub no_room : (all : List Step) → (length all ≡ 0 → ⊥) → WantedMemory all []
+no_room [] n = absurd (n refl)
+no_room (s ∷ rest) n = inl (refl, (s, rest, refl, tt))

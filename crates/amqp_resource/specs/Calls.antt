@@ -4,13 +4,13 @@ use Rattle.amqp_txn_types.specs.declared.id.TransactionId.{TransactionId}
 use Rattle.amqp_txn_types.specs.declared.small.Accepted.{Accepted}
 use Rattle.amqp_txn_types.specs.declared.small.TransactionError.{TransactionError}
 use Rattle.amqp_txn_types.specs.declared.small.TransactionError.TheVariants as conditions
-use Rattle.amqp_below.specs.declared.answers.Answers.{Answers}
-use Rattle.amqp_below.specs.declared.transacting.AllocTxnIdError.{AllocTxnIdError}
-use Rattle.amqp_below.specs.declared.transacting.AllocTxnIdError.TheVariants as allocations
-use Rattle.amqp_below.specs.declared.transacting.CommitFault.{CommitFault}
-use Rattle.amqp_below.specs.declared.transacting.CommitFault.TheVariants as commit_faults
-use Rattle.amqp_below.specs.Drawn.{DrawnIds}
-use Rattle.amqp_below.specs.Told.{Told}
+use Rattle.amqp_layer.specs.declared.answers.Answers.{Answers}
+use Rattle.amqp_sessions.specs.declared.transacting.AllocTxnIdError.{AllocTxnIdError}
+use Rattle.amqp_sessions.specs.declared.transacting.AllocTxnIdError.TheVariants as allocations
+use Rattle.amqp_sessions.specs.declared.transacting.CommitFault.{CommitFault}
+use Rattle.amqp_sessions.specs.declared.transacting.CommitFault.TheVariants as commit_faults
+use Rattle.amqp_ids.specs.Drawn.{DrawnIds}
+use Rattle.amqp_layer.specs.Told.{Told}
 use Rattle.amqp_record.specs.declared.stop.StopCode.{StopCode}
 use Rattle.amqp_record.specs.Stops.{fault_code}
 use Rattle.amqp_resource.specs.declared.session.TxnSession.{TxnSession}
@@ -19,8 +19,8 @@ use Rattle.amqp_resource.specs.Transacting.{AllocatedIn, CommittedIn, RolledBack
 
 -- one fact where the session had stopped, another where it runs
 abbrev pub by_stop : Option StopCode → Type 0 → Type 0 → Type 0
-by_stop (Some code) Stopped Running = Stopped
-by_stop None Stopped Running = Running
+by_stop (Some code) WhereStopped WhereRunning = WhereStopped
+by_stop None WhereStopped WhereRunning = WhereRunning
 
 -- the layer below is as it was, and the session goes on
 pub record GoesOn {S : Type 0} (old new : TxnSession S) : Type 0 where
@@ -28,7 +28,8 @@ pub record GoesOn {S : Type 0} (old new : TxnSession S) : Type 0 where
   pub stop : stop_of new ≡ None
 
 -- an allocation; what the session keeps goes on to fit together
-abbrev pub AllocationGives : {S : Type 0} → TxnSession S → TxnSession S → Result DrawnIds AllocTxnIdError → Type 0
+abbrev pub AllocationGives : {S : Type 0} → TxnSession S → TxnSession S
+    → Result DrawnIds AllocTxnIdError → Type 0
 AllocationGives old new result =
     (FitsTogether old → FitsTogether new)
     × by_stop (stop_of old)
@@ -36,20 +37,24 @@ AllocationGives old new result =
     (AllocatedIn (held_of old) (held_of new) result × GoesOn old new)
 
 -- a refused frame stops the session
-abbrev pub StopAfterCommit : Result (Result (List Answers) TransactionError) CommitFault → Option StopCode → Type 0
+abbrev pub StopAfterCommit : Result (Result (List Answers) TransactionError) CommitFault
+    → Option StopCode → Type 0
 StopAfterCommit (Err (commit_faults.Refused error handed)) stop = stop ≡ Some (fault_code error)
 StopAfterCommit _ stop = stop ≡ None
 
 -- a commit; what the session keeps goes on to fit together
-abbrev pub CommitGives : {S : Type 0} → (S → Told) → TxnSession S → TxnSession S → TransactionId → Result (Result (List Answers) TransactionError) CommitFault → Type 0
+abbrev pub CommitGives : {S : Type 0} → (S → Told) → TxnSession S → TxnSession S → TransactionId
+    → Result (Result (List Answers) TransactionError) CommitFault → Type 0
 CommitGives told old new id result =
     (FitsTogether old → FitsTogether new)
     × by_stop (stop_of old)
     ((result ≡ Ok (Err conditions.UnknownId)) × SameSession old new)
-    (CommittedIn (held_of old) (held_of new) (told_of told old) (told_of told new) id (below_of new ≡ below_of old) result × StopAfterCommit result (stop_of new))
+    (CommittedIn (held_of old) (held_of new) (told_of told old) (told_of told new) id
+    (below_of new ≡ below_of old) result × StopAfterCommit result (stop_of new))
 
 -- a rollback; what the session keeps goes on to fit together
-abbrev pub RollbackGives : {S : Type 0} → TxnSession S → TxnSession S → TransactionId → Result Accepted TransactionError → Type 0
+abbrev pub RollbackGives : {S : Type 0} → TxnSession S → TxnSession S → TransactionId
+    → Result Accepted TransactionError → Type 0
 RollbackGives old new id result =
     (FitsTogether old → FitsTogether new)
     × by_stop (stop_of old)

@@ -1,9 +1,9 @@
 -- When a step is answered well.
 use Rattle.std.specs.Prelude.{ℕ, ◌≡◌, Result, Ok, Err, List, length}
 use Rattle.amqp_txn_types.specs.declared.id.TransactionId.{TransactionId}
-use Rattle.amqp_below.specs.Drawn.{DrawnIds}
+use Rattle.amqp_ids.specs.Drawn.{DrawnIds}
 use Rattle.amqp_txn_types.specs.Counts.{Rose}
-use Rattle.amqp_below.specs.Ids.{AreNext}
+use Rattle.amqp_ids.specs.Ids.{AreNext}
 use Rattle.amqp_record.specs.declared.step.Step.{Step}
 use Rattle.amqp_record.specs.declared.reply.Reply.{Reply}
 use Rattle.amqp_record.specs.declared.reply.Reply.TheVariants as replies
@@ -28,7 +28,8 @@ Completed (Err errors.NoMemory) = Unit {0}
 Completed (Err _) = ⊥
 
 -- the premises: the step is valid, and no refusal was counted
-pub record InOrder (before now : ℕ) (ids : ℕ → TransactionId) (r : List Entry) (s : Step) (n : List TransactionId) : Type 0 where
+pub record InOrder (before now : ℕ) (ids : ℕ → TransactionId) (r : List Entry) (s : Step)
+    (n : List TransactionId) : Type 0 where
   pub next : AreNext ids 0 n
   pub count : length n ≡ 16
   pub valid : Valid r s n

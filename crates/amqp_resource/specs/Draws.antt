@@ -15,6 +15,7 @@ pub record DrewLive (live : LiveIds) (ds : List TransactionId) : Type 0 where
 
 -- at most 16 ids: live ones, and then one that isn't
 pub record DrewUnused (live : LiveIds) (ds : List TransactionId) (t : TransactionId) : Type 0 where
-  pub parts : (before : List TransactionId) × (ds ≡ before ++ t ∷ []) × (list_all (is_kept live) before ≡ true)
+  pub parts : (before : List TransactionId) × (ds ≡ before ++ t ∷ [])
+      × (list_all (is_kept live) before ≡ true)
   pub count : length ds ≤ 16
   pub unused : look live t ≡ None

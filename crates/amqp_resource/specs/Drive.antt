@@ -1,9 +1,9 @@
 -- What driving a list of steps leaves.
-use Rattle.std.specs.Prelude.{ℕ, ◌≡◌, ◌≤◌, ◌+◌, ◌-◌, ◌^◌, ◌⊎◌, Bool, false, not, min, ⊤, Option, Some, None, List, ◌∷◌, ◌++◌, length, take, MatchBool, if◌then◌else◌}
+use Rattle.std.specs.Prelude.{ℕ, ◌≡◌, ◌≤◌, ◌+◌, ◌-◌, ◌^◌, ◌⊎◌, Bool, true, false, not, min, ⊤, Option, Some, None, List, [], ◌∷◌, ◌++◌, length, take, MatchBool, if◌then◌else◌}
 use Rattle.amqp_txn_types.specs.declared.performatives.Frame.{Frame}
-use Rattle.amqp_below.specs.declared.inner_error.SessionInnerError.{SessionInnerError}
-use Rattle.amqp_below.specs.declared.refusal.Refusal.{Refusal}
-use Rattle.amqp_below.specs.Told.{grown}
+use Rattle.amqp_layer.specs.declared.inner_error.SessionInnerError.{SessionInnerError}
+use Rattle.amqp_layer.specs.declared.refusal.Refusal.{Refusal}
+use Rattle.amqp_txn_types.specs.Growing.{grown}
 use Rattle.amqp_record.specs.declared.step.Step.{Step}
 use Rattle.amqp_record.specs.declared.entry.Entry.{Entry}
 use Rattle.amqp_record.specs.declared.stop.Stop.{Stop}
@@ -16,8 +16,8 @@ use Rattle.amqp_record.specs.Work.{pairs}
 use Rattle.amqp_record.specs.Opened.{refuses, attach_refused_count}
 use Rattle.amqp_record.specs.Stops.{code_of}
 use Rattle.amqp_resource.specs.declared.session.TxnSession.{TxnSession}
-use Rattle.amqp_resource.specs.Taking.{TookFrames}
-use Rattle.amqp_resource.specs.Steps.{is_unknown, ended_by, UnderDead, MayFault, AddsRefusal}
+use Rattle.amqp_layer.specs.Taking.{TookFrames}
+use Rattle.amqp_resource.specs.Steps.{is_unknown, ended_by, takes_memory, UnderDead, MayFault, AddsRefusal}
 use Rattle.amqp_resource.specs.Session.{StandsFor, stop_of}
 
 -- the steps are those of the entries, and then these
@@ -38,24 +38,35 @@ abbrev pub IfRefusal : Stop → Type 0 → (SessionInnerError → Type 0) → Ty
 IfRefusal (stops.Fault error) P Q = MatchBool (is_unknown error) P (Q error)
 IfRefusal _ P Q = P
 
+-- memory was wanted before the first entry, or by the next step, which takes some
+abbrev pub WantedMemory : List Step → List Entry → Type 0
+WantedMemory all r =
+    ((r ≡ []) × NextStep all r (λ s. ⊤)) ⊎ NextStep all r (λ s. takes_memory r s ≡ true)
+
 -- why the run stopped: every step has its entry, or the next step is what stopped it
 abbrev pub StopCause : List Step → List Entry → Stop → Type 0
 StopCause all r stops.Done = steps_of r ≡ all
-StopCause all r (stops.Fault error) = NextStep all r (λ s. MatchBool (is_unknown error) (UnderDead r s) (MayFault r s))
+StopCause all r (stops.Fault error) =
+    NextStep all r (λ s. MatchBool (is_unknown error) (UnderDead r s) (MayFault r s))
 StopCause all r (stops.Ended reason) = NextStep all r (λ s. ended_by s ≡ Some reason)
-StopCause all r stops.NoMemory = NextStep all r (λ s. ⊤)
+StopCause all r stops.NoMemory = WantedMemory all r
 
--- what was taken: the pairs of the record, and after a refusal below the first frames of the next step's
-abbrev pub RunTook : Option (List (Frame × List Frame)) → Option (List (Frame × List Frame)) → List Step → List Entry → Stop → ℕ → Type 0
+-- what was taken: the pairs of the record, and after a refusal below the first frames of the next
+-- step's
+abbrev pub RunTook : Option (List (Frame × List Frame)) → Option (List (Frame × List Frame))
+    → List Step → List Entry → Stop → ℕ → Type 0
 RunTook old new all r stop handed =
     IfRefusal stop ((new ≡ grown old (pairs r)) × (handed ≡ 0))
-    (λ error. NextStep all r (λ s. (handed ≤ length (hands r s)) × TookFrames (grown old (pairs r)) new (take handed (hands r s))))
+    (λ error. NextStep all r (λ s. (handed ≤ length (hands r s))
+    × TookFrames (grown old (pairs r)) new (take handed (hands r s))))
 
 -- what was refused: what the record says, and after a refusal below what the next step adds
-abbrev pub RunRefused : Option (List Refusal) → Option (List Refusal) → List Step → List Entry → Stop → ℕ → Type 0
+abbrev pub RunRefused : Option (List Refusal) → Option (List Refusal) → List Step → List Entry
+    → Stop → ℕ → Type 0
 RunRefused old new all r stop handed =
     IfRefusal stop (new ≡ grown old (refuses r))
-    (λ error. NextStep all r (λ s. (more : List Refusal) × AddsRefusal s (hands r s) handed error more × (new ≡ grown old (refuses r ++ more))))
+    (λ error. NextStep all r (λ s. (more : List Refusal)
+    × AddsRefusal s (hands r s) handed error more × (new ≡ grown old (refuses r ++ more))))
 
 -- the session after the run: it stands for the record, or keeps the code of its stop
 abbrev pub RunLeaves : {S : Type 0} → TxnSession S → List Entry → Stop → Type 0
@@ -63,9 +74,11 @@ RunLeaves x r stops.Done = StandsFor x r × (stop_of x ≡ None)
 RunLeaves x r stops.NoMemory = StandsFor x r × (stop_of x ≡ None)
 RunLeaves x r stop = stop_of x ≡ Some (code_of stop)
 
--- the count of refusals rose by one for each refused attach, and by one for a refusal that stopped the run, or stands at its last value
+-- the count of refusals rose by one for each refused attach, and by one for a refusal that stopped
+-- the run, or stands at its last value
 abbrev pub RunRose : ℕ → ℕ → List Entry → Stop → Type 0
-RunRose before now r stop = min (before + attach_refused_count r + (if is_refusal stop then 1 else 0)) (2 ^ 64 - 1) ≤ now
+RunRose before now r stop =
+    min (before + attach_refused_count r + (if is_refusal stop then 1 else 0)) (2 ^ 64 - 1) ≤ now
 
 -- the stop, or want of memory
 abbrev pub StopsWith : Stop → Stop → Type 0

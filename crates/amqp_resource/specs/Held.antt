@@ -8,9 +8,9 @@ use Rattle.std.specs.HashSet.{HashSet, keys, spare as spare_ids}
 use Rattle.amqp_txn_types.specs.declared.id.TransactionId.{TransactionId}
 use Rattle.amqp_txn_types.specs.declared.performatives.Frame.{Frame}
 use Rattle.amqp_record.specs.declared.entry.Entry.{Entry}
-use Rattle.amqp_record.specs.Entries.{same_id}
+use Rattle.amqp_txn_types.specs.Ids.{same_id}
 use Rattle.amqp_record.specs.Links.{is_open, attached_count}
-use Rattle.amqp_record.specs.Live.{is_live, home}
+use Rattle.amqp_record.specs.Live.{is_link, is_live, home}
 use Rattle.amqp_record.specs.Hands.{frames_of}
 use Rattle.amqp_record.specs.Legal.{IsLegal}
 use Rattle.amqp_resource.specs.declared.held.Live.{Live}
@@ -45,20 +45,15 @@ abbrev pub with_frame : Option Kept → Frame → Option Kept
 with_frame None frame = None
 with_frame (Some kept) frame = Some (kept.0, kept.1 ++ frame ∷ [])
 
--- a link declared it, and it is this one
-abbrev pub is_on : ℕ → Option ℕ → Bool
-is_on k None = false
-is_on k (Some j) = j == k
-
 -- something is kept, and this link declared it
 abbrev pub is_kept_on : ℕ → Option Kept → Bool
 is_kept_on k None = false
-is_kept_on k (Some kept) = is_on k kept.0
+is_kept_on k (Some kept) = is_link k kept.0
 
 -- what is kept, unless it was declared on the link
 abbrev pub unless_on : ℕ → Option Kept → Option Kept
 unless_on k None = None
-unless_on k (Some kept) = cond (is_on k kept.0) None (Some kept)
+unless_on k (Some kept) = cond (is_link k kept.0) None (Some kept)
 
 -- the ids of an open link
 abbrev pub ids_on : {S : Type 0} → OpenLinks S → ℕ → Option (List TransactionId)
@@ -75,7 +70,9 @@ is_among t (Some ids) = list_any (same_id t) ids
 
 -- the ids of each link are the live ids that were declared on it
 abbrev pub Tied : Held → Type 0
-Tied h = (k : ℕ) (t : TransactionId) → is_among t (ids_on h.links.entries k) ≡ is_kept_on k (look h.live.entries t)
+Tied h =
+    (k : ℕ) (t : TransactionId) → is_among t (ids_on h.links.entries k) ≡ is_kept_on k
+    (look h.live.entries t)
 
 -- there is room for one more live id, and for one more id of the link
 pub record HasRoom (h : Held) (k : ℕ) : Type 0 where
@@ -90,9 +87,10 @@ pub record SameHeld (old new : Held) : Type 0 where
 
 -- what the record says that is kept for an id: the link that declared it and its frames since
 abbrev pub kept_by : List Entry → TransactionId → Option Kept
-kept_by r t = cond (is_live r t) (Some (Some (home r t), frames_of r t)) None
+kept_by r t = cond (is_live r t) (Some (home r t, frames_of r t)) None
 
--- what is kept stands for the record: the record is legal, each id has what the record says, and so have the links
+-- what is kept stands for the record: the record is legal, each id has what the record says, and so
+-- have the links
 pub record Stands (h : Held) (r : List Entry) : Type 0 where
   pub legal : IsLegal r
   pub tied : Tied h

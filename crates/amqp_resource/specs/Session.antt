@@ -2,8 +2,8 @@
 use Rattle.std.specs.Prelude.{ℕ, ◌≡◌, Bool, Option, Some, None, Result, Ok, Err, List, []}
 use Rattle.amqp_txn_types.specs.declared.id.TransactionId.{TransactionId}
 use Rattle.amqp_txn_types.specs.declared.small.SessionState.TheVariants.{Mapped}
-use Rattle.amqp_below.specs.Drawn.{DrawnIds}
-use Rattle.amqp_below.specs.Told.{Told}
+use Rattle.amqp_ids.specs.Drawn.{DrawnIds}
+use Rattle.amqp_layer.specs.Told.{Told}
 use Rattle.amqp_record.specs.declared.reply.Reply.{Reply}
 use Rattle.amqp_record.specs.declared.entry.Entry.{Entry}
 use Rattle.amqp_record.specs.declared.stop.StopCode.{StopCode}
@@ -36,6 +36,17 @@ stop_of x = x.stop
 abbrev pub refusals_of : {S : Type 0} → TxnSession S → ℕ
 refusals_of x = x.refusals
 
+-- what a session tells of itself: none of the lists, its own count, and what its layer below never
+-- changes
+abbrev pub own_told : {S : Type 0} → (S → Told) → TxnSession S → Told
+own_told told x = record {
+  taken = None;
+  opened = None;
+  refused = None;
+  refusals = refusals_of x;
+  fixed = (told (below_of x)).fixed;
+}
+
 -- how many control links it has opened
 abbrev pub opened_of : {S : Type 0} → TxnSession S → ℕ
 opened_of x = x.held.opened
@@ -48,11 +59,13 @@ FitsTogether x = Fits (held_of x)
 abbrev pub is_live_on : {S : Type 0} → TxnSession S → TransactionId → Bool
 is_live_on x t = is_kept x.held.live.entries t
 
--- a session stands for a record: the record is legal, and the session's live ids with their frames and holders, and its links, are those of the record
+-- a session stands for a record: the record is legal, and the session's live ids with their frames
+-- and holders, and its links, are those of the record
 abbrev pub StandsFor : {S : Type 0} → TxnSession S → List Entry → Type 0
 StandsFor x r = Stands (held_of x) r
 
--- a session is as it was: its live ids with their links and frames, its open links, how many were opened so far, the layer below and the stop
+-- a session is as it was: its live ids with their links and frames, its open links, how many were
+-- opened so far, the layer below and the stop
 pub record SameSession {S : Type 0} (old new : TxnSession S) : Type 0 where
   pub held : SameHeld (held_of old) (held_of new)
   pub below : below_of new ≡ below_of old

@@ -1,4 +1,5 @@
--- What one step is, what it does on a session that stands for a record, and when each answer may come.
+-- What one step is, what it does on a session that stands for a record, and when each answer may
+-- come.
 use Rattle.std.specs.Prelude.{ℕ, Bool, true, false, not, ◌&&◌, ◌≡◌, ◌≤◌, ◌⊎◌, ⊤, Option, Some, None, Result, Ok, Err, List, [], ◌∷◌, ◌++◌, length, take, slice_get, is_some, is_none, MatchBool}
 use Rattle.std.specs.List.{zip}
 use Rattle.amqp_txn_types.specs.declared.id.TransactionId.{TransactionId}
@@ -8,15 +9,16 @@ use Rattle.amqp_txn_types.specs.declared.delivery.ConnectionStopReason.TheVarian
 use Rattle.amqp_txn_types.specs.declared.delivery.SessionStopReason.{SessionStopReason}
 use Rattle.amqp_txn_types.specs.declared.delivery.SessionStopReason.TheVariants as reasons
 use Rattle.amqp_txn_types.specs.declared.performatives.Frame.{Frame}
-use Rattle.amqp_txn_types.specs.Frames.{txn, coord}
+use Rattle.amqp_txn_types.specs.Frames.{txn, is_coordinator_attach}
 use Rattle.amqp_txn_codec.specs.declared.message.ControlMessageBody.{ControlMessageBody}
 use Rattle.amqp_txn_codec.specs.declared.message.ControlMessageBody.TheVariants as messages
 use Rattle.amqp_txn_codec.specs.Reading.{message_of}
-use Rattle.amqp_below.specs.declared.inner_error.SessionInnerError.{SessionInnerError}
-use Rattle.amqp_below.specs.declared.inner_error.SessionInnerError.TheVariants as faults
-use Rattle.amqp_below.specs.declared.refusal.Refusal.{Refusal}
-use Rattle.amqp_below.specs.Drawn.{DrawnIds}
-use Rattle.amqp_below.specs.Told.{Told, grown}
+use Rattle.amqp_layer.specs.declared.inner_error.SessionInnerError.{SessionInnerError}
+use Rattle.amqp_layer.specs.declared.inner_error.SessionInnerError.TheVariants as faults
+use Rattle.amqp_layer.specs.declared.refusal.Refusal.{Refusal}
+use Rattle.amqp_ids.specs.Drawn.{DrawnIds}
+use Rattle.amqp_layer.specs.Told.{Told, refusal_of}
+use Rattle.amqp_txn_types.specs.Growing.{grown}
 use Rattle.amqp_txn_types.specs.Counts.{Rose}
 use Rattle.amqp_record.specs.declared.step.Step.{Step}
 use Rattle.amqp_record.specs.declared.step.Step.TheVariants as steps
@@ -27,13 +29,15 @@ use Rattle.amqp_record.specs.declared.stop.StepError.{StepError}
 use Rattle.amqp_record.specs.declared.stop.StepError.TheVariants as errors
 use Rattle.amqp_record.specs.Links.{is_open}
 use Rattle.amqp_record.specs.Live.{is_live, is_held_on}
-use Rattle.amqp_record.specs.Hands.{is_rollback, hands}
+use Rattle.amqp_record.specs.Hands.{hands}
+use Rattle.amqp_txn_codec.specs.Discharges.{is_rollback}
 use Rattle.amqp_record.specs.Work.{given_by}
-use Rattle.amqp_record.specs.Answers.{Answer, answered_under}
-use Rattle.amqp_record.specs.Opened.{opened_by, refused_by, refusal_of}
+use Rattle.amqp_record.specs.Answers.{Answer}
+use Rattle.amqp_txn_types.specs.Presumptive.{answered_under}
+use Rattle.amqp_record.specs.Opened.{opened_by, refused_by}
 use Rattle.amqp_resource.specs.declared.held.Held.{Held}
 use Rattle.amqp_resource.specs.Held.{Stands}
-use Rattle.amqp_resource.specs.Taking.{TookFrames}
+use Rattle.amqp_layer.specs.Taking.{TookFrames}
 
 -- a step with its draws and reply
 abbrev pub entry_of : Step → DrawnIds → Reply → Entry
@@ -84,15 +88,16 @@ IsPost _ = ⊥
 
 -- the step is an attach to a coordinator
 abbrev pub IsControlAttach : Step → Type 0
-IsControlAttach (steps.Frame frame) = coord frame ≡ true
+IsControlAttach (steps.Frame frame) = is_coordinator_attach frame ≡ true
 IsControlAttach _ = ⊥
 
 -- a frame calls below where it is plain, or is answered with a disposition
 abbrev pub FrameMayFault : List Entry → Frame → Option TransactionId → Type 0
-FrameMayFault r frame None = coord frame ≡ false
+FrameMayFault r frame None = is_coordinator_attach frame ≡ false
 FrameMayFault r frame (Some t) = (is_live r t ≡ true) × (1 ≤ length (answered_under t frame))
 
--- a step that a refusal below may stop: a plain frame, a post that is answered with a disposition, a commit with at least one frame
+-- a step that a refusal below may stop: a plain frame, a post that is answered with a disposition,
+-- a commit with at least one frame
 abbrev pub MayFault : List Entry → Step → Type 0
 MayFault r (steps.Frame frame) = FrameMayFault r frame (txn frame)
 MayFault r (steps.Control k payload) = 1 ≤ length (hands r (steps.Control k payload))
@@ -107,7 +112,8 @@ is_live_under r (Some t) = is_live r t
 abbrev pub message_takes_memory : List Entry → ℕ → Option ControlMessageBody → Bool
 message_takes_memory r k None = false
 message_takes_memory r k (Some (messages.Declare declare)) = is_none declare.global_id
-message_takes_memory r k (Some (messages.Discharge discharge)) = not (is_rollback discharge.fail) && is_held_on r k discharge.txn_id
+message_takes_memory r k (Some (messages.Discharge discharge)) =
+    not (is_rollback discharge.fail) && is_held_on r k discharge.txn_id
 
 -- a connection's stop with an error
 abbrev pub stop_takes_memory : ConnectionStopReason → Bool
@@ -126,7 +132,8 @@ has_error (reasons.ConnectionStopped reason) = stop_takes_memory reason
 -- the steps that take memory; all others never want it
 abbrev pub takes_memory : List Entry → Step → Bool
 takes_memory r (steps.Frame frame) = is_live_under r (txn frame)
-takes_memory r (steps.Control k payload) = is_open r k && message_takes_memory r k (message_of payload)
+takes_memory r (steps.Control k payload) =
+    is_open r k && message_takes_memory r k (message_of payload)
 takes_memory r (steps.LinkEnd k) = false
 takes_memory r (steps.LocalEnd error) = is_some error
 takes_memory r (steps.RemoteEnd error) = is_some error
@@ -144,11 +151,13 @@ abbrev pub fault_of : SessionInnerError → SessionInnerError
 fault_of faults.UnknownTxnId = faults.IllegalState
 fault_of error = error
 
--- what a fault adds to what was refused: the frame at the place of those that the step hands, with the layer's own error;
--- or nothing, where an outgoing disposition may have been refused
+-- what a fault adds to what was refused: the frame at the place of those that the step hands, with
+-- the layer's own error; or nothing, where an outgoing disposition may have been refused
 abbrev pub AddsRefusal : Step → List Frame → ℕ → SessionInnerError → List Refusal → Type 0
 AddsRefusal s handed at error more =
-    (own : SessionInnerError) × (error ≡ fault_of own) × (((f : Frame) × (slice_get handed at ≡ Some f) × (more ≡ refusal_of f own)) ⊎ ((more ≡ []) × (IsPost s ⊎ (1 ≤ at))))
+    (own : SessionInnerError) × (error ≡ fault_of own)
+    × (((f : Frame) × (slice_get handed at ≡ Some f) × (more ≡ refusal_of f own))
+    ⊎ ((more ≡ []) × (IsPost s ⊎ (1 ≤ at))))
 
 -- ---- what an answer leaves
 
@@ -158,7 +167,8 @@ TookHands old new r s reply = new.taken ≡ grown old.taken (zip (hands r s) (gi
 
 -- below took the first frames of those that the step hands
 abbrev pub TookFirst : Told → Told → List Entry → Step → ℕ → Type 0
-TookFirst old new r s handed = (handed ≤ length (hands r s)) × TookFrames old.taken new.taken (take handed (hands r s))
+TookFirst old new r s handed =
+    (handed ≤ length (hands r s)) × TookFrames old.taken new.taken (take handed (hands r s))
 
 -- below opened what the reply says
 abbrev pub OpenedBy : Told → Told → Step → Reply → Type 0
@@ -170,10 +180,14 @@ RefusedBy old new s reply = new.refused ≡ grown old.refused (refused_by s repl
 
 -- below refused what the fault adds
 abbrev pub RefusedAdds : Told → Told → List Entry → Step → SessionInnerError → ℕ → Type 0
-RefusedAdds old new r s error handed = (more : List Refusal) × AddsRefusal s (hands r s) handed error more × (new.refused ≡ grown old.refused more)
+RefusedAdds old new r s error handed =
+    (more : List Refusal) × AddsRefusal s (hands r s) handed error more
+    × (new.refused ≡ grown old.refused more)
 
--- the reply is allowed, the session stands for the record with its entry, and below took what the step hands
-pub record Went (h : Held) (old new : Told) (r : List Entry) (s : Step) (d : DrawnIds) (reply : Reply) : Type 0 where
+-- the reply is allowed, the session stands for the record with its entry, and below took what the
+-- step hands
+pub record StepAnswered (h : Held) (old new : Told) (r : List Entry) (s : Step) (d : DrawnIds)
+    (reply : Reply) : Type 0 where
   pub answer : Answer r s d.ids reply
   pub stands : Stands h (r ++ entry_of s d reply ∷ [])
   pub taken : TookHands old new r s reply
@@ -181,32 +195,38 @@ pub record Went (h : Held) (old new : Told) (r : List Entry) (s : Step) (d : Dra
   pub refused : RefusedBy old new s reply
 
 -- a refusal below stopped the step: the first frames of what it hands were taken
-pub record Refused (old new : Told) (r : List Entry) (s : Step) (error : SessionInnerError) (handed : ℕ) : Type 0 where
+pub record Refused (old new : Told) (r : List Entry) (s : Step) (error : SessionInnerError)
+    (handed : ℕ) : Type 0 where
   pub fits : MayFault r s
   pub took : TookFirst old new r s handed
   pub opened : new.opened ≡ old.opened
   pub refused : RefusedAdds old new r s error handed
 
 -- nothing was done, for want of memory
-pub record Stayed (h : Held) (r : List Entry) (s : Step) : Type 0 where
+pub record NothingDone (h : Held) (r : List Entry) (s : Step) : Type 0 where
   pub stands : Stands h r
   pub takes : takes_memory r s ≡ true
 
 -- by the answer
-abbrev pub StepGave : Held → Told → Told → List Entry → Step → Result (DrawnIds × Reply) StepError → Type 0
-StepGave h old new r s (Ok out) = Went h old new r s out.0 out.1
-StepGave h old new r s (Err (errors.Fault error handed)) = MatchBool (is_unknown error) (UnderDead r s × (handed ≡ 0)) (Refused old new r s error handed)
+abbrev pub StepGave : Held → Told → Told → List Entry → Step → Result (DrawnIds × Reply) StepError
+    → Type 0
+StepGave h old new r s (Ok out) = StepAnswered h old new r s out.0 out.1
+StepGave h old new r s (Err (errors.Fault error handed)) =
+    MatchBool (is_unknown error) (UnderDead r s × (handed ≡ 0)) (Refused old new r s error handed)
 StepGave h old new r s (Err (errors.Ended reason)) = ended_by s ≡ Some reason
 StepGave h old new r s (Err (errors.Stopped code)) = ⊥
-StepGave h old new r s (Err errors.NoMemory) = Stayed h r s
+StepGave h old new r s (Err errors.NoMemory) = NothingDone h r s
 
 -- what a step does, whatever record the session stood for
-abbrev pub Steps : Held → Held → Told → Told → Step → Result (DrawnIds × Reply) StepError → Type 0
-Steps old new told told2 s result = (r : List Entry) → Stands old r → StepGave new told told2 r s result
+abbrev pub StepDoes : Held → Held → Told → Told → Step → Result (DrawnIds × Reply) StepError
+    → Type 0
+StepDoes old new told told2 s result =
+    (r : List Entry) → Stands old r → StepGave new told told2 r s result
 
 -- a step that makes no call below
-abbrev pub StepsHere : Held → Held → Step → Result (DrawnIds × Reply) StepError → Type 0
-StepsHere old new s result = (r : List Entry) → Stands old r → (told : Told) → StepGave new told told r s result
+abbrev pub StepDoesHere : Held → Held → Step → Result (DrawnIds × Reply) StepError → Type 0
+StepDoesHere old new s result =
+    (r : List Entry) → Stands old r → (told : Told) → StepGave new told told r s result
 
 -- ---- causes
 
@@ -218,19 +238,44 @@ IfAttachRefused _ P = ⊤
 -- when each answer may come on a session that hasn't stopped, whatever it stands for
 abbrev pub StepCause : ℕ → ℕ → Step → Result (DrawnIds × Reply) StepError → Type 0
 StepCause before now s (Ok out) = IfAttachRefused out.1 (Rose before now)
-StepCause before now s (Err (errors.Fault error handed)) = MatchBool (is_unknown error) (IsPost s × (handed ≡ 0)) (Rose before now)
+StepCause before now s (Err (errors.Fault error handed)) =
+    MatchBool (is_unknown error) (IsPost s × (handed ≡ 0)) (Rose before now)
 StepCause before now s (Err (errors.Ended reason)) = ended_by s ≡ Some reason
 StepCause before now s (Err (errors.Stopped code)) = ⊥
 StepCause before now s (Err errors.NoMemory) = Unit {0}
 
--- an error without a call below: an id that isn't live, an end, a stop before, or want of memory of the session's own
-abbrev pub OnOwnError : Result (DrawnIds × Reply) StepError → Type 0 → Type 0
-OnOwnError (Ok out) P = ⊤
-OnOwnError (Err (errors.Fault error handed)) P = MatchBool (is_unknown error) P ⊤
-OnOwnError (Err _) P = P
+-- the message is a discharge that rolls back
+abbrev pub rolls_back_by : Option ControlMessageBody → Bool
+rolls_back_by (Some (messages.Discharge discharge)) = is_rollback discharge.fail
+rolls_back_by _ = false
+
+-- the step asks for a rollback
+abbrev pub asks_rollback : Step → Bool
+asks_rollback (steps.Control k payload) = rolls_back_by (message_of payload)
+asks_rollback _ = false
+
+-- the replies that come without a call below: to the end of a link, to a message or an end on a
+-- link that isn't open, to a payload that closes its link, to a declare, to a message that is
+-- rejected, and to a rollback that is accepted
+abbrev pub calls_nothing : Step → Reply → Bool
+calls_nothing s replies.LinkEnded = true
+calls_nothing s replies.NoLink = true
+calls_nothing s (replies.LinkClosed error) = true
+calls_nothing s (replies.Declared id) = true
+calls_nothing s (replies.Rejected error text) = true
+calls_nothing s (replies.Accepted echoes) = asks_rollback s
+calls_nothing s _ = false
+
+-- an answer without a call below: such a reply, an id that isn't live, an end, a stop before, or
+-- want of memory of the session's own
+abbrev pub OnNoCall : Step → Result (DrawnIds × Reply) StepError → Type 0 → Type 0
+OnNoCall s (Ok out) P = MatchBool (calls_nothing s out.1) P ⊤
+OnNoCall s (Err (errors.Fault error handed)) P = MatchBool (is_unknown error) P ⊤
+OnNoCall s (Err _) P = P
 
 -- a refusal below, with its fault and how many frames were taken
-abbrev pub IfRefused : Result (DrawnIds × Reply) StepError → (SessionInnerError → ℕ → Type 0) → Type 0
+abbrev pub IfRefused : Result (DrawnIds × Reply) StepError → (SessionInnerError → ℕ → Type 0)
+    → Type 0
 IfRefused (Err (errors.Fault error handed)) P = MatchBool (is_unknown error) ⊤ (P error handed)
 IfRefused _ P = ⊤
 

@@ -6,17 +6,17 @@ use Rattle.amqp_txn_types.specs.declared.performatives.Frame.{Frame}
 use Rattle.amqp_txn_types.specs.declared.small.Accepted.{Accepted}
 use Rattle.amqp_txn_types.specs.declared.small.TransactionError.{TransactionError}
 use Rattle.amqp_txn_types.specs.declared.small.TransactionError.TheVariants as conditions
-use Rattle.amqp_below.specs.declared.answers.Answers.{Answers}
-use Rattle.amqp_below.specs.declared.inner_error.SessionInnerError.{SessionInnerError}
-use Rattle.amqp_below.specs.declared.transacting.AllocTxnIdError.{AllocTxnIdError}
-use Rattle.amqp_below.specs.declared.transacting.AllocTxnIdError.TheVariants as allocations
-use Rattle.amqp_below.specs.declared.transacting.CommitFault.{CommitFault}
-use Rattle.amqp_below.specs.declared.transacting.CommitFault.TheVariants as commit_faults
-use Rattle.amqp_below.specs.Drawn.{DrawnIds}
-use Rattle.amqp_below.specs.Told.{Told}
+use Rattle.amqp_layer.specs.declared.answers.Answers.{Answers}
+use Rattle.amqp_layer.specs.declared.inner_error.SessionInnerError.{SessionInnerError}
+use Rattle.amqp_sessions.specs.declared.transacting.AllocTxnIdError.{AllocTxnIdError}
+use Rattle.amqp_sessions.specs.declared.transacting.AllocTxnIdError.TheVariants as allocations
+use Rattle.amqp_sessions.specs.declared.transacting.CommitFault.{CommitFault}
+use Rattle.amqp_sessions.specs.declared.transacting.CommitFault.TheVariants as commit_faults
+use Rattle.amqp_ids.specs.Drawn.{DrawnIds}
+use Rattle.amqp_layer.specs.Told.{Told}
 use Rattle.amqp_record.specs.declared.stop.StepError.{StepError}
 use Rattle.amqp_record.specs.declared.stop.StepError.TheVariants as errors
-use Rattle.amqp_record.specs.Entries.{same_id}
+use Rattle.amqp_txn_types.specs.Ids.{same_id}
 use Rattle.amqp_resource.specs.declared.held.Held.{Held}
 use Rattle.amqp_resource.specs.Committing.{HandsAll}
 use Rattle.amqp_resource.specs.Draws.{DrewLive, DrewUnused, is_kept}
@@ -34,35 +34,45 @@ frames_kept live id = frames_in (look live id)
 
 -- the id is live, on no link and with no frames; all else is as it was
 pub record Added (old new : Held) (id : TransactionId) : Type 0 where
-  pub live : (t : TransactionId) → look new.live.entries t ≡ cond (same_id t id) (Some (None, [])) (look old.live.entries t)
+  pub live : (t : TransactionId) → look new.live.entries t ≡ cond (same_id t id) (Some (None, []))
+      (look old.live.entries t)
   pub links : (k : ℕ) → ids_on new.links.entries k ≡ ids_on old.links.entries k
   pub opened : new.opened ≡ old.opened
 
--- the id is live no more; the same links are open, and if the ids of each were the live ids declared on it they still are; all else is as it was
+-- the id is live no more; the same links are open, and if the ids of each were the live ids
+-- declared on it they still are; all else is as it was
 pub record Ended (old new : Held) (id : TransactionId) : Type 0 where
   pub live : (t : TransactionId) → look new.live.entries t ≡ look_without id old.live.entries t
   pub links : (k : ℕ) → is_in new.links.entries k ≡ is_in old.links.entries k
   pub tied : Tied old → Tied new
   pub opened : new.opened ≡ old.opened
 
--- an allocation: the ids drawn were live but for the last, which now is; or all 16 of them were live
+-- an allocation: the ids drawn were live but for the last, which now is; or all 16 of them were
+-- live
 abbrev pub AllocatedIn : Held → Held → Result DrawnIds AllocTxnIdError → Type 0
-AllocatedIn old new (Ok drawn) = (id : TransactionId) × DrewUnused old.live.entries drawn.ids id × Added old new id
-AllocatedIn old new (Err (allocations.IdsRepeat drawn)) = DrewLive old.live.entries drawn.ids × SameHeld old new
+AllocatedIn old new (Ok drawn) =
+    (id : TransactionId) × DrewUnused old.live.entries drawn.ids id × Added old new id
+AllocatedIn old new (Err (allocations.IdsRepeat drawn)) =
+    DrewLive old.live.entries drawn.ids × SameHeld old new
 AllocatedIn old new (Err allocations.NotImplemented) = ⊥
 AllocatedIn old new (Err allocations.NoMemory) = SameHeld old new
 
 -- the layer below refused a frame of a commit; its unknown id is given as an illegal state
 abbrev pub RefusedCommit : Told → Told → List Frame → SessionInnerError → ℕ → Type 0
 RefusedCommit told now kept error handed =
-    (own : SessionInnerError) × (error ≡ fault_of own) × HandsAll told now kept (Err (record { error = own; handed = handed }))
+    (own : SessionInnerError) × (error ≡ fault_of own)
+    × HandsAll told now kept (Err (record { error = own; handed = handed }))
 
 -- a commit of a live id with these frames, by its answer: they were handed, all of them or the
 -- first, and the id ended; or memory lacked
-abbrev pub CommittedWith : Held → Held → Told → Told → TransactionId → List Frame → Type 0 → Result (List Answers) CommitFault → Type 0
-CommittedWith old new told now id kept Untouched (Ok echoes) = Ended old new id × HandsAll told now kept (Ok echoes)
-CommittedWith old new told now id kept Untouched (Err commit_faults.NoMemory) = SameHeld old new × Untouched
-CommittedWith old new told now id kept Untouched (Err (commit_faults.Refused error handed)) = Ended old new id × RefusedCommit told now kept error handed
+abbrev pub CommittedWith : Held → Held → Told → Told → TransactionId → List Frame → Type 0
+    → Result (List Answers) CommitFault → Type 0
+CommittedWith old new told now id kept Untouched (Ok echoes) =
+    Ended old new id × HandsAll told now kept (Ok echoes)
+CommittedWith old new told now id kept Untouched (Err commit_faults.NoMemory) =
+    SameHeld old new × Untouched
+CommittedWith old new told now id kept Untouched (Err (commit_faults.Refused error handed)) =
+    Ended old new id × RefusedCommit told now kept error handed
 
 -- the fault of a commit as that of a step
 abbrev pub step_error_of : CommitFault → StepError
@@ -70,15 +80,20 @@ step_error_of commit_faults.NoMemory = errors.NoMemory
 step_error_of (commit_faults.Refused error handed) = errors.Fault error handed
 
 -- a commit, by its answer: UnknownId where the id isn't live, else that of its frames
-abbrev pub CommittedIn : Held → Held → Told → Told → TransactionId → Type 0 → Result (Result (List Answers) TransactionError) CommitFault → Type 0
+abbrev pub CommittedIn : Held → Held → Told → Told → TransactionId → Type 0
+    → Result (Result (List Answers) TransactionError) CommitFault → Type 0
 CommittedIn old new told now id Untouched (Ok (Ok echoes)) =
-    (is_kept old.live.entries id ≡ true) × CommittedWith old new told now id (frames_kept old.live.entries id) Untouched (Ok echoes)
+    (is_kept old.live.entries id ≡ true)
+    × CommittedWith old new told now id (frames_kept old.live.entries id) Untouched (Ok echoes)
 CommittedIn old new told now id Untouched (Ok (Err error)) =
-    (is_kept old.live.entries id ≡ false) × (error ≡ conditions.UnknownId) × SameHeld old new × Untouched
+    (is_kept old.live.entries id ≡ false) × (error ≡ conditions.UnknownId) × SameHeld old new
+    × Untouched
 CommittedIn old new told now id Untouched (Err fault) =
-    (is_kept old.live.entries id ≡ true) × CommittedWith old new told now id (frames_kept old.live.entries id) Untouched (Err fault)
+    (is_kept old.live.entries id ≡ true)
+    × CommittedWith old new told now id (frames_kept old.live.entries id) Untouched (Err fault)
 
 -- a rollback: a live id ended
 abbrev pub RolledBackIn : Held → Held → TransactionId → Result Accepted TransactionError → Type 0
 RolledBackIn old new id (Ok accepted) = (is_kept old.live.entries id ≡ true) × Ended old new id
-RolledBackIn old new id (Err error) = (is_kept old.live.entries id ≡ false) × (error ≡ conditions.UnknownId) × SameHeld old new
+RolledBackIn old new id (Err error) =
+    (is_kept old.live.entries id ≡ false) × (error ≡ conditions.UnknownId) × SameHeld old new

@@ -1,11 +1,11 @@
 //! One step of a session that hasn't stopped.
 
 ghost use Rattle.std.specs.Prelude.{◌≡◌, ◌≤◌, ◌<◌, ◌-◌, ◌^◌, IfOk, OnErr};
-ghost use Rattle.amqp_below.specs.Ids.{Drew};
+ghost use Rattle.amqp_ids.specs.Ids.{Drew};
 ghost use Rattle.amqp_record.specs.declared.step.Step.TheVariants as steps;
 ghost use Rattle.amqp_resource.specs.Held.{SameHeld};
 ghost use Rattle.amqp_resource.specs.Keeping.{Fits, Keeps};
-ghost use Rattle.amqp_resource.specs.Steps.{Steps, StepCause, AnswersEnd, OnNoMemory, OnOwnError, ended_by};
+ghost use Rattle.amqp_resource.specs.Steps.{StepDoes, StepCause, AnswersEnd, OnNoMemory, OnNoCall, ended_by};
 
 use crate::declaring::{declare_step, global_step};
 use crate::discharging::discharge_step;
@@ -13,7 +13,8 @@ use crate::ending::{end_locally, end_remotely, end_with_connection};
 use crate::frame_steps::frame_step;
 use crate::held::{Held, has_link};
 use crate::link_steps::{close_step, link_end_step, no_link_step};
-use amqp_below::{Drawn, IdSource, LayerBelow};
+use amqp_ids::{Drawn, IdSource};
+use amqp_layer::LayerBelow;
 use amqp_record::{Reply, Step, StepError};
 use amqp_txn_codec::{ControlMessageBody, Declare, decode};
 use amqp_txn_types::Payload;
@@ -28,11 +29,14 @@ fn control_step<S: LayerBelow, G: IdSource>(
     payload: &Payload,
     ids: &mut G,
 ) -> Result<(Drawn, Reply), StepError>
-    ensures goes { Steps held.old held.new (S.told below.old) (S.told below.new) (steps.Control link payload.now) result }
-    ensures keeps { Fits held.old → Keeps held.old held.new (S.told below.old) (S.told below.new) (steps.Control link payload.now) result }
-    ensures cause { StepCause (S.told below.old).refusals (S.told below.new).refusals (steps.Control link payload.now) result }
+    ensures goes { StepDoes held.old held.new (S.told below.old) (S.told below.new)
+        (steps.Control link payload.now) result }
+    ensures keeps { Fits held.old → Keeps held.old held.new (S.told below.old) (S.told below.new)
+        (steps.Control link payload.now) result }
+    ensures cause { StepCause (S.told below.old).refusals (S.told below.new).refusals
+        (steps.Control link payload.now) result }
     ensures same { OnNoMemory result (SameHeld held.old held.new) }
-    ensures untouched { OnOwnError result (below.new ≡ below.old) }
+    ensures untouched { OnNoCall (steps.Control link payload.now) result (below.new ≡ below.old) }
     ensures fixed { (S.told below.new).fixed ≡ (S.told below.old).fixed }
     ensures later { (S.told below.old).refusals ≤ (S.told below.new).refusals }
     ensures drew { IfOk result (λ out. Drew (G.next ids.old) (G.next ids.new) out.0.ids) }
@@ -61,7 +65,7 @@ fn control_step<S: LayerBelow, G: IdSource>(
 }
 
 /// One step of a session that hasn't stopped.
-pub fn act<S: LayerBelow, G: IdSource>(
+pub fn take_step<S: LayerBelow, G: IdSource>(
     held: &mut Held,
     below: &mut S,
     alloc: Global,
@@ -69,12 +73,15 @@ pub fn act<S: LayerBelow, G: IdSource>(
     ids: &mut G,
 ) -> Result<(Drawn, Reply), StepError>
     requires room { held.old.opened < 2 ^ 64 - 1 }
-    ensures goes { Steps held.old held.new (S.told below.old) (S.told below.new) step.now result }
-    ensures keeps { Fits held.old → Keeps held.old held.new (S.told below.old) (S.told below.new) step.now result }
-    ensures cause { StepCause (S.told below.old).refusals (S.told below.new).refusals step.now result }
+    ensures goes { StepDoes held.old held.new (S.told below.old) (S.told below.new) step.now
+        result }
+    ensures keeps { Fits held.old → Keeps held.old held.new (S.told below.old) (S.told below.new)
+        step.now result }
+    ensures cause { StepCause (S.told below.old).refusals (S.told below.new).refusals step.now
+        result }
     ensures ended { AnswersEnd (ended_by step.now) result }
     ensures same { OnNoMemory result (SameHeld held.old held.new) }
-    ensures untouched { OnOwnError result (below.new ≡ below.old) }
+    ensures untouched { OnNoCall step.now result (below.new ≡ below.old) }
     ensures fixed { (S.told below.new).fixed ≡ (S.told below.old).fixed }
     ensures later { (S.told below.old).refusals ≤ (S.told below.new).refusals }
     ensures drew { IfOk result (λ out. Drew (G.next ids.old) (G.next ids.new) out.0.ids) }

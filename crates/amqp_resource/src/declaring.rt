@@ -3,20 +3,21 @@
 ghost use Rattle.std.specs.Prelude.{◌≡◌, ◌≤◌, ℕ, [], true, Some, None, MatchOption, IfOk, OnErr};
 ghost use Rattle.amqp_txn_codec.specs.Reading.{message_of};
 ghost use Rattle.amqp_txn_codec.specs.declared.message.ControlMessageBody.TheVariants as messages;
-ghost use Rattle.amqp_below.specs.Ids.{Drew};
-ghost use Rattle.amqp_below.specs.Transacting.{Allocates};
-ghost use Rattle.amqp_below.specs.Told.{Told};
+ghost use Rattle.amqp_ids.specs.Ids.{Drew};
+ghost use Rattle.amqp_sessions.specs.Transacting.{Allocates};
+ghost use Rattle.amqp_layer.specs.Told.{Told};
 ghost use Rattle.amqp_record.specs.declared.step.Step.TheVariants as steps;
 ghost use Rattle.amqp_resource.specs.Held.{SameHeld, is_in};
 ghost use Rattle.amqp_resource.specs.Draws.{DrewUnused, DrewLive};
 ghost use Rattle.amqp_resource.specs.Transacting.{AllocatedIn};
 ghost use Rattle.amqp_resource.specs.Keeping.{Fits, Keeps};
-ghost use Rattle.amqp_resource.specs.Steps.{StepsHere, StepCause, OnNoMemory, nothing_drawn};
+ghost use Rattle.amqp_resource.specs.Steps.{StepDoesHere, StepCause, OnNoMemory, nothing_drawn};
 
 use crate::held::{Held, LiveIds, add_live, declare_on, has_id, make_room};
 use crate::outcomes::no_draws;
-use amqp_below::{AllocTxnIdError, Drawn, IdSource};
+use amqp_ids::{Drawn, IdSource};
 use amqp_record::{RejectText, Reply, StepError};
+use amqp_sessions::AllocTxnIdError;
 use amqp_txn_types::{Payload, TransactionError, TransactionId};
 use std::alloc::Global;
 
@@ -28,10 +29,12 @@ pub fn global_step(
     payload: &Payload,
     global: TransactionId,
 ) -> Result<(Drawn, Reply), StepError>
-    requires message { message_of payload.now ≡ Some (messages.Declare (record { global_id = Some global })) }
+    requires message { message_of payload.now ≡ Some (messages.Declare
+        (record { global_id = Some global })) }
     requires opened { is_in held.now.links.entries link ≡ true }
-    ensures goes { StepsHere held.now held.now (steps.Control link payload.now) result }
-    ensures keeps { (told : Told) → Fits held.now → Keeps held.now held.now told told (steps.Control link payload.now) result }
+    ensures goes { StepDoesHere held.now held.now (steps.Control link payload.now) result }
+    ensures keeps { (told : Told) → Fits held.now
+        → Keeps held.now held.now told told (steps.Control link payload.now) result }
     ensures cause { (n : ℕ) → StepCause n n (steps.Control link payload.now) result }
     ensures same { OnNoMemory result (SameHeld held.now held.now) }
     ensures draws { IfOk result (λ out. out.0 ≡ nothing_drawn) }
@@ -49,7 +52,8 @@ pub fn global_step(
 fn draw_unused<G: IdSource>(live: &LiveIds, ids: &mut G, drawn: &mut Drawn) -> Option<TransactionId>
     requires none { drawn.old.ids ≡ [] }
     requires room { 16 ≤ drawn.old.spare }
-    ensures unused { MatchOption result (DrewLive live.now.entries drawn.new.ids) (λ id. DrewUnused live.now.entries drawn.new.ids id) }
+    ensures unused { MatchOption result (DrewLive live.now.entries drawn.new.ids)
+        (λ id. DrewUnused live.now.entries drawn.new.ids id) }
     ensures drew { Drew (G.next ids.old) (G.next ids.new) drawn.new.ids }
     ensures start { G.start ids.new ≡ G.start ids.old }
 {
@@ -71,10 +75,12 @@ pub fn declare_step<G: IdSource>(
     payload: &Payload,
     ids: &mut G,
 ) -> Result<(Drawn, Reply), StepError>
-    requires message { message_of payload.now ≡ Some (messages.Declare (record { global_id = None })) }
+    requires message { message_of payload.now ≡ Some (messages.Declare
+        (record { global_id = None })) }
     requires opened { is_in held.old.links.entries link ≡ true }
-    ensures goes { StepsHere held.old held.new (steps.Control link payload.now) result }
-    ensures keeps { (told : Told) → Fits held.old → Keeps held.old held.new told told (steps.Control link payload.now) result }
+    ensures goes { StepDoesHere held.old held.new (steps.Control link payload.now) result }
+    ensures keeps { (told : Told) → Fits held.old
+        → Keeps held.old held.new told told (steps.Control link payload.now) result }
     ensures cause { (n : ℕ) → StepCause n n (steps.Control link payload.now) result }
     ensures same { OnNoMemory result (SameHeld held.old held.new) }
     ensures drew { IfOk result (λ out. Drew (G.next ids.old) (G.next ids.new) out.0.ids) }
@@ -109,7 +115,7 @@ pub fn allocate<G: IdSource>(
     alloc: Global,
     ids: &mut G,
 ) -> Result<Drawn, AllocTxnIdError>
-    ensures gave { AllocatedIn held.old held.new result }
+    ensures answer { AllocatedIn held.old held.new result }
     ensures fits { Fits held.old → Fits held.new }
     ensures drew { Allocates (G.next ids.old) (G.next ids.new) result }
     ensures start { G.start ids.new ≡ G.start ids.old }

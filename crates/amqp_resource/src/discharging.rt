@@ -11,14 +11,16 @@ ghost use Rattle.amqp_resource.specs.Draws.{is_kept};
 ghost use Rattle.amqp_resource.specs.Held.{SameHeld, is_in};
 ghost use Rattle.amqp_resource.specs.Transacting.{CommittedIn, CommittedWith, RolledBackIn, frames_kept, step_error_of};
 ghost use Rattle.amqp_resource.specs.Keeping.{Fits, Keeps};
-ghost use Rattle.amqp_resource.specs.Steps.{Steps, StepCause, OnNoMemory, OnOwnError, nothing_drawn};
+ghost use Rattle.amqp_resource.specs.Steps.{StepDoes, StepCause, OnNoMemory, OnNoCall, nothing_drawn};
 
 use crate::committing::hand_all;
 use crate::held::{Held, Live, find, has_id, is_declared_on, take};
 use crate::outcomes::{fault_of, no_draws};
-use amqp_below::{CommitFault, Drawn, Echoes, LayerBelow};
-use amqp_record::{RejectText, Reply, StepError, rolls_back};
-use amqp_txn_codec::Discharge;
+use amqp_ids::Drawn;
+use amqp_layer::{Echoes, LayerBelow};
+use amqp_record::{RejectText, Reply, StepError};
+use amqp_sessions::CommitFault;
+use amqp_txn_codec::{Discharge, rolls_back};
 use amqp_txn_types::{Accepted, Payload, TransactionError, TransactionId};
 use std::alloc::Global;
 
@@ -32,8 +34,8 @@ fn absent() -> Reply
     }
 }
 
-/// Commits a live id with so many frames: room for the answers first, then it ends and its frames are
-/// handed.
+/// Commits a live id with so many frames: room for the answers first, then it ends and its frames
+/// are handed.
 fn commit_live<S: LayerBelow>(
     held: &mut Held,
     below: &mut S,
@@ -43,7 +45,8 @@ fn commit_live<S: LayerBelow>(
 ) -> Result<Echoes, CommitFault>
     requires live { is_kept held.old.live.entries id ≡ true }
     requires count { count ≡ length (frames_kept held.old.live.entries id) }
-    ensures gave { CommittedWith held.old held.new (S.told below.old) (S.told below.new) id (frames_kept held.old.live.entries id) (below.new ≡ below.old) result }
+    ensures answer { CommittedWith held.old held.new (S.told below.old) (S.told below.new) id
+        (frames_kept held.old.live.entries id) (below.new ≡ below.old) result }
     ensures fits { Fits held.old → Fits held.new }
     ensures fixed { (S.told below.new).fixed ≡ (S.told below.old).fixed }
     ensures later { (S.told below.old).refusals ≤ (S.told below.new).refusals }
@@ -84,11 +87,14 @@ pub fn discharge_step<S: LayerBelow>(
 ) -> Result<(Drawn, Reply), StepError>
     requires message { message_of payload.now ≡ Some (messages.Discharge discharge) }
     requires opened { is_in held.old.links.entries link ≡ true }
-    ensures goes { Steps held.old held.new (S.told below.old) (S.told below.new) (steps.Control link payload.now) result }
-    ensures keeps { Fits held.old → Keeps held.old held.new (S.told below.old) (S.told below.new) (steps.Control link payload.now) result }
-    ensures cause { StepCause (S.told below.old).refusals (S.told below.new).refusals (steps.Control link payload.now) result }
+    ensures goes { StepDoes held.old held.new (S.told below.old) (S.told below.new)
+        (steps.Control link payload.now) result }
+    ensures keeps { Fits held.old → Keeps held.old held.new (S.told below.old) (S.told below.new)
+        (steps.Control link payload.now) result }
+    ensures cause { StepCause (S.told below.old).refusals (S.told below.new).refusals
+        (steps.Control link payload.now) result }
     ensures same { OnNoMemory result (SameHeld held.old held.new) }
-    ensures untouched { OnOwnError result (below.new ≡ below.old) }
+    ensures untouched { OnNoCall (steps.Control link payload.now) result (below.new ≡ below.old) }
     ensures fixed { (S.told below.new).fixed ≡ (S.told below.old).fixed }
     ensures later { (S.told below.old).refusals ≤ (S.told below.new).refusals }
     ensures draws { IfOk result (λ out. out.0 ≡ nothing_drawn) }
@@ -118,8 +124,10 @@ pub fn commit_kept<S: LayerBelow>(
     alloc: Global,
     id: TransactionId,
 ) -> Result<Result<Echoes, TransactionError>, CommitFault>
-    ensures gave { CommittedIn held.old held.new (S.told below.old) (S.told below.new) id (below.new ≡ below.old) result }
+    ensures answer { CommittedIn held.old held.new (S.told below.old) (S.told below.new) id
+        (below.new ≡ below.old) result }
     ensures fits { Fits held.old → Fits held.new }
+    ensures fixed { (S.told below.new).fixed ≡ (S.told below.old).fixed }
 {
     let Some(one) = find(&held.live, id) else {
         return Ok(Err(TransactionError::UnknownId));
@@ -133,7 +141,7 @@ pub fn commit_kept<S: LayerBelow>(
 
 /// Rolls an id back, whichever link declared it: it ends and its frames are let go.
 pub fn roll_back_kept(held: &mut Held, id: TransactionId) -> Result<Accepted, TransactionError>
-    ensures gave { RolledBackIn held.old held.new id result }
+    ensures answer { RolledBackIn held.old held.new id result }
     ensures fits { Fits held.old → Fits held.new }
 {
     if !has_id(&held.live, id) {

@@ -2,9 +2,9 @@
 
 ghost use Rattle.std.specs.Prelude.{◌≡◌, ◌≤◌, ◌↔◌, length, take, Some};
 ghost use Rattle.amqp_txn_types.specs.declared.delivery.SessionStopReason.{SessionStopReason};
-ghost use Rattle.amqp_below.specs.declared.inner_error.SessionInnerError.TheVariants as faults;
-ghost use Rattle.amqp_below.specs.Ids.{Drew};
-ghost use Rattle.amqp_below.specs.Told.{grown};
+ghost use Rattle.amqp_layer.specs.declared.inner_error.SessionInnerError.TheVariants as faults;
+ghost use Rattle.amqp_ids.specs.Ids.{Drew};
+ghost use Rattle.amqp_txn_types.specs.Growing.{grown};
 ghost use Rattle.amqp_record.specs.declared.stop.Stop.TheVariants as stops;
 ghost use Rattle.amqp_record.specs.Entries.{drawn_of, steps_of};
 ghost use Rattle.amqp_record.specs.Legal.{IsLegal};
@@ -14,7 +14,8 @@ ghost use Rattle.amqp_resource.specs.Steps.{IsFirstStop, UnderDead, ended_by};
 ghost use Rattle.amqp_resource.specs.Session.{FitsTogether, IsFresh, told_of};
 
 use crate::session::TxnSession;
-use amqp_below::{IdSource, LayerBelow};
+use amqp_ids::IdSource;
+use amqp_layer::LayerBelow;
 use amqp_record::{Driven, Entries, Entry, StepError, Steps, Stop};
 use std::collections::VecDeque;
 
@@ -33,7 +34,12 @@ fn stop_by(error: StepError) -> (Stop, usize)
 
 /// What a run made.
 fn driven(entries: Vec<Entry>, stop: Stop, handed: usize) -> Driven
-    ensures { result ≡ record { entries = entries.items; stop = stop; at = length entries.items; handed = handed } }
+    ensures { result ≡ record {
+      entries = entries.items;
+      stop = stop;
+      at = length entries.items;
+      handed = handed;
+    } }
 {
     let at = entries.len();
     Driven {
@@ -63,21 +69,25 @@ pub fn drive<S: LayerBelow, G: IdSource>(
     ensures cause { StopCause steps result.entries result.stop }
     ensures unknown { NextStep steps result.entries (λ s. UnderDead result.entries s) →
         StopsWith result.stop (stops.Fault faults.UnknownTxnId) }
-    ensures ended { (reason : SessionStopReason) → NextStep steps result.entries (λ s. ended_by s ≡ Some reason) →
+    ensures ended { (reason : SessionStopReason) → NextStep steps result.entries
+        (λ s. ended_by s ≡ Some reason) →
         StopsWith result.stop (stops.Ended reason) }
     // What below took, opened and refused, after what it had before.
     ensures taken { RunTook (told_of S.told session.old).taken (told_of S.told session.new).taken
         steps result.entries result.stop result.handed }
     ensures opened { (told_of S.told session.new).opened
         ≡ grown (told_of S.told session.old).opened (opens result.entries) }
-    ensures refused { RunRefused (told_of S.told session.old).refused (told_of S.told session.new).refused
+    ensures refused { RunRefused (told_of S.told session.old).refused
+        (told_of S.told session.new).refused
         steps result.entries result.stop result.handed }
     // Each refusal that was answered was counted, as long as the count can rise.
-    ensures rose { RunRose (told_of S.told session.old).refusals (told_of S.told session.new).refusals
+    ensures rose { RunRose (told_of S.told session.old).refusals
+        (told_of S.told session.new).refusals
         result.entries result.stop }
     ensures later { (told_of S.told session.old).refusals ≤ (told_of S.told session.new).refusals }
     ensures fixed { (told_of S.told session.new).fixed ≡ (told_of S.told session.old).fixed }
-    // The session stands for the record, or keeps the code of its stop, and what it keeps fits together.
+    // The session stands for the record, or keeps the code of its stop, and what it keeps fits
+    // together.
     ensures leaves { RunLeaves session.new result.entries result.stop }
     ensures fits { FitsTogether session.new }
 {

@@ -1,31 +1,26 @@
 //! Steps that are frames: plain ones, work under a transaction, and attaches of control links.
 
-ghost use Rattle.std.specs.Prelude.{◌≡◌, ◌≤◌, ◌<◌, ◌-◌, ◌^◌, ◌++◌, ◌∷◌, [], true, false, Some, IfOk, IfSome, OnOk, OnErr, MatchOption, cond, is_some};
+ghost use Rattle.std.specs.Prelude.{◌≡◌, ◌≤◌, ◌<◌, ◌-◌, ◌^◌, ◌++◌, ◌∷◌, [], true, false, Some, IfOk, IfSome, OnOk, OnErr, MatchOption, is_some};
 ghost use Rattle.amqp_txn_types.specs.declared.performatives.Frame.TheVariants as frames;
-ghost use Rattle.amqp_txn_types.specs.Frames.{txn, coord, plain, attaches_coordinator};
+ghost use Rattle.amqp_txn_types.specs.Frames.{txn, is_coordinator_attach, is_plain_frame, attaches_coordinator};
 ghost use Rattle.amqp_record.specs.declared.step.Step.TheVariants as steps;
-ghost use Rattle.amqp_record.specs.Answers.{answered_under, presumed};
+ghost use Rattle.amqp_txn_types.specs.Presumptive.{answered_under, presumed};
 ghost use Rattle.amqp_resource.specs.Draws.{is_kept};
 ghost use Rattle.amqp_resource.specs.Held.{SameHeld};
 ghost use Rattle.amqp_resource.specs.Posting.{Posted};
 ghost use Rattle.amqp_resource.specs.Keeping.{Fits, Keeps};
-ghost use Rattle.amqp_resource.specs.Steps.{Steps, StepCause, OnNoMemory, OnOwnError, nothing_drawn};
+ghost use Rattle.amqp_resource.specs.Steps.{StepDoes, StepCause, OnNoMemory, OnNoCall, nothing_drawn};
 
 use crate::held::{Held, LiveIds, open_link};
-use crate::outcomes::{fault_of, no_draws};
-use crate::taking::{check_given, take_frame};
-use amqp_below::{Answers, Drawn, LayerBelow, SessionInnerError};
-use amqp_record::{Reply, StepError, presumed_disposition};
+use crate::outcomes::{fault_of, handed_with, no_draws};
+use amqp_ids::Drawn;
+use amqp_layer::{Answers, LayerBelow, SessionInnerError, check_given, take_frame};
+use amqp_record::{Reply, StepError};
 use amqp_txn_types::{
-    Attach, Frame, Frames, NoMemory, TransactionId, Transfer, TryClone, is_coordinator, txn_of,
+    Attach, Frame, Frames, NoMemory, TransactionId, Transfer, TryClone, is_coordinator,
+    presumed_disposition, txn_of,
 };
 use std::alloc::Global;
-
-fn handed_of(taken: bool) -> usize
-    ensures { result ≡ cond taken 1 0 }
-{
-    if taken { 1 } else { 0 }
-}
 
 /// A plain frame goes below.
 fn plain_step<S: LayerBelow>(
@@ -34,12 +29,15 @@ fn plain_step<S: LayerBelow>(
     alloc: Global,
     frame: &Frame,
 ) -> Result<(Drawn, Reply), StepError>
-    requires { plain frame.now ≡ true }
-    ensures goes { Steps held.now held.now (S.told below.old) (S.told below.new) (steps.Frame frame.now) result }
-    ensures keeps { Fits held.now → Keeps held.now held.now (S.told below.old) (S.told below.new) (steps.Frame frame.now) result }
-    ensures cause { StepCause (S.told below.old).refusals (S.told below.new).refusals (steps.Frame frame.now) result }
+    requires { is_plain_frame frame.now ≡ true }
+    ensures goes { StepDoes held.now held.now (S.told below.old) (S.told below.new)
+        (steps.Frame frame.now) result }
+    ensures keeps { Fits held.now → Keeps held.now held.now (S.told below.old) (S.told below.new)
+        (steps.Frame frame.now) result }
+    ensures cause { StepCause (S.told below.old).refusals (S.told below.new).refusals
+        (steps.Frame frame.now) result }
     ensures same { OnNoMemory result (SameHeld held.now held.now) }
-    ensures untouched { OnOwnError result (below.new ≡ below.old) }
+    ensures untouched { OnNoCall (steps.Frame frame.now) result (below.new ≡ below.old) }
     ensures fixed { (S.told below.new).fixed ≡ (S.told below.old).fixed }
     ensures later { (S.told below.old).refusals ≤ (S.told below.new).refusals }
     ensures draws { IfOk result (λ out. out.0 ≡ nothing_drawn) }
@@ -49,16 +47,20 @@ fn plain_step<S: LayerBelow>(
     };
     match take_frame(below, copy) {
         Ok(answers) => Ok((no_draws(alloc), Reply::Frames(answers))),
-        Err(refusal) => Err(StepError::Fault {
-            error: fault_of(refusal.error),
-            handed: handed_of(refusal.taken),
-        }),
+        Err(refusal) => {
+            let refused = handed_with(refusal, 0);
+            Err(StepError::Fault {
+                error: fault_of(refused.error),
+                handed: refused.handed,
+            })
+        }
     }
 }
 
 /// What a post under a live id is answered at once.
 fn presumed(alloc: Global, transfer: &Transfer, id: TransactionId) -> Result<Frames, NoMemory>
-    ensures { IfOk result (λ given. given ≡ presumed transfer.now.settled transfer.now.delivery_id id) }
+    ensures { IfOk result (λ given. given ≡ presumed transfer.now.settled transfer.now.delivery_id
+        id) }
 {
     let mut given = Frames::new(alloc);
     if let Some(disposition) = presumed_disposition(transfer.settled, transfer.delivery_id, id) {
@@ -94,8 +96,8 @@ fn keep_copy(
     Ok(given)
 }
 
-/// Keeps a copy of the frame under the id, and gives what it is answered at once; `None` where the id
-/// isn't live.
+/// Keeps a copy of the frame under the id, and gives what it is answered at once; `None` where the
+/// id isn't live.
 fn keep_under(
     live: &mut LiveIds,
     alloc: Global,
@@ -103,7 +105,8 @@ fn keep_under(
     id: TransactionId,
 ) -> Option<Result<Frames, NoMemory>>
     ensures live { is_some result ≡ is_kept live.old.entries id }
-    ensures posted { MatchOption result (live.new.entries ≡ live.old.entries) (Posted live.old.entries live.new.entries frame.now id) }
+    ensures posted { MatchOption result (live.new.entries ≡ live.old.entries)
+        (Posted live.old.entries live.new.entries frame.now id) }
 {
     match live.get_mut(&id) {
         Some(one) => Some(keep_copy(&mut one.frames, alloc, frame, id)),
@@ -120,11 +123,14 @@ fn post_step<S: LayerBelow>(
     id: TransactionId,
 ) -> Result<(Drawn, Reply), StepError>
     requires { txn frame.now ≡ Some id }
-    ensures goes { Steps held.old held.new (S.told below.old) (S.told below.new) (steps.Frame frame.now) result }
-    ensures keeps { Fits held.old → Keeps held.old held.new (S.told below.old) (S.told below.new) (steps.Frame frame.now) result }
-    ensures cause { StepCause (S.told below.old).refusals (S.told below.new).refusals (steps.Frame frame.now) result }
+    ensures goes { StepDoes held.old held.new (S.told below.old) (S.told below.new)
+        (steps.Frame frame.now) result }
+    ensures keeps { Fits held.old → Keeps held.old held.new (S.told below.old) (S.told below.new)
+        (steps.Frame frame.now) result }
+    ensures cause { StepCause (S.told below.old).refusals (S.told below.new).refusals
+        (steps.Frame frame.now) result }
     ensures same { OnNoMemory result (SameHeld held.old held.new) }
-    ensures untouched { OnOwnError result (below.new ≡ below.old) }
+    ensures untouched { OnNoCall (steps.Frame frame.now) result (below.new ≡ below.old) }
     ensures fixed { (S.told below.new).fixed ≡ (S.told below.old).fixed }
     ensures later { (S.told below.old).refusals ≤ (S.told below.new).refusals }
     ensures draws { IfOk result (λ out. out.0 ≡ nothing_drawn) }
@@ -162,11 +168,15 @@ fn attach_step<S: LayerBelow>(
 ) -> Result<(Drawn, Reply), StepError>
     requires coordinator { attaches_coordinator attach.now ≡ true }
     requires room { held.old.opened < 2 ^ 64 - 1 }
-    ensures goes { Steps held.old held.new (S.told below.old) (S.told below.new) (steps.Frame (frames.Attach attach.now)) result }
-    ensures keeps { Fits held.old → Keeps held.old held.new (S.told below.old) (S.told below.new) (steps.Frame (frames.Attach attach.now)) result }
-    ensures cause { StepCause (S.told below.old).refusals (S.told below.new).refusals (steps.Frame (frames.Attach attach.now)) result }
+    ensures goes { StepDoes held.old held.new (S.told below.old) (S.told below.new)
+        (steps.Frame (frames.Attach attach.now)) result }
+    ensures keeps { Fits held.old → Keeps held.old held.new (S.told below.old) (S.told below.new)
+        (steps.Frame (frames.Attach attach.now)) result }
+    ensures cause { StepCause (S.told below.old).refusals (S.told below.new).refusals
+        (steps.Frame (frames.Attach attach.now)) result }
     ensures same { OnNoMemory result (SameHeld held.old held.new) }
-    ensures untouched { OnOwnError result (below.new ≡ below.old) }
+    ensures untouched { OnNoCall (steps.Frame (frames.Attach attach.now)) result
+        (below.new ≡ below.old) }
     ensures fixed { (S.told below.new).fixed ≡ (S.told below.old).fixed }
     ensures later { (S.told below.old).refusals ≤ (S.told below.new).refusals }
     ensures draws { IfOk result (λ out. out.0 ≡ nothing_drawn) }
@@ -186,13 +196,14 @@ fn attach_step<S: LayerBelow>(
 }
 
 /// The attach of a frame that opens a control link.
-#[tactic(auto, unfolding(amqp_txn_types::specs::Frames::coord))]
+#[tactic(auto, unfolding(amqp_txn_types::specs::Frames::is_coordinator_attach))]
 fn control_attach_of(frame: &Frame) -> Option<&Attach>
-    ensures { MatchOption result (coord frame.now ≡ false) (λ attach. (frame.now ≡ frames.Attach attach.now) × (attaches_coordinator attach.now ≡ true)) }
+    ensures { MatchOption result (is_coordinator_attach frame.now ≡ false)
+        (λ attach. (frame.now ≡ frames.Attach attach.now)
+        × (attaches_coordinator attach.now ≡ true)) }
 {
     match frame {
         Frame::Attach(attach) => {
-            let attach = attach.as_ref();
             if is_coordinator(attach) {
                 Some(attach)
             } else {
@@ -211,11 +222,14 @@ pub fn frame_step<S: LayerBelow>(
     frame: &Frame,
 ) -> Result<(Drawn, Reply), StepError>
     requires room { held.old.opened < 2 ^ 64 - 1 }
-    ensures goes { Steps held.old held.new (S.told below.old) (S.told below.new) (steps.Frame frame.now) result }
-    ensures keeps { Fits held.old → Keeps held.old held.new (S.told below.old) (S.told below.new) (steps.Frame frame.now) result }
-    ensures cause { StepCause (S.told below.old).refusals (S.told below.new).refusals (steps.Frame frame.now) result }
+    ensures goes { StepDoes held.old held.new (S.told below.old) (S.told below.new)
+        (steps.Frame frame.now) result }
+    ensures keeps { Fits held.old → Keeps held.old held.new (S.told below.old) (S.told below.new)
+        (steps.Frame frame.now) result }
+    ensures cause { StepCause (S.told below.old).refusals (S.told below.new).refusals
+        (steps.Frame frame.now) result }
     ensures same { OnNoMemory result (SameHeld held.old held.new) }
-    ensures untouched { OnOwnError result (below.new ≡ below.old) }
+    ensures untouched { OnNoCall (steps.Frame frame.now) result (below.new ≡ below.old) }
     ensures fixed { (S.told below.new).fixed ≡ (S.told below.old).fixed }
     ensures later { (S.told below.old).refusals ≤ (S.told below.new).refusals }
     ensures draws { IfOk result (λ out. out.0 ≡ nothing_drawn) }

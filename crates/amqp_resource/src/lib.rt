@@ -1,9 +1,9 @@
 //! A session that serves transactions of AMQP 1.0 over a layer below, as the resource of part 4 of
 //! the standard (OASIS AMQP 1.0), section 4.1.
 //!
-//! A [`TxnSession`] takes steps: frames, control messages, ends. A frame under a live transaction is
-//! kept until the transaction is discharged: a rollback lets it go, and a commit hands it to the layer
-//! below, in order and without its transactional state. A plain frame goes below at once.
+//! A [`TxnSession`] takes steps: frames, control messages, ends. A frame under a live transaction
+//! is kept until the transaction is discharged: a rollback lets it go, and a commit hands it to the
+//! layer below, in order and without its transactional state. A plain frame goes below at once.
 //!
 //! ```text
 //! let mut ids = ListIds::new(alloc, &[id])?;
@@ -12,36 +12,43 @@
 //! ```
 //!
 //! [`drive`] makes a list of steps on a fresh session, and gives its entries and why it stopped.
-//! A session also has the calls of `HandleDeclare` and `HandleDischarge`: an id that they allocate is
-//! declared on no link, and only they discharge it.
+//! A session also has the calls of `HandleDeclare` and `HandleDischarge`: an id that they allocate
+//! is declared on no link, and only they discharge it.
 //!
-//! Below stand the types, the codec of control messages, the traits of the outside, and the record
-//! with its definitions, which look back over the entries of a session and know nothing of what it
-//! keeps. The promise that this crate carries: a step answers by the record, and a run is its record.
-//! The layer below has taken exactly the work of the record, each accepted commit's frames whole and in
-//! order and nothing of a rollback, followed, only where it refused, by the first frames of the next
-//! step's.
+//! Below stand the types, the codec of control messages, the traits of the outside, the
+//! coordinator, which asks a session by these calls, and the record with its definitions, which
+//! look back over the entries of a session and know nothing of what it keeps. What a user of a
+//! session needs of them is passed on. The promise that this crate carries: a step answers by the
+//! record, and a run is its record. The layer below has taken exactly the work of the record, each
+//! accepted commit's frames whole and in order and nothing of a rollback, followed, only where it
+//! refused, by the first frames of the next step's.
 #![tactic(auto)]
 
 mod acting;
 mod committing;
-mod counting;
 mod declaring;
 mod discharging;
 mod driving;
 mod ending;
 mod frame_steps;
 mod held;
-mod ids;
 mod link_steps;
 mod outcomes;
 mod session;
-mod taking;
 #[cfg(test)]
 mod tests;
 mod transacting;
+#[cfg(test)]
+mod window_tests;
 
-pub use counting::{CountIds, numbered_id};
+pub use amqp_coordinator::{
+    CoordinatorError, CoordinatorReply, DischargeError, ResourceTransaction, SuccessfulOutcome,
+    TransactionManager, TxnCoordinator,
+};
+pub use amqp_ids::{CountIds, Drawn, IdSource, ListIds, numbered_id};
+pub use amqp_record::{
+    Drawn16, Driven, Entries, Entry, RejectText, Reply, Step, StepError, Steps, Stop, StopCode,
+    commits, hands, home, is_answer, is_legal, is_live, is_open, work,
+};
 pub use driving::drive;
-pub use ids::ListIds;
 pub use session::TxnSession;

@@ -2,23 +2,24 @@
 
 ghost use Rattle.std.specs.Prelude.{◌≡◌, ℕ, true, false, None, IfOk};
 ghost use Rattle.amqp_txn_codec.specs.Reading.{message_of};
-ghost use Rattle.amqp_below.specs.Told.{Told};
+ghost use Rattle.amqp_layer.specs.Told.{Told};
 ghost use Rattle.amqp_record.specs.declared.step.Step.TheVariants as steps;
 ghost use Rattle.amqp_resource.specs.Held.{SameHeld, is_in};
 ghost use Rattle.amqp_resource.specs.Keeping.{Fits, Keeps};
-ghost use Rattle.amqp_resource.specs.Steps.{StepsHere, StepCause, OnNoMemory, nothing_drawn};
+ghost use Rattle.amqp_resource.specs.Steps.{StepDoesHere, StepCause, OnNoMemory, nothing_drawn};
 
 use crate::held::{Held, end_link, has_link};
 use crate::outcomes::no_draws;
-use amqp_below::Drawn;
+use amqp_ids::Drawn;
 use amqp_record::{Reply, StepError};
 use amqp_txn_types::{AmqpError, Payload};
 use std::alloc::Global;
 
 /// The end of a link aborts what it declared.
 pub fn link_end_step(held: &mut Held, alloc: Global, link: u64) -> Result<(Drawn, Reply), StepError>
-    ensures goes { StepsHere held.old held.new (steps.LinkEnd link) result }
-    ensures keeps { (told : Told) → Fits held.old → Keeps held.old held.new told told (steps.LinkEnd link) result }
+    ensures goes { StepDoesHere held.old held.new (steps.LinkEnd link) result }
+    ensures keeps { (told : Told) → Fits held.old
+        → Keeps held.old held.new told told (steps.LinkEnd link) result }
     ensures cause { (n : ℕ) → StepCause n n (steps.LinkEnd link) result }
     ensures same { OnNoMemory result (SameHeld held.old held.new) }
     ensures draws { IfOk result (λ out. out.0 ≡ nothing_drawn) }
@@ -39,8 +40,9 @@ pub fn close_step(
 ) -> Result<(Drawn, Reply), StepError>
     requires message { message_of payload.now ≡ None }
     requires opened { is_in held.old.links.entries link ≡ true }
-    ensures goes { StepsHere held.old held.new (steps.Control link payload.now) result }
-    ensures keeps { (told : Told) → Fits held.old → Keeps held.old held.new told told (steps.Control link payload.now) result }
+    ensures goes { StepDoesHere held.old held.new (steps.Control link payload.now) result }
+    ensures keeps { (told : Told) → Fits held.old
+        → Keeps held.old held.new told told (steps.Control link payload.now) result }
     ensures cause { (n : ℕ) → StepCause n n (steps.Control link payload.now) result }
     ensures same { OnNoMemory result (SameHeld held.old held.new) }
     ensures draws { IfOk result (λ out. out.0 ≡ nothing_drawn) }
@@ -57,8 +59,9 @@ pub fn no_link_step(
     payload: &Payload,
 ) -> Result<(Drawn, Reply), StepError>
     requires { is_in held.now.links.entries link ≡ false }
-    ensures goes { StepsHere held.now held.now (steps.Control link payload.now) result }
-    ensures keeps { (told : Told) → Fits held.now → Keeps held.now held.now told told (steps.Control link payload.now) result }
+    ensures goes { StepDoesHere held.now held.now (steps.Control link payload.now) result }
+    ensures keeps { (told : Told) → Fits held.now
+        → Keeps held.now held.now told told (steps.Control link payload.now) result }
     ensures cause { (n : ℕ) → StepCause n n (steps.Control link payload.now) result }
     ensures same { OnNoMemory result (SameHeld held.now held.now) }
     ensures draws { IfOk result (λ out. out.0 ≡ nothing_drawn) }

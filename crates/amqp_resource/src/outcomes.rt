@@ -1,10 +1,31 @@
 //! Parts of what a step answers.
 
-ghost use Rattle.std.specs.Prelude.{◌≡◌, false};
+ghost use Rattle.std.specs.Prelude.{◌≡◌, ◌<◌, ◌+◌, ◌^◌, cond, false};
 ghost use Rattle.amqp_resource.specs.Steps.{fault_of, is_unknown, nothing_drawn};
 
-use amqp_below::{Drawn, SessionInnerError};
+use amqp_ids::Drawn;
+use amqp_layer::{SessionInnerError, TakeError};
 use std::alloc::Global;
+
+/// A refusal below, and how many frames of the step were taken before and with it.
+#[derive(Debug, Drop)]
+pub struct HandError {
+    pub error: SessionInnerError,
+    pub handed: usize,
+}
+
+/// The refusal of a frame, so many having been taken before it.
+pub fn handed_with(refusal: TakeError, before: usize) -> HandError
+    requires { before < 2 ^ 63 }
+    ensures handed { result.handed ≡ before + cond refusal.taken 1 0 }
+    ensures error { result.error ≡ refusal.error }
+{
+    let TakeError { taken, error } = refusal;
+    HandError {
+        error,
+        handed: if taken { before + 1 } else { before },
+    }
+}
 
 /// The ids of a step that draws none.
 pub fn no_draws(alloc: Global) -> Drawn

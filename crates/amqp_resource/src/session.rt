@@ -2,22 +2,23 @@
 
 ghost use Rattle.std.specs.Prelude.{◌≡◌, ◌≤◌, ◌<◌, ◌-◌, ◌^◌, ◌↔◌, ◌∷◌, ◌++◌, [], List, None, Some, Err, IfSome, IfOk, IfErr, OnErr, IsTrue, true};
 ghost use Rattle.amqp_txn_types.specs.declared.id.TransactionId.{TransactionId as Id};
-ghost use Rattle.amqp_below.specs.declared.inner_error.SessionInnerError.TheVariants as faults;
+ghost use Rattle.amqp_layer.specs.declared.inner_error.SessionInnerError.TheVariants as faults;
 ghost use Rattle.amqp_txn_types.specs.Counts.{Rose};
-ghost use Rattle.amqp_below.specs.Ids.{Drew};
+ghost use Rattle.amqp_ids.specs.Ids.{Drew};
 ghost use Rattle.amqp_record.specs.declared.entry.Entry.{Entry};
 ghost use Rattle.amqp_record.specs.declared.stop.StepError.TheVariants as errors;
 ghost use Rattle.amqp_record.specs.Links.{attached_count};
 ghost use Rattle.amqp_record.specs.Live.{is_live};
 ghost use Rattle.amqp_record.specs.Answers.{Answer};
-ghost use Rattle.amqp_resource.specs.Steps.{entry_of, ended_by, takes_memory, AnswersEnd, IfEnded, IfRefused, IfUnknown, IsControlAttach, IsFirstStop, MayFault, OnAttachRefused, OnNoMemory, OnOwnError, OpenedBy, RefusedAdds, RefusedBy, TookFirst, TookHands, UnderDead};
+ghost use Rattle.amqp_resource.specs.Steps.{entry_of, ended_by, takes_memory, AnswersEnd, IfEnded, IfRefused, IfUnknown, IsControlAttach, IsFirstStop, MayFault, OnAttachRefused, OnNoMemory, OnNoCall, OpenedBy, RefusedAdds, RefusedBy, TookFirst, TookHands, UnderDead};
 ghost use Rattle.amqp_resource.specs.Complete.{InOrder, Completed};
 ghost use Rattle.amqp_resource.specs.Keeping.{AnswerKeeps, UnderUnkept};
 ghost use Rattle.amqp_resource.specs.Session.{FitsTogether, ForEachRecord, IsFresh, SameSession, StandsFor, StopAfter, below_of, held_of, is_live_on, opened_of, refusals_of, stop_of, told_of};
 
-use crate::acting::act;
+use crate::acting::take_step;
 use crate::held::{Held, has_id, keeps_nothing};
-use amqp_below::{Drawn, IdSource, LayerBelow};
+use amqp_ids::{Drawn, IdSource};
+use amqp_layer::LayerBelow;
 use amqp_record::{Drawn16, Reply, Step, StepError, StopCode, code_of_end, code_of_fault};
 use amqp_txn_types::{SessionState, TransactionId};
 use indexmap::IndexMap;
@@ -26,7 +27,8 @@ use std::alloc::Global;
 /// A session that serves transactions over a layer below. Part 4 of the standard, section 4.4.
 ///
 /// It keeps the frames that come under each live transaction and hands them below when it commits.
-/// Once a refusal below, a frame under an id that isn't live or an end stopped it, it does nothing more.
+/// Once a refusal below, a frame under an id that isn't live or an end stopped it, it does nothing
+/// more.
 #[derive(Drop)]
 pub struct TxnSession<S> {
     pub(crate) held: Held,
@@ -93,11 +95,12 @@ impl<S: LayerBelow> TxnSession<S> {
         self.below.local_state() == SessionState::Mapped
     }
 
-    /// Whether the id is live: declared on a link that is open, or allocated by a call of the session,
-    /// and not discharged since.
+    /// Whether the id is live: declared on a link that is open, or allocated by a call of the
+    /// session, and not discharged since.
     pub fn is_live(&self, txn_id: &TransactionId) -> bool
         ensures kept { result ≡ is_live_on self.now txn_id.now }
-        ensures as_record { (r : List Entry) → StandsFor self.now r → result ≡ is_live r txn_id.now }
+        ensures as_record { (r : List Entry) → StandsFor self.now r
+            → result ≡ is_live r txn_id.now }
     {
         has_id(&self.held.live, *txn_id)
     }
@@ -152,11 +155,12 @@ impl<S: LayerBelow> TxnSession<S> {
         ensures runs { stop_of self.old ≡ None → IfErr result IsFirstStop }
         // The reply is an answer of the record to the step with the ids drawn, and the session then
         // stands for the record with this entry.
-        ensures answer { ForEachRecord self.old (λ r. IfOk result (λ out. Answer r step.now out.0.ids out.1)) }
+        ensures answer { ForEachRecord self.old (λ r. IfOk result
+            (λ out. Answer r step.now out.0.ids out.1)) }
         ensures stands { ForEachRecord self.old (λ r. IfOk result (λ out.
             StandsFor self.new (r ++ entry_of step.now out.0 out.1 ∷ []))) }
-        // Below took exactly what the step hands, each frame with what the reply says was given back;
-        // where it refused, the first of them.
+        // Below took exactly what the step hands, each frame with what the reply says was given
+        // back; where it refused, the first of them.
         ensures taken { ForEachRecord self.old (λ r. IfOk result (λ out.
             TookHands (told_of S.told self.old) (told_of S.told self.new) r step.now out.1)) }
         ensures handed { ForEachRecord self.old (λ r. IfRefused result (λ error handed.
@@ -169,14 +173,16 @@ impl<S: LayerBelow> TxnSession<S> {
         ensures refused { ForEachRecord self.old (λ r. IfOk result (λ out.
             RefusedBy (told_of S.told self.old) (told_of S.told self.new) step.now out.1)) }
         ensures refused_last { ForEachRecord self.old (λ r. IfRefused result (λ error handed.
-            RefusedAdds (told_of S.told self.old) (told_of S.told self.new) r step.now error handed)) }
+            RefusedAdds (told_of S.told self.old) (told_of S.told self.new) r step.now error
+            handed)) }
         // An unknown id is the fault of work under an id that isn't live, and of nothing else.
         ensures unknown { ForEachRecord self.old (λ r.
             UnderDead r step.now → result ≡ Err (errors.Fault faults.UnknownTxnId 0)) }
         ensures unknown_only { ForEachRecord self.old (λ r. IfUnknown result (λ handed.
             UnderDead r step.now × (handed ≡ 0))) }
         // Every other fault is a refusal below, of a step that makes a call there.
-        ensures refusal { ForEachRecord self.old (λ r. IfRefused result (λ error handed. MayFault r step.now)) }
+        ensures refusal { ForEachRecord self.old (λ r. IfRefused result
+            (λ error handed. MayFault r step.now)) }
         ensures refusal_rose { IfRefused result (λ error handed.
             Rose (told_of S.told self.old).refusals (told_of S.told self.new).refusals) }
         ensures attach_refused { ForEachRecord self.old (λ r. OnAttachRefused result
@@ -185,21 +191,25 @@ impl<S: LayerBelow> TxnSession<S> {
         // An end is answered with its own value; a copy of its error may want memory.
         ensures ended { stop_of self.old ≡ None → AnswersEnd (ended_by step.now) result }
         ensures ended_only { IfEnded result (λ reason. ended_by step.now ≡ Some reason) }
-        // Want of memory leaves the session as it was, standing for what it stood for, and comes of no
-        // step that takes none.
+        // Want of memory leaves the session as it was, standing for what it stood for, and comes of
+        // no step that takes none.
         ensures same { OnNoMemory result (SameSession self.old self.new) }
         ensures memory { ForEachRecord self.old (λ r. OnNoMemory result
             (StandsFor self.new r × (takes_memory r step.now ≡ true))) }
-        // An error that isn't a refusal below makes no call there. The count of refusals never falls.
-        ensures untouched { OnOwnError result (below_of self.new ≡ below_of self.old) }
+        // An error that isn't a refusal below makes no call there. The count of refusals never
+        // falls.
+        ensures untouched { OnNoCall step.now result (below_of self.new ≡ below_of self.old) }
         ensures later { (told_of S.told self.old).refusals ≤ (told_of S.told self.new).refusals }
         ensures fixed { (told_of S.told self.new).fixed ≡ (told_of S.told self.old).fixed }
-        // On every session that runs and whose parts fit together, also one that stands for no record: the
-        // answer by what is kept, what it leaves of each id and of the links, and what was done below.
+        // On every session that runs and whose parts fit together, also one that stands for no
+        // record: the answer by what is kept, what it leaves of each id and of the links, and what
+        // was done below.
         ensures fits { FitsTogether self.old → FitsTogether self.new }
-        ensures keeps { stop_of self.old ≡ None → FitsTogether self.old → AnswerKeeps (held_of self.old) (held_of self.new)
+        ensures keeps { stop_of self.old ≡ None → FitsTogether self.old
+            → AnswerKeeps (held_of self.old) (held_of self.new)
             (told_of S.told self.old) (told_of S.told self.new) step.now result }
-        ensures dead { stop_of self.old ≡ None → FitsTogether self.old → UnderUnkept (held_of self.old) step.now →
+        ensures dead { stop_of self.old ≡ None → FitsTogether self.old
+            → UnderUnkept (held_of self.old) step.now →
             result ≡ Err (errors.Fault faults.UnknownTxnId 0) }
         ensures attach_rose { OnAttachRefused result
             (Rose (told_of S.told self.old).refusals (told_of S.told self.new).refusals) }
@@ -219,7 +229,7 @@ impl<S: LayerBelow> TxnSession<S> {
         if let Some(code) = self.stop {
             return Err(StepError::Stopped(code));
         }
-        let result = act(&mut self.held, &mut self.below, self.alloc, step, ids);
+        let result = take_step(&mut self.held, &mut self.below, self.alloc, step, ids);
         self.stop = stop_after(&result);
         result
     }

@@ -1,31 +1,88 @@
-//! What no clause says: a post's answer is checked by the layer below. And the life of an id of no link,
-//! step by step.
+//! What no clause says: what goes out is checked by the layer below. And the life of an id of no
+//! link, step by step.
 
-use crate::{CountIds, TxnSession, numbered_id};
-use amqp_below::{
-    Drawn, HandleDeclare, HandleDischarge, LayerBelow, OpenSession, Recorder, SessionInnerError,
-};
-use amqp_record::{RejectText, Reply, Step, StepError, StopCode};
-use amqp_txn_codec::{ControlMessageBody, Discharge};
+use crate::*;
+use amqp_layer::{LayerBelow, OpenSession, Recorder, SessionInnerError, Tells};
+use amqp_sessions::{HandleDeclare, HandleDischarge};
+use amqp_txn_codec::{ControlMessageBody, Declare, Discharge};
 use amqp_txn_types::{
-    Attach, Boxed, Coordinator, DeliveryState, Detach, Disposition, Flow, Frame, Frames, Handle,
-    NoMemory, Payload, ReceiverSettleMode, Role, SenderSettleMode, SessionState, TargetArchetype,
-    Text, TransactionError, TransactionId, TransactionalState, Transfer,
+    Attach, Coordinator, DeliveryState, Detach, Disposition, Flow, Frame, Frames, Handle, NoMemory,
+    Payload, ReceiverSettleMode, Role, SenderSettleMode, SessionState, TargetArchetype, Text,
+    TransactionError, TransactionId, TransactionalState, Transfer,
 };
 use std::alloc::Global;
+use std::mem::replace;
+use std::test::Fail;
 
-/// A layer that takes every frame, gives none back and lets no disposition out.
+/// A layer that takes every frame and lets no disposition out. It gives these back for its first
+/// transfer and its second one, and no frame for any other.
 #[derive(Drop)]
 struct Unsettling {
     alloc: Global,
     refusals: u64,
+    first: Frames,
+    second: Frames,
 }
 
-impl LayerBelow for Unsettling {
+/// Such a layer, which gives no frame back.
+fn echoing_none(alloc: Global) -> Unsettling {
+    Unsettling {
+        alloc,
+        refusals: 0,
+        first: Frames::new(alloc),
+        second: Frames::new(alloc),
+    }
+}
+
+/// The disposition that it gives back.
+fn echo(alloc: Global) -> Result<Frames, NoMemory> {
+    let mut given = Frames::new(alloc);
+    given.append(Frame::Disposition(Disposition {
+        role: Role::Receiver,
+        first: 7,
+        last: None,
+        settled: true,
+        state: None,
+        batchable: false,
+    }))?;
+    Ok(given)
+}
+
+/// Such a layer, which gives a disposition back for its first transfer.
+fn echoing_first(alloc: Global) -> Result<Unsettling, NoMemory> {
+    let mut layer = echoing_none(alloc);
+    layer.first = echo(alloc)?;
+    Ok(layer)
+}
+
+/// Such a layer, which gives a disposition back for its second transfer.
+fn echoing_second(alloc: Global) -> Result<Unsettling, NoMemory> {
+    let mut layer = echoing_none(alloc);
+    layer.second = echo(alloc)?;
+    Ok(layer)
+}
+
+impl Tells for Unsettling {
     ghost use Rattle.std.specs.Prelude.{None, []};
     ghost use Rattle.amqp_txn_types.specs.declared.small.SessionState.TheVariants.{Mapped};
 
-    ghost told = { λ s. record { taken = None; opened = None; refused = None; refusals = s.refusals; fixed = record { state = Mapped; plan = [] } } };
+    ghost told = { λ layer. record {
+      taken = None;
+      opened = None;
+      refused = None;
+      refusals = layer.refusals;
+      fixed = record { state = Mapped; plan = [] };
+    } };
+}
+
+impl LayerBelow for Unsettling {
+    ghost incoming_gives = { λ old new frame result. Unit {0} };
+
+    ghost opening_gives = { λ old new attach result. Unit {0} };
+
+    ghost check_gives = { λ old new disposition result. Unit {0} };
+
+    ghost window_gives = { λ old new flow. Unit {0} };
 
     fn local_state(&self) -> SessionState {
         SessionState::Mapped
@@ -44,7 +101,8 @@ impl LayerBelow for Unsettling {
         transfer: Transfer,
         payload: Payload,
     ) -> Result<Frames, SessionInnerError> {
-        Ok(Frames::new(self.alloc))
+        let next = replace(&mut self.second, Frames::new(self.alloc));
+        Ok(replace(&mut self.first, next))
     }
 
     fn on_incoming_disposition(
@@ -67,7 +125,7 @@ impl LayerBelow for Unsettling {
         disposition: &Disposition,
     ) -> Result<(), SessionInnerError> {
         self.refusals = self.refusals.saturating_add(1);
-        Err(SessionInnerError::IllegalState)
+        Err(SessionInnerError::HandleInUse)
     }
 
     fn maybe_outgoing_session_flow(&mut self) -> Option<Flow> {
@@ -75,27 +133,40 @@ impl LayerBelow for Unsettling {
     }
 }
 
-/// The attach of a control link.
-fn control_attach(alloc: Global) -> Result<Step, NoMemory> {
+/// The attach of a link with that name, handle and target.
+pub(crate) fn attach(name: Text, handle: u32, target: Option<TargetArchetype>) -> Step {
     let attach = Attach {
-        name: Text::from_str(alloc, "c")?,
-        handle: Handle(0),
+        name,
+        handle: Handle(handle),
         role: Role::Sender,
         snd_settle_mode: SenderSettleMode::Mixed,
         rcv_settle_mode: ReceiverSettleMode::First,
         source: None,
-        target: Some(TargetArchetype::Coordinator(Coordinator { capabilities: None })),
+        target,
         initial_delivery_count: None,
         max_message_size: None,
         offered_capabilities: None,
         desired_capabilities: None,
         properties: None,
     };
-    Ok(Step::Frame(Frame::Attach(Boxed::new(alloc, attach)?)))
+    Step::Frame(Frame::Attach(attach))
+}
+
+/// The attach of a control link.
+fn control_attach(alloc: Global) -> Result<Step, NoMemory> {
+    let coordinator = TargetArchetype::Coordinator(Coordinator { capabilities: None });
+    Ok(attach(Text::from_str(alloc, "c")?, 0, Some(coordinator)))
+}
+
+/// A declare on link 0.
+fn declare(alloc: Global) -> Result<Step, NoMemory> {
+    let message = ControlMessageBody::Declare(Declare { global_id: None });
+    let payload = message.encode(alloc)?;
+    Ok(Step::Control { link: 0, payload })
 }
 
 /// A control message on link 0 that commits the id.
-fn discharge(alloc: Global, txn_id: TransactionId) -> Result<Step, NoMemory> {
+pub(crate) fn discharge(alloc: Global, txn_id: TransactionId) -> Result<Step, NoMemory> {
     let message = ControlMessageBody::Discharge(Discharge { txn_id, fail: None });
     let payload = message.encode(alloc)?;
     Ok(Step::Control { link: 0, payload })
@@ -110,7 +181,7 @@ fn under(txn_id: TransactionId) -> Option<DeliveryState> {
 }
 
 /// The transfer of a delivery with an id.
-fn transfer(settled: bool, state: Option<DeliveryState>) -> Frame {
+pub(crate) fn transfer(settled: bool, state: Option<DeliveryState>) -> Frame {
     Frame::Transfer {
         transfer: Transfer {
             handle: Handle(1),
@@ -130,7 +201,7 @@ fn transfer(settled: bool, state: Option<DeliveryState>) -> Frame {
 }
 
 /// A post under the id.
-fn post(settled: bool, txn_id: TransactionId) -> Step {
+pub(crate) fn post(settled: bool, txn_id: TransactionId) -> Step {
     Step::Frame(transfer(settled, under(txn_id)))
 }
 
@@ -140,10 +211,10 @@ fn word(answer: &Result<(Drawn, Reply), StepError>) -> &'static str {
         Ok((_, reply)) => word_of(reply),
         Err(
             StepError::Fault {
-                error: SessionInnerError::IllegalState,
+                error: SessionInnerError::HandleInUse,
                 handed: 0,
             },
-        ) => "illegal state, none handed",
+        ) => "handle in use, none handed",
         Err(_) => "another error",
     }
 }
@@ -169,7 +240,7 @@ fn word_of(reply: &Reply) -> &'static str {
 }
 
 /// Makes a step: what it was answered, in a word.
-fn answer_of<S: LayerBelow>(
+pub(crate) fn answer_of<S: LayerBelow>(
     session: &mut TxnSession<S>,
     step: Step,
     ids: &mut CountIds,
@@ -201,7 +272,7 @@ fn a_refused_presumptive_disposition_stops_the_session(rt: HostRuntime) {
     let alloc = rt.alloc();
     let id = numbered_id(1);
     let mut ids = CountIds::new();
-    let mut session = TxnSession::new(alloc, Unsettling { alloc, refusals: 0 });
+    let mut session = TxnSession::new(alloc, echoing_none(alloc));
     let allocated = allocates_first(&mut session, &mut ids);
     let settled = answer_of(&mut session, post(true, id), &mut ids);
     let unsettled = answer_of(&mut session, post(false, id), &mut ids);
@@ -210,8 +281,8 @@ fn a_refused_presumptive_disposition_stops_the_session(rt: HostRuntime) {
     drop(session);
     assert!(rt; allocated);
     assert_eq!(rt; settled, "no frames");
-    assert_eq!(rt; unsettled, "illegal state, none handed");
-    assert_eq!(rt; code, Some(StopCode::IllegalState));
+    assert_eq!(rt; unsettled, "handle in use, none handed");
+    assert_eq!(rt; code, Some(StopCode::HandleInUse));
     assert_eq!(rt; refusals, 1);
 }
 
@@ -287,4 +358,99 @@ fn an_id_of_no_link_is_left_to_its_own_calls(rt: HostRuntime) {
     assert_eq!(rt; committed, 1);
     assert!(rt; !still_live);
     assert!(rt; stripped);
+}
+
+/// Makes a step: whether the layer below refused it when so many of its frames had been taken.
+fn is_refused<S: LayerBelow>(
+    session: &mut TxnSession<S>,
+    step: Step,
+    ids: &mut CountIds,
+    count: usize,
+) -> bool {
+    if session.links_opened() == u64::MAX {
+        drop(step);
+        return false;
+    }
+    let answer = session.step(&step, ids);
+    drop(step);
+    let refused = match &answer {
+        Err(
+            StepError::Fault {
+                error: SessionInnerError::HandleInUse,
+                handed,
+            },
+        ) => *handed == count,
+        _ => false,
+    };
+    drop(answer);
+    refused
+}
+
+/// Whether a plain transfer is refused when it has been taken.
+fn plain_is_refused<S: LayerBelow + Drop>(mut session: TxnSession<S>) -> bool {
+    let mut ids = CountIds::new();
+    is_refused(&mut session, Step::Frame(transfer(true, None)), &mut ids, 1)
+}
+
+/// Attaches control link 0 and declares the first id on it.
+pub(crate) fn begin_transaction<S: LayerBelow>(
+    alloc: Global,
+    session: &mut TxnSession<S>,
+    ids: &mut CountIds,
+) -> Result<(), NoMemory> {
+    let attached = control_attach(alloc)?;
+    let _word = answer_of(session, attached, ids);
+    let declared = declare(alloc)?;
+    let _word = answer_of(session, declared, ids);
+    Ok(())
+}
+
+/// Whether a commit of two posts is refused when both have been taken.
+fn commit_is_refused<S: LayerBelow + Drop>(
+    alloc: Global,
+    mut session: TxnSession<S>,
+) -> Result<bool, NoMemory> {
+    let mut ids = CountIds::new();
+    let id = numbered_id(1);
+    begin_transaction(alloc, &mut session, &mut ids)?;
+    let _word = answer_of(&mut session, post(true, id), &mut ids);
+    let _word = answer_of(&mut session, post(true, id), &mut ids);
+    let commit = discharge(alloc, id)?;
+    Ok(is_refused(&mut session, commit, &mut ids, 2))
+}
+
+#[test]
+fn a_frame_whose_answer_is_refused_was_taken(rt: HostRuntime) -> Result<(), Fail> {
+    let alloc = rt.alloc();
+    let below = echoing_first(alloc)?;
+    let refused = plain_is_refused(TxnSession::new(alloc, below));
+    assert!(rt; refused);
+    Ok(())
+}
+
+#[test]
+fn a_frame_whose_answer_is_refused_was_taken_by_a_recorder(rt: HostRuntime) -> Result<(), Fail> {
+    let alloc = rt.alloc();
+    let below = Recorder::new(alloc, echoing_first(alloc)?);
+    let refused = plain_is_refused(TxnSession::new(alloc, below));
+    assert!(rt; refused);
+    Ok(())
+}
+
+#[test]
+fn a_refused_answer_within_a_commit_counts_its_frame(rt: HostRuntime) -> Result<(), Fail> {
+    let alloc = rt.alloc();
+    let below = echoing_second(alloc)?;
+    let refused = commit_is_refused(alloc, TxnSession::new(alloc, below))?;
+    assert!(rt; refused);
+    Ok(())
+}
+
+#[test]
+fn a_recorder_passes_on_a_refused_answer_within_a_commit(rt: HostRuntime) -> Result<(), Fail> {
+    let alloc = rt.alloc();
+    let below = Recorder::new(alloc, echoing_second(alloc)?);
+    let refused = commit_is_refused(alloc, TxnSession::new(alloc, below))?;
+    assert!(rt; refused);
+    Ok(())
 }

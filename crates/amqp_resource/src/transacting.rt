@@ -1,25 +1,52 @@
 //! The transactional calls of a session. Part 4 of the standard, sections 4.2 (declaring) and 4.3
 //! (discharging).
 //!
-//! An id that they allocate is declared on no link: a control message that discharges it is rejected,
-//! and no end of a link aborts it. While one is live the session stands for no record of steps; what a
-//! step does then is said by what is kept (`keeps`). The clauses of these calls need no record.
+//! An id that they allocate is declared on no link: a control message that discharges it is
+//! rejected, and no end of a link aborts it. While one is live the session stands for no record of
+//! steps; what a step does then is said by what is kept (`keeps`). The clauses of these calls need
+//! no record.
+
+ghost use Rattle.std.specs.Prelude.{◌≡◌, ◌≤◌, Err};
+ghost use Rattle.amqp_txn_types.specs.Counts.{one_more};
+ghost use Rattle.amqp_resource.specs.Calls.{StopAfterCommit};
 
 use crate::declaring::allocate;
 use crate::discharging::{commit_kept, roll_back_kept};
 use crate::session::TxnSession;
-use amqp_below::{
-    AllocTxnIdError, CommitFault, Drawn, Echoes, HandleDeclare, HandleDischarge, IdSource,
-    LayerBelow,
-};
-use amqp_record::code_of_fault;
-use amqp_txn_types::{Accepted, TransactionError, TransactionId};
+use amqp_ids::{Drawn, IdSource};
+use amqp_layer::{Echoes, LayerBelow, Tells};
+use amqp_record::{StopCode, code_of_fault};
+use amqp_sessions::{AllocTxnIdError, CommitFault, HandleDeclare, HandleDischarge};
+use amqp_txn_types::{Accepted, TransactionError, TransactionId, refuse};
+
+/// Counts a refusal of a call, and answers it.
+fn refuse_call<T, E>(refusals: &mut u64, error: E) -> Result<T, E>
+    ensures count { refusals.new ≡ one_more refusals.old }
+    ensures later { refusals.old ≤ refusals.new }
+    ensures answer { result ≡ Err error }
+{
+    let _before = *refusals;
+    refuse(refusals, error)
+}
+
+/// The code that a session keeps after a commit that failed; `None` where it goes on.
+fn stop_after_commit(fault: &CommitFault) -> Option<StopCode>
+    ensures { StopAfterCommit (Err fault.now) result }
+{
+    match fault {
+        CommitFault::NoMemory => None,
+        CommitFault::Refused { error, .. } => Some(code_of_fault(error)),
+    }
+}
+
+impl<S: LayerBelow> Tells for TxnSession<S> {
+    ghost use Rattle.amqp_resource.specs.Session.{own_told};
+
+    ghost told = { own_told S.told };
+}
 
 impl<S: LayerBelow> HandleDeclare for TxnSession<S> {
     ghost use Rattle.amqp_resource.specs.Calls.{AllocationGives};
-    ghost use Rattle.amqp_resource.specs.Session.{refusals_of};
-
-    ghost refusals = { refusals_of };
 
     ghost allocate_gives = { λ old new before after result. AllocationGives old new result };
 
@@ -28,25 +55,18 @@ impl<S: LayerBelow> HandleDeclare for TxnSession<S> {
         ids: &mut G,
     ) -> Result<Drawn, AllocTxnIdError> {
         if self.stop.is_some() {
-            self.refusals = self.refusals.saturating_add(1);
-            return Err(AllocTxnIdError::NotImplemented);
+            return refuse_call(&mut self.refusals, AllocTxnIdError::NotImplemented);
         }
         let alloc = self.allocator();
         match allocate(&mut self.held, alloc, ids) {
             Ok(drawn) => Ok(drawn),
-            Err(error) => {
-                self.refusals = self.refusals.saturating_add(1);
-                Err(error)
-            }
+            Err(error) => refuse_call(&mut self.refusals, error),
         }
     }
 }
 
 impl<S: LayerBelow> HandleDischarge for TxnSession<S> {
     ghost use Rattle.amqp_resource.specs.Calls.{CommitGives, RollbackGives};
-    ghost use Rattle.amqp_resource.specs.Session.{refusals_of};
-
-    ghost refusals = { refusals_of };
 
     ghost commit_gives = { CommitGives S.told };
 
@@ -57,24 +77,15 @@ impl<S: LayerBelow> HandleDischarge for TxnSession<S> {
         txn_id: &TransactionId,
     ) -> Result<Result<Echoes, TransactionError>, CommitFault> {
         if self.stop.is_some() {
-            self.refusals = self.refusals.saturating_add(1);
-            return Ok(Err(TransactionError::UnknownId));
+            return Ok(refuse_call(&mut self.refusals, TransactionError::UnknownId));
         }
         let alloc = self.allocator();
         match commit_kept(&mut self.held, &mut self.below, alloc, *txn_id) {
             Ok(Ok(echoes)) => Ok(Ok(echoes)),
-            Ok(Err(error)) => {
-                self.refusals = self.refusals.saturating_add(1);
-                Ok(Err(error))
-            }
-            Err(CommitFault::NoMemory) => {
-                self.refusals = self.refusals.saturating_add(1);
-                Err(CommitFault::NoMemory)
-            }
-            Err(CommitFault::Refused { error, handed }) => {
-                self.refusals = self.refusals.saturating_add(1);
-                self.stop = Some(code_of_fault(&error));
-                Err(CommitFault::Refused { error, handed })
+            Ok(Err(error)) => Ok(refuse_call(&mut self.refusals, error)),
+            Err(fault) => {
+                self.stop = stop_after_commit(&fault);
+                refuse_call(&mut self.refusals, fault)
             }
         }
     }
@@ -84,15 +95,11 @@ impl<S: LayerBelow> HandleDischarge for TxnSession<S> {
         txn_id: &TransactionId,
     ) -> Result<Accepted, TransactionError> {
         if self.stop.is_some() {
-            self.refusals = self.refusals.saturating_add(1);
-            return Err(TransactionError::UnknownId);
+            return refuse_call(&mut self.refusals, TransactionError::UnknownId);
         }
         match roll_back_kept(&mut self.held, *txn_id) {
             Ok(accepted) => Ok(accepted),
-            Err(error) => {
-                self.refusals = self.refusals.saturating_add(1);
-                Err(error)
-            }
+            Err(error) => refuse_call(&mut self.refusals, error),
         }
     }
 }

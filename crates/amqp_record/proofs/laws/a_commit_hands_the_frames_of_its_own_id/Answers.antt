@@ -1,8 +1,8 @@
-use Rattle.amqp_record.proofs.Lives.{hands-own, length-mine}
+use Rattle.amqp_record.proofs.Lives.{hands-own, length-places}
 use Rattle.amqp_record.proofs.laws.a_commit_hands_the_frames_of_its_own_id.Goals as goal
 
 pub returns-clause-own : goal.returns-clause-own
 returns-clause-own c r s t h = hands-own r s t h
 
 pub returns-clause-places : goal.returns-clause-places
-returns-clause-places c r t = length-mine r t
+returns-clause-places c r t = length-places r t

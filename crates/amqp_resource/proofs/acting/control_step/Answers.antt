@@ -1,3 +1,6 @@
+use Rattle.std.proofs.Common.{◌≡◌, refl}
+use Rattle.amqp_record.specs.declared.step.Step.TheVariants as steps
+use Rattle.amqp_resource.proofs.Parts.{no_call_holds}
 use Rattle.amqp_resource.proofs.acting.control_step.Goals as goal
 
 pub returns-then-not-has_link-clause-goes : goal.returns-then-not-has_link-clause-goes
@@ -35,3 +38,15 @@ returns-in-Ok-Declare-Some-clause-keeps g c f = c.global_step.ensures.keeps _ f
 
 pub returns-in-Ok-Declare-None-clause-keeps : goal.returns-in-Ok-Declare-None-clause-keeps
 returns-in-Ok-Declare-None-clause-keeps g c f = c.declare_step.ensures.keeps _ f
+
+pub returns-then-not-has_link-clause-untouched : goal.returns-then-not-has_link-clause-untouched
+returns-then-not-has_link-clause-untouched g c = no_call_holds (steps.Control c.args.link c.args.payload.now) c.no_link_step.result (c.args.below.now ≡ c.args.below.now) refl
+
+pub returns-in-Err-clause-untouched : goal.returns-in-Err-clause-untouched
+returns-in-Err-clause-untouched g c = no_call_holds (steps.Control c.args.link c.args.payload.now) c.close_step.result (c.args.below.now ≡ c.args.below.now) refl
+
+pub returns-in-Ok-Declare-Some-clause-untouched : goal.returns-in-Ok-Declare-Some-clause-untouched
+returns-in-Ok-Declare-Some-clause-untouched g c = no_call_holds (steps.Control c.args.link c.args.payload.now) c.global_step.result (c.args.below.now ≡ c.args.below.now) refl
+
+pub returns-in-Ok-Declare-None-clause-untouched : goal.returns-in-Ok-Declare-None-clause-untouched
+returns-in-Ok-Declare-None-clause-untouched g c = no_call_holds (steps.Control c.args.link c.args.payload.now) c.declare_step.result (c.args.below.now ≡ c.args.below.now) refl

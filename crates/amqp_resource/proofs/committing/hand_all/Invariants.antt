@@ -4,11 +4,11 @@ use Rattle.amqp_resource.proofs.committing.hand_all.Given as goal
 
 abbrev pub invariant-loop-frame : goal.invariant-loop-frame
 invariant-loop-frame g l = record {
-  handed : HandedSome (g.S.LayerBelow.told l.fn.below) (g.S.LayerBelow.told l.below) (take (length l.echoes.items) l.fn.frames.items) l.echoes.items;
+  handed : HandedSome (g.S.Tells.told l.fn.below) (g.S.Tells.told l.below) (take (length l.echoes.items) l.fn.frames.items) l.echoes.items;
   rest : l.rest.items ≡ drop (length l.echoes.items) l.fn.frames.items;
   count : length l.echoes.items ≤ length l.fn.frames.items;
-  fixed : (g.S.LayerBelow.told l.below).fixed ≡ (g.S.LayerBelow.told l.fn.below).fixed;
-  later : (g.S.LayerBelow.told l.fn.below).refusals ≤ (g.S.LayerBelow.told l.below).refusals;
+  fixed : (g.S.Tells.told l.below).fixed ≡ (g.S.Tells.told l.fn.below).fixed;
+  later : (g.S.Tells.told l.fn.below).refusals ≤ (g.S.Tells.told l.below).refusals;
   room : length l.fn.frames.items ≤ vec_capacity l.echoes;
 }
 

@@ -1,11 +1,11 @@
 use Rattle.std.proofs.Common.{None, Some, [], cond, ap, ◌∙◌, refl, subst, ◌≡◌}
-use Rattle.amqp_record.specs.Entries.{same_id}
+use Rattle.amqp_txn_types.specs.Ids.{same_id}
 use Rattle.amqp_resource.specs.Draws.{DrewUnused}
 use Rattle.amqp_resource.specs.Held.{LiveIds, look}
 use Rattle.amqp_resource.proofs.declaring.allocate.Goals as goal
 
-pub returns-in-Some-clause-gave : goal.returns-in-Some-clause-gave
-returns-in-Some-clause-gave g c =
+pub returns-in-Some-clause-answer : goal.returns-in-Some-clause-answer
+returns-in-Some-clause-answer g c =
     let before = c.args.held.now.live.entries in
     let P : LiveIds → Type 0 = λ live. DrewUnused live c.draw_unused.new.drawn.ids c.in-Some.id in
     let same : c.reserve.new.self.entries ≡ before = c.in-Ok-reserve.ensures.entries in

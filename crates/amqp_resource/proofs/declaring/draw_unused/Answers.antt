@@ -2,8 +2,8 @@ use Rattle.std.proofs.Common.{ap, sym, ◌∙◌, subst, List, ◌++◌, ◌∷�
 use Rattle.std.specs.List.{list_all}
 use Rattle.std.proofs.lemmas.List.{length-append}
 use Rattle.amqp_txn_types.specs.declared.id.TransactionId.{TransactionId}
-use Rattle.amqp_below.specs.Ids.{Drew}
-use Rattle.amqp_below.proofs.Draws.{Drew-append, Drew-one}
+use Rattle.amqp_ids.specs.Ids.{Drew}
+use Rattle.amqp_ids.proofs.Draws.{Drew-append, Drew-one}
 use Rattle.amqp_resource.specs.Draws.{is_kept}
 use Rattle.amqp_resource.proofs.Going.{all-snoc}
 use Rattle.amqp_resource.proofs.declaring.draw_unused.Goals as goal

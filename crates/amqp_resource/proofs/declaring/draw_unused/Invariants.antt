@@ -1,6 +1,6 @@
 use Rattle.std.proofs.Common.{◌≡◌, ◌≤◌, ◌+◌, length, true}
 use Rattle.std.specs.List.{list_all}
-use Rattle.amqp_below.specs.Ids.{Drew}
+use Rattle.amqp_ids.specs.Ids.{Drew}
 use Rattle.amqp_resource.specs.Draws.{is_kept}
 use Rattle.amqp_resource.proofs.declaring.draw_unused.Given as goal
 

@@ -5,8 +5,8 @@ use Rattle.amqp_record.specs.declared.step.Step.{Step}
 use Rattle.amqp_resource.specs.Steps.{entry_of}
 use Rattle.amqp_resource.specs.Session.{held_of, below_of, stop_of}
 use Rattle.amqp_resource.specs.Drive.{Left}
-use Rattle.amqp_resource.proofs.Parts.{end_is, own_weaker}
-use Rattle.amqp_resource.proofs.Running.{Broke, broke_cause, broke_ended, broke_refused, broke_took, broke_unknown, failed, left-more, ran-more, ran-nil, some_step, stops_by}
+use Rattle.amqp_resource.proofs.Parts.{end_is, no_call_weaker}
+use Rattle.amqp_resource.proofs.Running.{Broke, broke_cause, broke_ended, broke_refused, broke_took, broke_unknown, failed, left-more, no_room, ran-more, ran-nil, stops_by}
 use Rattle.amqp_resource.proofs.driving.drive.Given.{Over}
 use Rattle.amqp_resource.proofs.Keeping.{fits-stands}
 use Rattle.amqp_resource.proofs.driving.drive.Goals as goal
@@ -17,7 +17,7 @@ loop-step-init g c =
     let all : c.from-rest.result.items ≡ c.args.steps = c.from-rest.ensures.0 ∙ c.into_vec.ensures in
     record {
       runs = c.requires.runs;
-      ran = rw items (ran-nil (g.S.LayerBelow.told (below_of c.args.session.now)) (g.G.IdSource.next c.args.ids.now) (held_of c.args.session.now) c.requires.stands);
+      ran = rw items (ran-nil (g.S.Tells.told (below_of c.args.session.now)) (g.G.IdSource.next c.args.ids.now) (held_of c.args.session.now) c.requires.stands);
       start = refl;
       left = rw items (sym all);
       count = rw items (omega (arith, ap length all));
@@ -53,7 +53,7 @@ loop-step-preserved g c =
     }
 
 -- what the step that stopped the run leaves
-broke : (g : Over) (c : goal.After-drop-rest g) → Broke (held_of c.step.new.self) (g.S.LayerBelow.told (below_of c.loop-step.session)) (g.S.LayerBelow.told (below_of c.step.new.self)) c.loop-step.entries.items c.in-Some.step c.in-Err.error (stop_of c.step.new.self)
+broke : (g : Over) (c : goal.After-drop-rest g) → Broke (held_of c.step.new.self) (g.S.Tells.told (below_of c.loop-step.session)) (g.S.Tells.told (below_of c.step.new.self)) c.loop-step.entries.items c.in-Some.step c.in-Err.error (stop_of c.step.new.self)
 broke g c =
     let r = c.loop-step.entries.items in
     let runs = c.loop-step.invariant.runs in
@@ -71,7 +71,7 @@ broke g c =
       ended = λ reason is. end_is _ _ reason (said.ended runs) is;
       ended_only = said.ended_only;
       memory = said.memory runs r stands;
-      own = own_weaker (failed c.in-Err.error) (below_of c.step.new.self ≡ below_of c.loop-step.session) _ (ap g.S.LayerBelow.told) said.untouched;
+      own = no_call_weaker c.in-Some.step (failed c.in-Err.error) (below_of c.step.new.self ≡ below_of c.loop-step.session) _ (ap g.S.Tells.told) said.untouched;
       later = said.later;
       fixed = said.fixed;
       stops = said.stops runs;
@@ -109,10 +109,10 @@ returns-in-Err-clause-refused g c =
 
 pub returns-in_default-clause-taken : goal.returns-in_default-clause-taken
 returns-in_default-clause-taken g c =
-    rw (c.driven.ensures, c.new.ensures.items) ((ran-nil (g.S.LayerBelow.told (below_of c.args.session.now)) (g.G.IdSource.next c.args.ids.now) (held_of c.args.session.now) c.requires.stands).taken, refl)
+    rw (c.driven.ensures, c.new.ensures.items) ((ran-nil (g.S.Tells.told (below_of c.args.session.now)) (g.G.IdSource.next c.args.ids.now) (held_of c.args.session.now) c.requires.stands).taken, refl)
 
 pub returns-in_default-clause-cause : goal.returns-in_default-clause-cause
-returns-in_default-clause-cause g c = rw (c.driven.ensures, c.new.ensures.items) (some_step c.args.steps (λ empty. let some = c.in_default.ensures.succeeds (c.len.ensures ∙ empty) in cc some))
+returns-in_default-clause-cause g c = rw (c.driven.ensures, c.new.ensures.items) (no_room c.args.steps (λ empty. let some = c.in_default.ensures.succeeds (c.len.ensures ∙ empty) in cc some))
 
 pub returns-in_default-clause-fits : goal.returns-in_default-clause-fits
 returns-in_default-clause-fits g c = fits-stands (held_of c.args.session.now) [] c.requires.stands

@@ -7,7 +7,7 @@ use Rattle.amqp_resource.proofs.driving.drive.Given as goal
 abbrev pub invariant-loop-step : goal.invariant-loop-step
 invariant-loop-step g l = record {
   runs : stop_of l.session ≡ None;
-  ran : Ran (g.S.LayerBelow.told (below_of l.fn.session)) (g.S.LayerBelow.told (below_of l.session)) (g.G.IdSource.next l.fn.ids) (g.G.IdSource.next l.ids) (held_of l.session) l.entries.items;
+  ran : Ran (g.S.Tells.told (below_of l.fn.session)) (g.S.Tells.told (below_of l.session)) (g.G.IdSource.next l.fn.ids) (g.G.IdSource.next l.ids) (held_of l.session) l.entries.items;
   start : g.G.IdSource.start l.ids ≡ g.G.IdSource.start l.fn.ids;
   left : Left l.fn.steps l.entries.items l.rest.items;
   count : length l.entries.items + length l.rest.items ≡ length l.fn.steps;

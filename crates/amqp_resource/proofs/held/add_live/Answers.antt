@@ -1,6 +1,6 @@
 use Rattle.std.proofs.Common.{ap, ◌∙◌, cond, List, Some}
 use Rattle.amqp_txn_types.specs.declared.performatives.Frame.{Frame}
-use Rattle.amqp_record.specs.Entries.{same_id}
+use Rattle.amqp_txn_types.specs.Ids.{same_id}
 use Rattle.amqp_resource.specs.declared.held.Live.{Live}
 use Rattle.amqp_resource.specs.Held.{look}
 use Rattle.amqp_resource.proofs.Kept.{look_updated}

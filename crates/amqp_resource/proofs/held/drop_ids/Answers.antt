@@ -1,7 +1,7 @@
 use Rattle.std.proofs.Common.{ap, sym, ◌∙◌, ◌||◌, cond, take, None, arith}
 use Rattle.std.specs.List.{list_any}
 use Rattle.std.proofs.lemmas.List.Folds.{list_any_more}
-use Rattle.amqp_record.specs.Entries.{same_id}
+use Rattle.amqp_txn_types.specs.Ids.{same_id}
 use Rattle.amqp_resource.specs.Held.{look}
 use Rattle.amqp_resource.proofs.Kept.{look_updated, gone_more}
 use Rattle.amqp_resource.proofs.held.drop_ids.Goals as goal

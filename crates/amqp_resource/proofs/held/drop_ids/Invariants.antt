@@ -1,7 +1,7 @@
 use Rattle.std.proofs.Common.{◌≡◌, cond, take, None}
 use Rattle.std.specs.List.{list_any}
 use Rattle.amqp_txn_types.specs.declared.id.TransactionId.{TransactionId}
-use Rattle.amqp_record.specs.Entries.{same_id}
+use Rattle.amqp_txn_types.specs.Ids.{same_id}
 use Rattle.amqp_resource.specs.Held.{look}
 use Rattle.amqp_resource.proofs.held.drop_ids.Given as goal
 

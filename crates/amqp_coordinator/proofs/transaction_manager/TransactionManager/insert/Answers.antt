@@ -1,5 +1,5 @@
 use Rattle.std.proofs.Common.{◌∙◌, ap, cond, Some, []}
-use Rattle.amqp_record.specs.Entries.{same_id}
+use Rattle.amqp_txn_types.specs.Ids.{same_id}
 use Rattle.amqp_coordinator.specs.Managing.{work_under}
 use Rattle.amqp_coordinator.proofs.transaction_manager.TransactionManager.insert.Goals as goal
 

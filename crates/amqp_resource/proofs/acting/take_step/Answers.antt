@@ -1,7 +1,7 @@
 use Rattle.std.proofs.Common.{◌≡◌, refl, Err}
-use Rattle.amqp_resource.proofs.Parts.{answers_end, local_error, own_holds, remote_error}
+use Rattle.amqp_resource.proofs.Parts.{answers_end, local_error, no_call_holds, remote_error}
 use Rattle.amqp_resource.proofs.Keeping.{keeps-end}
-use Rattle.amqp_resource.proofs.acting.act.Goals as goal
+use Rattle.amqp_resource.proofs.acting.take_step.Goals as goal
 
 pub returns-in-LinkEnd-clause-goes : goal.returns-in-LinkEnd-clause-goes
 returns-in-LinkEnd-clause-goes g c r s = rw c.in-LinkEnd.is (c.link_end_step.ensures.goes r s _)
@@ -19,7 +19,10 @@ pub returns-in-ConnectionStop-clause-ended : goal.returns-in-ConnectionStop-clau
 returns-in-ConnectionStop-clause-ended g c = rw c.in-ConnectionStop.is (answers_end _ _ _ refl c.end_with_connection.ensures)
 
 pub returns-in-RemoteEnd-clause-untouched : goal.returns-in-RemoteEnd-clause-untouched
-returns-in-RemoteEnd-clause-untouched g c = own_holds (Err c.end_remotely.result) (c.args.below.now ≡ c.args.below.now) refl
+returns-in-RemoteEnd-clause-untouched g c = no_call_holds c.args.step.now (Err c.end_remotely.result) (c.args.below.now ≡ c.args.below.now) refl
+
+pub returns-in-LinkEnd-clause-untouched : goal.returns-in-LinkEnd-clause-untouched
+returns-in-LinkEnd-clause-untouched g c = no_call_holds c.args.step.now c.link_end_step.result (c.args.below.now ≡ c.args.below.now) refl
 
 pub returns-in-LinkEnd-clause-keeps : goal.returns-in-LinkEnd-clause-keeps
 returns-in-LinkEnd-clause-keeps g c f = rw c.in-LinkEnd.is (c.link_end_step.ensures.keeps _ f)
@@ -32,3 +35,9 @@ returns-in-RemoteEnd-clause-keeps g c f = rw c.in-RemoteEnd.is (keeps-end c.args
 
 pub returns-in-ConnectionStop-clause-keeps : goal.returns-in-ConnectionStop-clause-keeps
 returns-in-ConnectionStop-clause-keeps g c f = rw c.in-ConnectionStop.is (keeps-end c.args.held.now _ _ _ _ _ c.end_with_connection.ensures refl (λ u. u) f)
+
+pub returns-in-LocalEnd-clause-untouched : goal.returns-in-LocalEnd-clause-untouched
+returns-in-LocalEnd-clause-untouched g c = no_call_holds c.args.step.now (Err c.end_locally.result) (c.args.below.now ≡ c.args.below.now) refl
+
+pub returns-in-ConnectionStop-clause-untouched : goal.returns-in-ConnectionStop-clause-untouched
+returns-in-ConnectionStop-clause-untouched g c = no_call_holds c.args.step.now (Err c.end_with_connection.result) (c.args.below.now ≡ c.args.below.now) refl
