@@ -1,34 +1,24 @@
 //! The program: its words, standard input and standard output around the top call.
 //!
-//! It reads standard input to its end, calls `run` over a recorder that takes everything, writes
-//! out what was answered, and ends with the status.
+//! It reads the words, and standard input to its end where they ask for a run of it, calls
+//! `run_command` over a recorder that takes everything, writes out what was answered, and ends with
+//! the status.
 #![tactic(auto)]
 
+ghost use Rattle.std.specs.Prelude.{IfOk};
+ghost use Rattle.txn_program.specs.Words.{IsWithin};
+
+mod fault;
+
+use crate::fault::{Fault, exit_of};
 use amqp_below::{OpenSession, Recorder, SureSink, SureSource};
-use amqp_txn_types::{Binary, Items, NoMemory, Text};
+use amqp_txn_types::{Binary, Items, Text};
 use std::alloc::{Alloc, Global};
 use std::env::{self, Env};
 use std::io::{self, Input, Print, Read};
+use std::mem::ManuallyDrop;
 use std::process::ExitCode;
-use txn_program::{Command, command_of, run, status};
-
-/// Why a call has no answer of its own.
-enum Fault {
-    /// A word isn't UTF-8.
-    Words,
-    /// Standard input failed.
-    Read,
-    /// Standard output failed.
-    Write,
-    /// An allocation failed.
-    NoMemory,
-}
-
-impl From<NoMemory> for Fault {
-    fn from(_error: NoMemory) -> Self {
-        Fault::NoMemory
-    }
-}
+use txn_program::{Command, command_of, run_command};
 
 /// The words after the program's name.
 fn words(rt: &(impl Env + Alloc<A = Global>)) -> Result<Items<Text>, Fault> {
@@ -39,11 +29,17 @@ fn words(rt: &(impl Env + Alloc<A = Global>)) -> Result<Items<Text>, Fault> {
     })?;
     for word in all.skip(1) {
         let word = Text::from_str(rt.alloc(), word.as_str())?;
-        if words.push(word).is_err() {
-            return Err(Fault::NoMemory);
-        }
+        words.append(word)?;
     }
     Ok(words)
+}
+
+/// What the words ask for, none where they are outside the table.
+fn command(rt: &(impl Env + Alloc<A = Global>)) -> Result<Option<Command>, Fault>
+    ensures { IfOk result IsWithin }
+{
+    let words = words(rt)?;
+    Ok(command_of(rt.alloc(), words.as_slice())?)
 }
 
 /// All octets of standard input.
@@ -56,42 +52,43 @@ fn octets(rt: &(impl Input + Alloc<A = Global>)) -> Result<Binary, Fault> {
     }
 }
 
-/// What the program does, with the status of its end.
+/// What a command reads: only a run of the input reads.
+fn input(
+    rt: &(impl Input + Alloc<A = Global>),
+    command: &Option<Command>,
+) -> Result<Binary, Fault> {
+    match command {
+        Some(Command::Run { .. }) => octets(rt),
+        Some(Command::Make(_)) | None => Ok(Binary::new(rt.alloc())),
+    }
+}
+
+/// What the program does, with the status of the run. The record isn't taken apart at the end: the
+/// process gives all its memory back at once.
 fn serve(rt: &(impl Env + Input + Print + Alloc<A = Global>)) -> Result<u8, Fault> {
     let alloc = rt.alloc();
-    let words = words(rt)?;
-    // Only a run of the input reads.
-    let octets = match command_of(alloc, words.as_slice())? {
-        Some(Command::Run { .. }) => octets(rt)?,
-        Some(Command::Make(_)) | None => Binary::new(alloc),
-    };
-    let mut input = SureSource::new(octets);
+    let command = command(rt)?;
+    let mut input = SureSource::new(input(rt, &command)?);
     let mut output = SureSink::new(alloc);
     let below = Recorder::new(alloc, OpenSession::new(alloc));
-    let ran = run(alloc, words.as_slice(), below, &mut input, &mut output);
+    let ran = ManuallyDrop::new(run_command(alloc, command, below, &mut input, &mut output));
     match rt.write_all(output.as_slice()) {
         Ok(()) => Ok(ran.status),
         Err(_) => Err(Fault::Write),
     }
 }
 
-/// The status of a fault, once its text is written.
-fn told(rt: &impl Print, fault: Fault) -> u8 {
-    let (status, text) = match fault {
-        Fault::Words => (status::USAGE, "usage\n"),
-        Fault::Read => (status::READ_FAULT, "read fault\n"),
-        Fault::Write => return status::WRITE_FAULT,
-        Fault::NoMemory => return status::NO_MEMORY,
-    };
-    match rt.write_all(text.as_bytes()) {
-        Ok(()) => status,
-        Err(_) => status::WRITE_FAULT,
+/// Writes the text of a fault. The answer is the fault that the process ends with.
+fn told(rt: &impl Print, fault: Fault) -> Fault {
+    match rt.write_all(fault.text().as_bytes()) {
+        Ok(()) => fault,
+        Err(_) => Fault::Write,
     }
 }
 
 fn main(rt: HostRuntime) -> ExitCode {
     match serve(&rt) {
-        Ok(status) => ExitCode::from(status),
-        Err(fault) => ExitCode::from(told(&rt, fault)),
+        Ok(status) => exit_of(Ok(status)),
+        Err(fault) => exit_of(Err(told(&rt, fault))),
     }
 }

@@ -5,4 +5,7 @@ pub mod Putting
 pub mod Spelling
 pub mod WordLemmas
 pub mod Makes
+pub mod Midway
+pub mod MadeRuns
+pub mod Endings
 pub mod Runs

@@ -12,10 +12,10 @@ made_from-pair (suc (suc left)) number delivery two =
     ap (λ n. made_pair number delivery ++ made_from n (number + 2) (delivery + 6)) less
 
 -- the steps so far, then those of two transactions, then those of the others
-pub pair_pushed : (all steps pushed : List Step) (left number delivery : ℕ) → 2 ≤ left
-    → pushed ≡ steps ++ made_pair number delivery
+pub pair_appended : (all steps appended : List Step) (left number delivery : ℕ) → 2 ≤ left
+    → appended ≡ steps ++ made_pair number delivery
     → steps ++ made_from left number delivery ≡ all
-    → pushed ++ made_from (left - 2) (number + 2) (delivery + 6) ≡ all
-pair_pushed all steps pushed left number delivery two is so_far =
+    → appended ++ made_from (left - 2) (number + 2) (delivery + 6) ≡ all
+pair_appended all steps appended left number delivery two is so_far =
     rw is (append_assoc steps (made_pair number delivery) (made_from (left - 2) (number + 2) (delivery + 6))
     ∙ sym (ap (λ (more : List Step). steps ++ more) (made_from-pair left number delivery two)) ∙ so_far)

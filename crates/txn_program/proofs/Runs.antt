@@ -3,9 +3,10 @@ use Rattle.std.proofs.Common.{◌≡◌, ℕ, ◌+◌, ◌↔◌, Option, Some, 
 use Rattle.amqp_txn_types.specs.declared.id.TransactionId.{TransactionId}
 use Rattle.amqp_txn_types.specs.declared.performatives.Attach.{Attach}
 use Rattle.amqp_txn_types.specs.declared.performatives.Frame.{Frame}
-use Rattle.amqp_below.specs.declared.refusal.Refusal.{Refusal}
-use Rattle.amqp_below.specs.Ids.{AreNext}
-use Rattle.amqp_below.specs.Told.{Told, grown}
+use Rattle.amqp_layer.specs.declared.refusal.Refusal.{Refusal}
+use Rattle.amqp_ids.specs.Ids.{AreNext}
+use Rattle.amqp_layer.specs.Told.{Told}
+use Rattle.amqp_txn_types.specs.Growing.{grown}
 use Rattle.amqp_record.specs.declared.step.Step.{Step}
 use Rattle.amqp_record.specs.declared.stop.Driven.{Driven}
 use Rattle.amqp_record.specs.declared.stop.Stop.TheVariants as stops

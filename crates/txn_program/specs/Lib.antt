@@ -3,6 +3,8 @@ pub mod LineWords
 pub mod Lines
 pub mod Reads
 pub mod Report
-pub mod Running
-pub mod Words
 pub mod Made
+pub mod Words
+pub mod Running
+pub mod Completing
+pub mod Serving

@@ -19,7 +19,8 @@ None >>= f = None
 -- an octet of a name: a letter, a digit, `-`, `_` or `.`
 abbrev pub is_name_octet : ℕ → Bool
 is_name_octet b =
-    (nat_le 97 b && nat_le b 122) || (nat_le 65 b && nat_le b 90) || is_ascii_digit b || b == 45 || b == 95 || b == 46
+    (nat_le 97 b && nat_le b 122) || (nat_le 65 b && nat_le b 90) || is_ascii_digit b
+    || b == 45 || b == 95 || b == 46
 
 -- a name: 1 to 64 octets of names
 abbrev pub is_name : List ℕ → Bool
@@ -71,13 +72,21 @@ role_of word =
     else if bytes_eq word (codes "receiver") then Some roles.Receiver
     else None
 
+-- modified, with no field set
+abbrev pub bare_modified : Outcome
+bare_modified = outcomes.Modified (record {
+  delivery_failed = None;
+  undeliverable_here = None;
+  message_annotations = None;
+})
+
 -- OUT, where it names an outcome
 abbrev pub outcome_of : List ℕ → Option Outcome
 outcome_of word =
     if bytes_eq word (codes "accepted") then Some outcomes.Accepted
     else if bytes_eq word (codes "rejected") then Some (outcomes.Rejected (record { error = None }))
     else if bytes_eq word (codes "released") then Some outcomes.Released
-    else if bytes_eq word (codes "modified") then Some (outcomes.Modified (record { delivery_failed = None; undeliverable_here = None; message_annotations = None }))
+    else if bytes_eq word (codes "modified") then Some bare_modified
     else None
 
 -- something, where a word means it
@@ -95,7 +104,8 @@ octets_of word = result_ok (decode_of word)
 
 -- octets, at least `least` and at most `most` of them
 abbrev pub between : ℕ → ℕ → List ℕ → Option (List ℕ)
-between least most octets = if nat_le least (length octets) && nat_le (length octets) most then Some octets else None
+between least most octets =
+    if nat_le least (length octets) && nat_le (length octets) most then Some octets else None
 
 -- T
 abbrev pub txn_id_of : List ℕ → Option (List ℕ)

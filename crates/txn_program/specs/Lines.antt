@@ -165,8 +165,9 @@ disposition_of deliveries state = record {
 }
 
 -- the state of a delivery under a transaction
-abbrev pub under : List ℕ → Option Outcome → Option DeliveryState
-under txn_id outcome = Some (states.TransactionalState (record { txn_id = txn_id; outcome = outcome }))
+abbrev pub state_under : List ℕ → Option Outcome → Option DeliveryState
+state_under txn_id outcome =
+    Some (states.TransactionalState (record { txn_id = txn_id; outcome = outcome }))
 
 -- H ID SET
 unfoldable pub delivery_at : List (List ℕ) → Option (Delivery × List (List ℕ))
@@ -211,7 +212,8 @@ link_flow_line words = do
 unfoldable pub flow_line : List (List ℕ) → Option Step
 flow_line words = do
   first ← word_at words
-  if bytes_eq first.0 (codes "-") then alone first.1 (steps.Frame (frames.Flow (flow_of None))) else link_flow_line words
+  if bytes_eq first.0 (codes "-") then alone first.1 (steps.Frame (frames.Flow (flow_of None)))
+      else link_flow_line words
 
 -- transfer H ID SET PAYLOAD
 unfoldable pub transfer_line : List (List ℕ) → Option Step
@@ -227,14 +229,16 @@ post_line words = do
   delivery ← delivery_at txn_id.1
   outcome ← next (optional outcome_of) delivery.1
   payload ← next payload_of outcome.1
-  alone payload.1 (steps.Frame (frames.Transfer (transfer_of delivery.0 (under txn_id.0 outcome.0)) payload.0))
+  alone payload.1 (steps.Frame
+      (frames.Transfer (transfer_of delivery.0 (state_under txn_id.0 outcome.0)) payload.0))
 
 -- disposition ROLE FIRST LAST BOOL OUT
 unfoldable pub disposition_line : List (List ℕ) → Option Step
 disposition_line words = do
   deliveries ← deliveries_at words
   outcome ← next (optional outcome_of) deliveries.1
-  alone outcome.1 (steps.Frame (frames.Disposition (disposition_of deliveries.0 (state_of_outcomes outcome.0))))
+  alone outcome.1 (steps.Frame
+      (frames.Disposition (disposition_of deliveries.0 (state_of_outcomes outcome.0))))
 
 -- retire T ROLE FIRST LAST BOOL OUT
 unfoldable pub retire_line : List (List ℕ) → Option Step
@@ -242,14 +246,19 @@ retire_line words = do
   txn_id ← next txn_id_of words
   deliveries ← deliveries_at txn_id.1
   outcome ← next (optional outcome_of) deliveries.1
-  alone outcome.1 (steps.Frame (frames.Disposition (disposition_of deliveries.0 (under txn_id.0 outcome.0))))
+  alone outcome.1 (steps.Frame
+      (frames.Disposition (disposition_of deliveries.0 (state_under txn_id.0 outcome.0))))
 
 -- detach H BOOL
 unfoldable pub detach_line : List (List ℕ) → Option Step
 detach_line words = do
   handle ← next u32_of words
   closed ← next bool_of handle.1
-  alone closed.1 (steps.Frame (frames.Detach (record { handle = record { 0 = handle.0 }; closed = closed.0; error = None })))
+  alone closed.1 (steps.Frame (frames.Detach (record {
+    handle = record { 0 = handle.0 };
+    closed = closed.0;
+    error = None;
+  })))
 
 -- control K PAYLOAD
 unfoldable pub control_line : List (List ℕ) → Option Step
@@ -279,7 +288,8 @@ step_of_words kind words =
     else if bytes_eq kind (codes "link-end") then link_end_line words
     else if bytes_eq kind (codes "end") then alone words (steps.LocalEnd None)
     else if bytes_eq kind (codes "remote-end") then alone words (steps.RemoteEnd None)
-    else if bytes_eq kind (codes "connection-stop") then alone words (steps.ConnectionStop reasons.RemoteClosed)
+    else if bytes_eq kind (codes "connection-stop") then
+    alone words (steps.ConnectionStop reasons.RemoteClosed)
     else None
 
 -- the step that a line spells
@@ -297,8 +307,9 @@ step_then (Some step) number (Err bad) = Err bad
 -- the steps of lines of which the first has that number
 unfoldable pub steps_from : ℕ → List (List ℕ) → Result (List Step) ℕ
 steps_from number [] = Ok []
-steps_from number (line ∷ others) = step_then (step_of_line line) number (steps_from (number + 1) others)
+steps_from number (line ∷ others) =
+    step_then (step_of_line line) number (steps_from (number + 1) others)
 
 -- the steps of the input's lines, or the number, from 1, of the first line that isn't a step
-abbrev pub steps_of : List ℕ → Result (List Step) ℕ
-steps_of octets = steps_from 1 (lines_of octets)
+abbrev pub input_steps : List ℕ → Result (List Step) ℕ
+input_steps octets = steps_from 1 (lines_of octets)

@@ -15,7 +15,7 @@ use Rattle.amqp_txn_types.specs.declared.performatives.Flow.{Flow}
 use Rattle.amqp_txn_types.specs.declared.performatives.Disposition.{Disposition}
 use Rattle.amqp_txn_types.specs.declared.performatives.Frame.{Frame}
 use Rattle.amqp_txn_types.specs.declared.performatives.Frame.TheVariants as frames
-use Rattle.amqp_below.specs.declared.answers.Answers.{Answers}
+use Rattle.amqp_layer.specs.declared.answers.Answers.{Answers}
 use Rattle.amqp_record.specs.declared.reply.Reply.{Reply}
 use Rattle.amqp_record.specs.declared.reply.Reply.TheVariants as replies
 use Rattle.amqp_record.specs.declared.reply.RejectText.{RejectText}
@@ -86,7 +86,8 @@ state_word (states.Rejected rejected) = codes "rejected"
 state_word states.Released = codes "released"
 state_word (states.Modified modified) = codes "modified"
 state_word (states.Declared declared) = codes "declared:" ++ encode_lower declared.txn_id
-state_word (states.TransactionalState t) = codes "txn:" ++ (encode_lower t.txn_id ++ (codes ":" ++ optional_outcome_word t.outcome))
+state_word (states.TransactionalState t) =
+    codes "txn:" ++ (encode_lower t.txn_id ++ (codes ":" ++ optional_outcome_word t.outcome))
 
 -- a delivery state, or `-` for none
 abbrev pub optional_state_word : Option DeliveryState → List ℕ
@@ -96,17 +97,22 @@ optional_state_word (Some state) = state_word state
 -- the words of a disposition
 abbrev pub disposition_words : Disposition → List ℕ
 disposition_words d =
-    spaced (role_word d.role ∷ decimal d.first ∷ number_word d.last ∷ bool_word d.settled ∷ optional_state_word d.state ∷ [])
+    spaced (role_word d.role ∷ decimal d.first ∷ number_word d.last ∷ bool_word d.settled
+    ∷ optional_state_word d.state ∷ [])
 
 -- a frame: its name, and a word for each of its fields that is shown
 unfoldable pub frame_text : Frame → List ℕ
-frame_text (frames.Attach a) = codes "attach" ++ spaced (a.name ∷ decimal a.handle.0 ∷ role_word a.role ∷ [])
-frame_text (frames.Flow f) = codes "flow" ++ spaced (handle_word f.handle ∷ number_word f.link_credit ∷ [])
+frame_text (frames.Attach a) =
+    codes "attach" ++ spaced (a.name ∷ decimal a.handle.0 ∷ role_word a.role ∷ [])
+frame_text (frames.Flow f) =
+    codes "flow" ++ spaced (handle_word f.handle ∷ number_word f.link_credit ∷ [])
 frame_text (frames.Transfer t payload) =
     codes "transfer"
-    ++ spaced (decimal t.handle.0 ∷ number_word t.delivery_id ∷ settled_word t.settled ∷ optional_state_word t.state ∷ payload_word payload ∷ [])
+    ++ spaced (decimal t.handle.0 ∷ number_word t.delivery_id ∷ settled_word t.settled
+    ∷ optional_state_word t.state ∷ payload_word payload ∷ [])
 frame_text (frames.Disposition d) = codes "disposition" ++ disposition_words d
-frame_text (frames.Detach d) = codes "detach" ++ spaced (decimal d.handle.0 ∷ bool_word d.closed ∷ [])
+frame_text (frames.Detach d) =
+    codes "detach" ++ spaced (decimal d.handle.0 ∷ bool_word d.closed ∷ [])
 
 -- a condition of a transaction
 abbrev pub error_word : TransactionError → List ℕ
@@ -150,7 +156,8 @@ reply_text replies.NoLink = codes "no-link"
 reply_text (replies.LinkClosed error) = codes "link-closed not-allowed"
 reply_text (replies.Declared txn_id) = codes "declared " ++ encode_lower txn_id
 reply_text (replies.Accepted echoes) = codes "accepted"
-reply_text (replies.Rejected error text) = codes "rejected " ++ (error_word error ++ reject_words text)
+reply_text (replies.Rejected error text) =
+    codes "rejected " ++ (error_word error ++ reject_words text)
 
 -- the window's flow, where it is given
 abbrev pub window_frames : Option Flow → List Frame
@@ -181,8 +188,8 @@ abbrev pub taken_line : (Frame × List Frame) → List ℕ
 taken_line exchange = line (codes "taken " ++ frame_text exchange.0)
 
 -- the report of a run, and of what was taken
-unfoldable pub text_of : Driven → List (Frame × List Frame) → List ℕ
-text_of driven taken =
+unfoldable pub report_text : Driven → List (Frame × List Frame) → List ℕ
+report_text driven taken =
     flat_map entry_lines driven.entries
     ++ (line (codes "stop " ++ stop_word (code_of driven.stop))
     ++ (line (codes "handed " ++ decimal driven.handed)

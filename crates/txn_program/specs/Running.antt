@@ -1,11 +1,11 @@
 -- What a run of the program answers: its statuses, its record, what was taken, and what is written.
-use Rattle.std.specs.Prelude.{ℕ, ◌≡◌, ◌==◌, ◌↔◌, ◌++◌, Option, Some, None, Result, Ok, Err, List, [], length, take, codes, ◌⊎◌, IsNone, IfSome, IsOkAnd, if◌then◌else◌}
+use Rattle.std.specs.Prelude.{ℕ, ◌≡◌, ◌==◌, ◌↔◌, ◌++◌, Option, Some, None, Result, Ok, Err, List, [], length, take, codes, unwrap_or, ◌⊎◌, IsNone, IfSome, IsOkAnd, if◌then◌else◌}
 use Rattle.std.specs.Fmt.{decimal}
 use Rattle.amqp_txn_types.specs.declared.id.TransactionId.{TransactionId}
 use Rattle.amqp_txn_types.specs.declared.performatives.Frame.{Frame}
-use Rattle.amqp_below.specs.declared.inner_error.SessionInnerError.TheVariants as faults
-use Rattle.amqp_below.specs.Told.{Told}
-use Rattle.amqp_below.specs.Ids.{AreNext}
+use Rattle.amqp_layer.specs.declared.inner_error.SessionInnerError.TheVariants as faults
+use Rattle.amqp_layer.specs.Told.{Told}
+use Rattle.amqp_ids.specs.Ids.{AreNext}
 use Rattle.amqp_record.specs.declared.step.Step.{Step}
 use Rattle.amqp_record.specs.declared.entry.Entry.{Entry}
 use Rattle.amqp_record.specs.declared.stop.Stop.{Stop}
@@ -14,19 +14,18 @@ use Rattle.amqp_record.specs.declared.stop.Driven.{Driven}
 use Rattle.amqp_record.specs.Entries.{drawn_of, steps_of}
 use Rattle.amqp_record.specs.Legal.{IsLegal}
 use Rattle.amqp_record.specs.Opened.{opens}
-use Rattle.amqp_resource.specs.Drive.{RunTook, RunRefused, RunRose, StopCause}
-use Rattle.amqp_resource.specs.Counted.{counted}
-use Rattle.amqp_resource.specs.Listed.{listed}
+use Rattle.amqp_resource.specs.Drive.{RunTook, RunRefused, StopCause}
+use Rattle.amqp_ids.specs.Counted.{ids_from}
+use Rattle.amqp_ids.specs.Listed.{listed}
 use Rattle.txn_program.specs.Made.{made, made_text}
-use Rattle.txn_program.specs.Report.{text_of}
+use Rattle.txn_program.specs.Report.{report_text}
 use Rattle.txn_program.specs.declared.words.Command.{Command}
 use Rattle.txn_program.specs.declared.words.Command.TheVariants as commands
 
--- the text of a line of the input that isn't a step
-abbrev pub line_text : ℕ → List ℕ
-line_text number = codes "not a step: line " ++ decimal number ++ codes "\n"
+-- ---- statuses
 
--- the status of a stop: 0 every step has its entry, 8 want of memory below, 1 any other fault and an end, 6 want of memory here
+-- the status of a stop: 0 every step has its entry, 8 want of memory below, 1 any other fault and
+-- an end, 6 want of memory here
 abbrev pub stop_status : Stop → ℕ
 stop_status stops.Done = 0
 stop_status (stops.Fault faults.NoMemory) = 8
@@ -50,24 +49,25 @@ status_of None spelled driven = 2
 status_of (Some (commands.Run plan ids)) spelled driven = input_status spelled driven
 status_of (Some (commands.Make count)) spelled driven = driven_status driven
 
--- a list, where it is told
-abbrev pub list_of : Option (List (Frame × List Frame)) → List (Frame × List Frame)
-list_of None = []
-list_of (Some pairs) = pairs
+-- ---- texts
+
+-- the text of a line of the input that isn't a step
+abbrev pub line_text : ℕ → List ℕ
+line_text number = codes "not a step: line " ++ decimal number ++ codes "\n"
 
 -- what the layer below took
 abbrev pub taken_of : Told → List (Frame × List Frame)
-taken_of told = list_of told.taken
+taken_of told = unwrap_or told.taken []
 
 -- the report, where steps were driven
-abbrev pub report_text : Told → Option Driven → List ℕ
-report_text below None = []
-report_text below (Some driven) = text_of driven (taken_of below)
+abbrev pub driven_text : Told → Option Driven → List ℕ
+driven_text below None = []
+driven_text below (Some driven) = report_text driven (taken_of below)
 
 -- the text of a run of the input: of the line that isn't a step, or the report
 abbrev pub input_text : Told → Result (List Step) ℕ → Option Driven → List ℕ
 input_text below (Err line) driven = line_text line
-input_text below (Ok steps) driven = report_text below driven
+input_text below (Ok steps) driven = driven_text below driven
 
 -- the text of a made run, where steps were driven
 abbrev pub summary_text : Told → Option Driven → List ℕ
@@ -84,13 +84,10 @@ written_text below (Some (commands.Make count)) spelled driven = summary_text be
 abbrev pub text_by : ℕ → List ℕ → List ℕ
 text_by status text = if status == 6 then [] else text
 
--- the steps that the words ask for, with the ids that declares draw: a run of the input, of which every line is a step, with the ids of the words, or a made run with the numbers from 1
-abbrev pub IsRunOf : Option Command → Result (List Step) ℕ → ((ℕ → TransactionId) → List Step → Type 0) → Type 0
-IsRunOf None spelled P = ⊥
-IsRunOf (Some (commands.Run plan ids)) spelled P = IsOkAnd spelled (P (listed ids))
-IsRunOf (Some (commands.Make count)) spelled P = P (counted 1) (made count)
+-- ---- what a call leaves
 
--- what is left of the input: a run reads it to its end before it drives a step, and nothing else reads it
+-- what is left of the input: a run reads it to its end before it drives a step, and nothing else
+-- reads it
 abbrev pub LeftUnread : Option Command → Option Driven → List ℕ → List ℕ → Type 0
 LeftUnread None driven before after = after ≡ before
 LeftUnread (Some (commands.Run plan ids)) driven before after = IfSome driven (λ d. after ≡ [])
@@ -107,7 +104,8 @@ plan_left before None = before
 plan_left before (Some (commands.Run plan ids)) = plan_or before plan
 plan_left before (Some (commands.Make count)) = before
 
--- the plan at the end is the LIST of the words, or as it was without one; for want of memory before the drive it may be as it was
+-- the plan at the end is the LIST of the words, or as it was without one; for want of memory before
+-- the drive it may be as it was
 abbrev pub PlanLeft : Option Command → ℕ → Option Driven → List ℕ → List ℕ → Type 0
 PlanLeft command status driven before after =
     (after ≡ plan_left before command) ⊎ ((status ≡ 6) × IsNone driven × (after ≡ before))
@@ -119,8 +117,12 @@ pub record Untouched (before after : Told) : Type 0 where
   pub refused : after.refused ≡ before.refused
   pub refusals : after.refusals ≡ before.refusals
 
--- a legal run over a front of the steps, with the ids of that source, and what the layer below has then taken, opened and refused of it
-pub record IsRun (ids : ℕ → TransactionId) (steps : List Step) (below : Told) (driven : Driven) : Type 0 where
+-- ---- a run and its record
+
+-- a legal run over a front of the steps, with the ids of that source, and what the layer below has
+-- then taken, opened and refused of it
+pub record IsRun (ids : ℕ → TransactionId) (steps : List Step) (below : Told)
+    (driven : Driven) : Type 0 where
   -- the record is legal, for the id source
   pub legal : IsLegal driven.entries
   pub drawn : AreNext ids 0 (drawn_of driven.entries)
@@ -130,7 +132,16 @@ pub record IsRun (ids : ℕ → TransactionId) (steps : List Step) (below : Told
   -- every step has its entry, or the next step is what stopped it
   pub done : (driven.stop ≡ stops.Done) ↔ (steps_of driven.entries ≡ steps)
   pub cause : StopCause steps driven.entries driven.stop
-  -- taken are the pairs of the record and, only after a refusal below, the first `handed` frames of the next step
+  -- taken are the pairs of the record and, only after a refusal below, the first `handed` frames
+  -- of the next step
   pub taken : RunTook (Some []) below.taken steps driven.entries driven.stop driven.handed
   pub opened : below.opened ≡ Some (opens driven.entries)
   pub refused : RunRefused (Some []) below.refused steps driven.entries driven.stop driven.handed
+
+-- the steps that the words ask for, with the ids that declares draw: a run of the input, of which
+-- every line is a step, with the ids of the words, or a made run with the numbers from 1
+abbrev pub IsRunOf : Option Command → Result (List Step) ℕ
+    → ((ℕ → TransactionId) → List Step → Type 0) → Type 0
+IsRunOf None spelled P = ⊥
+IsRunOf (Some (commands.Run plan ids)) spelled P = IsOkAnd spelled (P (listed ids))
+IsRunOf (Some (commands.Make count)) spelled P = P (ids_from 1) (made count)

@@ -37,8 +37,8 @@ abbrev pub call_of : List ℕ → Option ℕ
 call_of word = count_of 18446744073709551615 word
 
 -- LIST: 1 to 64 numbers, parted by commas
-abbrev pub list_of : List ℕ → Option (List ℕ)
-list_of word = each call_of (slice_split (λ b. b == 44) word) >>= some_few
+abbrev pub call_list_of : List ℕ → Option (List ℕ)
+call_list_of word = each call_of (slice_split (λ b. b == 44) word) >>= some_few
 
 -- ID ID .., under a plan
 abbrev pub run_of : Option (List ℕ) → List (List ℕ) → Option Command
@@ -50,13 +50,14 @@ run_of plan words = do
 abbrev pub refusing_words : List (List ℕ) → Option Command
 refusing_words [] = None
 refusing_words (word ∷ words) = do
-  plan ← list_of word
+  plan ← call_list_of word
   run_of (Some plan) words
 
 -- `run --refuse LIST ID ID ..`, or without a plan `run ID ID ..`
 abbrev pub run_words : List (List ℕ) → Option Command
 run_words [] = None
-run_words (word ∷ words) = if bytes_eq word (codes "--refuse") then refusing_words words else run_of None (word ∷ words)
+run_words (word ∷ words) =
+    if bytes_eq word (codes "--refuse") then refusing_words words else run_of None (word ∷ words)
 
 -- `make N`, with N from 1 to 20,000
 abbrev pub make_words : List (List ℕ) → Option Command
@@ -73,7 +74,8 @@ command_of (word ∷ words) =
     else if bytes_eq word (codes "make") then make_words words
     else None
 
--- a command stays within the limits of the table: a run names an id, and 1 to 20,000 transactions are made
+-- a command stays within the limits of the table: a run names an id, and 1 to 20,000 transactions
+-- are made
 abbrev pub IsWithin : Option Command → Type 0
 IsWithin None = Unit {0}
 IsWithin (Some (commands.Run plan ids)) = 0 < length ids

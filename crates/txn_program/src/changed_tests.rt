@@ -8,10 +8,12 @@ use amqp_txn_types::{Frames, NoMemory, TransactionId};
 use std::alloc::Global;
 use std::test::Fail;
 
-const ONE_COMMIT: &str =
-    "attach c 0\nattach d 1\ncontrol 0 00537700533145\npost 00000000000000000000000000000001 1 7 - - 6869\ncontrol 0 005377005332c01301a01000000000000000000000000000000001\n";
+const ONE_COMMIT: &str = "attach c 0\nattach d 1\ncontrol 0 00537700533145\n\
+     post 00000000000000000000000000000001 1 7 - - 6869\n\
+     control 0 005377005332c01301a01000000000000000000000000000000001\n";
 
-/// The entries of one committed transaction, on the first of two links; none where no step was driven.
+/// The entries of one committed transaction, on the first of two links; none where no step was
+/// driven.
 fn entries_of(alloc: Global) -> Result<Vec<Entry>, NoMemory> {
     let mut sink = SureSink::new(alloc);
     let ran = ran(alloc, &["run", A], ONE_COMMIT, &mut sink);

@@ -7,7 +7,8 @@ ghost use Rattle.txn_program.specs.Cutting.{pieces_left};
 /// The first piece of octets that are cut at each separator, and what follows that separator;
 /// `None` where it is the last piece.
 pub(crate) fn cut_at(octets: &[u8], separator: u8) -> (&[u8], Option<&[u8]>)
-    ensures pieces { slice_split (λ b. b == separator) octets.now ≡ result.0.now ∷ pieces_left separator result.1 }
+    ensures pieces { slice_split (λ b. b == separator) octets.now
+        ≡ result.0.now ∷ pieces_left separator result.1 }
     ensures last { IfNone result.1 (result.0.now ≡ octets.now) }
     ensures shorter { IfSome result.1 (λ rest. length rest.now < length octets.now) }
 {

@@ -16,7 +16,7 @@ pub(crate) fn put_frame(alloc: Global, out: &mut String, frame: &Frame) -> Resul
     ensures { OnOk result (string_bytes out.new ≡ string_bytes out.old ++ frame_text frame.now) }
 {
     match frame {
-        Frame::Attach(attach) => put_attach(out, attach.as_ref()),
+        Frame::Attach(attach) => put_attach(out, attach),
         Frame::Flow(flow) => put_flow(out, flow),
         Frame::Transfer { transfer, payload } => put_transfer(alloc, out, transfer, payload),
         Frame::Disposition(disposition) => put_disposition(alloc, out, disposition),
@@ -27,7 +27,8 @@ pub(crate) fn put_frame(alloc: Global, out: &mut String, frame: &Frame) -> Resul
 /// `attach NAME H ROLE`
 #[tactic(auto, unfolding(crate::specs::Report::frame_text))]
 fn put_attach(out: &mut String, attach: &Attach) -> Result<(), NoMemory>
-    ensures { OnOk result (string_bytes out.new ≡ string_bytes out.old ++ frame_text (frames.Attach attach.now)) }
+    ensures { OnOk result (string_bytes out.new
+        ≡ string_bytes out.old ++ frame_text (frames.Attach attach.now)) }
 {
     put(out, "attach")?;
     put_word(out, attach.name.as_str())?;
@@ -38,7 +39,8 @@ fn put_attach(out: &mut String, attach: &Attach) -> Result<(), NoMemory>
 /// `flow H N`
 #[tactic(auto, unfolding(crate::specs::Report::frame_text))]
 pub(crate) fn put_flow(out: &mut String, flow: &Flow) -> Result<(), NoMemory>
-    ensures { OnOk result (string_bytes out.new ≡ string_bytes out.old ++ frame_text (frames.Flow flow.now)) }
+    ensures { OnOk result (string_bytes out.new
+        ≡ string_bytes out.old ++ frame_text (frames.Flow flow.now)) }
 {
     put(out, "flow")?;
     put_optional_handle(out, flow.handle)?;
@@ -53,7 +55,8 @@ fn put_transfer(
     transfer: &Transfer,
     payload: &Payload,
 ) -> Result<(), NoMemory>
-    ensures { OnOk result (string_bytes out.new ≡ string_bytes out.old ++ frame_text (frames.Transfer transfer.now payload.now)) }
+    ensures { OnOk result (string_bytes out.new
+        ≡ string_bytes out.old ++ frame_text (frames.Transfer transfer.now payload.now)) }
 {
     put(out, "transfer")?;
     put_number_word(out, transfer.handle.0)?;
@@ -70,7 +73,8 @@ fn put_disposition(
     out: &mut String,
     disposition: &Disposition,
 ) -> Result<(), NoMemory>
-    ensures { OnOk result (string_bytes out.new ≡ string_bytes out.old ++ frame_text (frames.Disposition disposition.now)) }
+    ensures { OnOk result (string_bytes out.new
+        ≡ string_bytes out.old ++ frame_text (frames.Disposition disposition.now)) }
 {
     put(out, "disposition")?;
     put_disposition_words(alloc, out, disposition)
@@ -81,7 +85,8 @@ fn put_disposition_words(
     out: &mut String,
     disposition: &Disposition,
 ) -> Result<(), NoMemory>
-    ensures { OnOk result (string_bytes out.new ≡ string_bytes out.old ++ disposition_words disposition.now) }
+    ensures { OnOk result (string_bytes out.new
+        ≡ string_bytes out.old ++ disposition_words disposition.now) }
 {
     put_word(out, role_word(disposition.role))?;
     put_number_word(out, disposition.first)?;
@@ -93,7 +98,8 @@ fn put_disposition_words(
 /// `detach H BOOL`
 #[tactic(auto, unfolding(crate::specs::Report::frame_text))]
 fn put_detach(out: &mut String, detach: &Detach) -> Result<(), NoMemory>
-    ensures { OnOk result (string_bytes out.new ≡ string_bytes out.old ++ frame_text (frames.Detach detach.now)) }
+    ensures { OnOk result (string_bytes out.new
+        ≡ string_bytes out.old ++ frame_text (frames.Detach detach.now)) }
 {
     put(out, "detach")?;
     put_number_word(out, detach.handle.0)?;

@@ -1,9 +1,9 @@
 //! The program over a transactional session, as a library: words and step lines in, a report out.
 //!
-//! [`run`] is the top call: it reads the words, the lines of the input, drives their steps through a
-//! session over the recorder that it is handed, and writes the report. A line spells one step: a
-//! frame that comes, a control message, an end. [`spells`] reads the lines, and [`report`] writes what
-//! a run of steps made:
+//! [`run`] is the top call: it reads the words, the lines of the input, drives their steps through
+//! a session over the recorder that it is handed, and writes the report. [`command_of`] reads the
+//! words alone, and [`run_command`] is the rest of it. A line spells one step: a frame that comes,
+//! a control message, an end. [`spells`] reads the lines, and [`report`] writes what a run made:
 //!
 //! ```
 //! let below = Recorder::new(alloc, OpenSession::new(alloc));
@@ -15,8 +15,11 @@
 //! ```
 //!
 //! Below it stand the session, the record, the layer below and the types. The promise that it
-//! carries: whatever the input, what is answered is a legal run over a front of the steps that the
-//! input spells, written as its report, and the layer below has taken exactly the work of that run.
+//! carries: whatever the input, a run that is answered with status 0, 1 or 8 is a legal run over a
+//! front of the steps that the input spells, written as its report, and the layer below has taken
+//! exactly the work of that run; while the layer below counts no refusal, a run is answered with 0
+//! where no step is an end or a frame under an id that isn't live, with 1 where one is, or with 6
+//! for want of memory, and a made run with 0 or 6.
 #![tactic(auto)]
 
 #[cfg(test)]
@@ -47,7 +50,7 @@ mod words;
 #[cfg(test)]
 mod worked_tests;
 
-pub use commands::{run, run_commands};
+pub use commands::{run, run_command, run_commands};
 pub use lines::{SpellError, spells};
 pub use reporting::report;
 pub use running::Ran;

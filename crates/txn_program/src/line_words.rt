@@ -243,7 +243,8 @@ pub(crate) fn payload_of(alloc: Global, word: &[u8]) -> Result<Payload, Unread>
 
 /// A name and the words after it.
 pub(crate) fn name_at(words: Option<&[u8]>) -> Result<(&str, Option<&[u8]>), Unread>
-    ensures { Reads (λ x. (x.0.now, words_left x.1)) result (next name_of (words_left words.entry)) }
+    ensures { Reads (λ x. (x.0.now, words_left x.1)) result
+        (next name_of (words_left words.entry)) }
 {
     let (word, words) = word_at(words)?;
     Ok((name_of(word)?, words))
@@ -273,7 +274,8 @@ pub(crate) fn u64_at(words: Option<&[u8]>) -> Result<(u64, Option<&[u8]>), Unrea
 
 /// A number up to 4,294,967,295 or `-`, and the words after it.
 fn optional_u32_at(words: Option<&[u8]>) -> Result<(Option<u32>, Option<&[u8]>), Unread>
-    ensures { Reads (λ x. (x.0, words_left x.1)) result (next (optional u32_of) (words_left words.entry)) }
+    ensures { Reads (λ x. (x.0, words_left x.1)) result
+        (next (optional u32_of) (words_left words.entry)) }
 {
     let (word, words) = word_at(words)?;
     if is_text(word, "-") {
@@ -298,7 +300,8 @@ pub(crate) fn bool_at(words: Option<&[u8]>) -> Result<(bool, Option<&[u8]>), Unr
 
 /// `true`, `false` or `-`, and the words after it.
 fn optional_bool_at(words: Option<&[u8]>) -> Result<(Option<bool>, Option<&[u8]>), Unread>
-    ensures { Reads (λ x. (x.0, words_left x.1)) result (next (optional bool_of) (words_left words.entry)) }
+    ensures { Reads (λ x. (x.0, words_left x.1)) result
+        (next (optional bool_of) (words_left words.entry)) }
 {
     let (word, words) = word_at(words)?;
     if is_text(word, "-") {

@@ -1,7 +1,7 @@
 //! Reading the steps of the input.
 
 ghost use Rattle.std.specs.Prelude.{◌≡◌, ◌<◌, ◌+◌, ◌≤◌, ◌∷◌, length, OnOk, IfOk};
-ghost use Rattle.txn_program.specs.Lines.{lines_of, steps_of};
+ghost use Rattle.txn_program.specs.Lines.{lines_of, input_steps};
 ghost use Rattle.txn_program.specs.Reads.{Spells};
 
 use crate::cutting::cut_at;
@@ -28,7 +28,7 @@ pub enum SpellError {
 /// is a table of its own. `Line` comes exactly where a line is outside the table, with the number
 /// of the first such line.
 pub fn spells(alloc: Global, octets: &[u8]) -> Result<Steps, SpellError>
-    ensures { Spells result (steps_of octets.now) }
+    ensures { Spells result (input_steps octets.now) }
 {
     let mut steps = Steps::new(alloc);
     let mut rest = octets;

@@ -278,8 +278,10 @@ fn put_link_ends(lines: &mut String, round: u32, first: u32) -> Result<(), NoMem
     Ok(())
 }
 
-/// Sixteen rounds of two new links and four transactions with posts and retirements, of which one is
-/// committed. The first link ends with its two transactions, and the second with the one that is left.
+/// Sixteen rounds of two new links and four transactions with posts and retirements, of which one
+/// is
+/// committed. The first link ends with its two transactions, and the second with the one that is
+/// left.
 fn put_ending(lines: &mut String) -> Result<(), NoMemory> {
     for round in 0..16u32 {
         put_links(lines, round, 2 * round)?;
@@ -315,7 +317,8 @@ fn put_many(lines: &mut String) -> Result<(), NoMemory> {
     Ok(())
 }
 
-/// A half of the transactions are committed, a quarter rolled back, and a quarter end with their links.
+/// A half of the transactions are committed, a quarter rolled back, and a quarter end with their
+/// links.
 fn put_many_ends(lines: &mut String) -> Result<(), NoMemory> {
     for id in 0..64u32 {
         match id % 4 {

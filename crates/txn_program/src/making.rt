@@ -4,11 +4,11 @@ ghost use Rattle.std.specs.Prelude.{◌≡◌, ◌≤◌, ◌+◌, ◌++◌, ◌
 ghost use Rattle.txn_program.specs.Made.{made, made_alone, made_attach, made_declare, made_discharge, made_fail, made_from, made_pair, made_post, two_posts};
 
 use crate::line_words::Delivery;
-use crate::step_lines::{attach_of, transfer_of, under};
+use crate::step_lines::{attach_of, state_under, transfer_of};
+use amqp_below::numbered_id;
 use amqp_record::{Step, Steps};
-use amqp_resource::numbered_id;
 use amqp_txn_codec::{ControlMessageBody, Declare, Discharge};
-use amqp_txn_types::{Boxed, Coordinator, Frame, NoMemory, Payload, Role, TargetArchetype};
+use amqp_txn_types::{Coordinator, Frame, NoMemory, Payload, Role, TargetArchetype};
 use std::alloc::Global;
 
 /// The steps of that many transactions: an attach, and then the transactions in pairs, of which
@@ -20,12 +20,12 @@ pub(crate) fn made(alloc: Global, count: u32) -> Result<Steps, NoMemory>
     let mut steps = Steps::new(alloc);
     steps.items.reserve(5 * count as usize + 1)?;
     steps.append(made_attach(alloc)?)?;
-    push_transactions(alloc, &mut steps, count)?;
+    append_transactions(alloc, &mut steps, count)?;
     Ok(steps)
 }
 
 /// Appends the steps of that many transactions.
-fn push_transactions(alloc: Global, steps: &mut Steps, count: u32) -> Result<(), NoMemory>
+fn append_transactions(alloc: Global, steps: &mut Steps, count: u32) -> Result<(), NoMemory>
     requires { count ≤ 20000 }
     ensures { OnOk result (steps.new ≡ steps.old ++ made_from count 1 0) }
 {
@@ -33,42 +33,48 @@ fn push_transactions(alloc: Global, steps: &mut Steps, count: u32) -> Result<(),
     let mut number = 1;
     let mut delivery = 0;
     while left >= 2 {
-        push_pair(alloc, steps, number, delivery)?;
+        append_pair(alloc, steps, number, delivery)?;
         left -= 2;
         number += 2;
         delivery += 6;
     }
     if left == 1 {
-        push_alone(alloc, steps, number, delivery)?;
+        append_alone(alloc, steps, number, delivery)?;
     }
     Ok(())
 }
 
 /// Appends the steps of two transactions together.
-fn push_pair(alloc: Global, steps: &mut Steps, number: u32, delivery: u32) -> Result<(), NoMemory>
+fn append_pair(alloc: Global, steps: &mut Steps, number: u32, delivery: u32) -> Result<(), NoMemory>
     requires number { number ≤ 20000 }
     requires delivery { delivery ≤ 60000 }
     ensures { OnOk result (steps.new ≡ steps.old ++ made_pair number delivery) }
 {
     steps.append(made_declare(alloc)?)?;
     steps.append(made_declare(alloc)?)?;
-    push_posts(alloc, steps, number, delivery)?;
+    append_posts(alloc, steps, number, delivery)?;
     steps.append(made_discharge(alloc, number)?)?;
     steps.append(made_discharge(alloc, number + 1)?)
 }
 
 /// Appends the posts of two transactions: three times one of each.
-fn push_posts(alloc: Global, steps: &mut Steps, number: u32, delivery: u32) -> Result<(), NoMemory>
+fn append_posts(
+    alloc: Global,
+    steps: &mut Steps,
+    number: u32,
+    delivery: u32,
+) -> Result<(), NoMemory>
     requires number { number ≤ 20000 }
     requires delivery { delivery ≤ 60000 }
-    ensures { OnOk result (steps.new ≡ steps.old ++ (two_posts number delivery ++ two_posts number (delivery + 2) ++ two_posts number (delivery + 4))) }
+    ensures { OnOk result (steps.new ≡ steps.old ++ (two_posts number delivery
+        ++ two_posts number (delivery + 2) ++ two_posts number (delivery + 4))) }
 {
-    push_two_posts(alloc, steps, number, delivery)?;
-    push_two_posts(alloc, steps, number, delivery + 2)?;
-    push_two_posts(alloc, steps, number, delivery + 4)
+    append_two_posts(alloc, steps, number, delivery)?;
+    append_two_posts(alloc, steps, number, delivery + 2)?;
+    append_two_posts(alloc, steps, number, delivery + 4)
 }
 
-fn push_two_posts(
+fn append_two_posts(
     alloc: Global,
     steps: &mut Steps,
     number: u32,
@@ -83,7 +89,12 @@ fn push_two_posts(
 }
 
 /// Appends the steps of a transaction alone.
-fn push_alone(alloc: Global, steps: &mut Steps, number: u32, delivery: u32) -> Result<(), NoMemory>
+fn append_alone(
+    alloc: Global,
+    steps: &mut Steps,
+    number: u32,
+    delivery: u32,
+) -> Result<(), NoMemory>
     requires number { number ≤ 20000 }
     requires delivery { delivery ≤ 60000 }
     ensures { OnOk result (steps.new ≡ steps.old ++ made_alone number delivery) }
@@ -102,7 +113,7 @@ fn made_attach(alloc: Global) -> Result<Step, NoMemory>
 {
     let target = TargetArchetype::Coordinator(Coordinator { capabilities: None });
     let attach = attach_of(alloc, "c", 0, Role::Sender, target)?;
-    Ok(Step::Frame(Frame::Attach(Boxed::new(alloc, attach)?)))
+    Ok(Step::Frame(Frame::Attach(attach)))
 }
 
 #[tactic(auto, unfolding(crate::specs::Made::made_declare))]
@@ -126,7 +137,7 @@ fn made_post(alloc: Global, number: u32, delivery: u32) -> Result<Step, NoMemory
         delivery_id: Some(delivery),
         settled: Some(true),
     };
-    let state = under(numbered_id(u64::from(number)), None);
+    let state = state_under(numbered_id(u64::from(number)), None);
     let transfer = transfer_of(alloc, delivery, state)?;
     let payload = Payload::from_slice(alloc, &number.to_be_bytes())?;
     Ok(Step::Frame(Frame::Transfer { transfer, payload }))

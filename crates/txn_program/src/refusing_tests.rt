@@ -1,6 +1,6 @@
 //! Runs that are refused below or ended, and made runs.
 
-use crate::run_tests::{A, B, add_words, assert_run, ran};
+use crate::run_tests::{A, B, append_words, assert_run, ran};
 use crate::{run_commands, status};
 use amqp_below::{PlainSession, Recorder, SureSink, SureSource};
 use amqp_txn_types::{Begin, Binary, Handle, Items, NoMemory, OutgoingChannel, SessionState, Text};
@@ -85,7 +85,8 @@ fn put_answers(answers: &mut String, to: usize, end: &str) -> Result<(), NoMemor
     Ok(())
 }
 
-/// Runs all lines with refusals below: the lines up to a place are answered, and then the run stops.
+/// Runs all lines with refusals below: the lines up to a place are answered, and then the run
+/// stops.
 fn assert_refused(
     rt: &(impl Abort + Alloc<A = Global>),
     refused: &str,
@@ -257,17 +258,6 @@ fn a_list_has_64_numbers_at_most(rt: HostRuntime) -> Result<(), Fail> {
     assert_sevens(&rt, 65, 2, "usage\n")
 }
 
-#[test]
-fn a_made_run_is_summed_up(rt: HostRuntime) -> Result<(), Fail> {
-    assert_run(
-        &rt,
-        &["make", "4"],
-        "foo",
-        0,
-        "steps 21\ncommits 3\nrollbacks 1\ntaken 9\n",
-    )
-}
-
 /// The status of a run without lines.
 fn status_of(alloc: Global, words: &[&str], sink: &mut SureSink) -> Result<u8, NoMemory> {
     let ran = ran(alloc, words, "", sink)?;
@@ -326,7 +316,7 @@ fn plain_run(
     let mut source = SureSource::new(Binary::from_slice(alloc, lines.as_bytes())?);
     let mut sink = SureSink::new(alloc);
     let mut texts = Items::new(alloc);
-    let added = add_words(alloc, &mut texts, words);
+    let added = append_words(alloc, &mut texts, words);
     let status = plain_status(alloc, texts.as_slice(), &mut source, &mut sink);
     let written = sink.as_slice() == text.as_bytes();
     drop(texts);

@@ -84,7 +84,8 @@ pub(crate) fn put_payload(
     out: &mut String,
     payload: &Payload,
 ) -> Result<(), NoMemory>
-    ensures { OnOk result (string_bytes out.new ≡ string_bytes out.old ++ 32 ∷ payload_word payload.now) }
+    ensures { OnOk result (string_bytes out.new
+        ≡ string_bytes out.old ++ 32 ∷ payload_word payload.now) }
 {
     if payload.is_empty() {
         return put_word(out, "-");
@@ -99,7 +100,8 @@ pub(crate) fn put_optional_state(
     out: &mut String,
     state: &Option<DeliveryState>,
 ) -> Result<(), NoMemory>
-    ensures { OnOk result (string_bytes out.new ≡ string_bytes out.old ++ 32 ∷ optional_state_word state.now) }
+    ensures { OnOk result (string_bytes out.new
+        ≡ string_bytes out.old ++ 32 ∷ optional_state_word state.now) }
 {
     put(out, " ")?;
     match state {

@@ -3,7 +3,7 @@
 ghost use Rattle.std.specs.Prelude.{◌≡◌, ◌++◌, codes, decimal, string_bytes, IfOk, OnOk};
 ghost use Rattle.std.specs.List.{flat_map};
 ghost use Rattle.amqp_record.specs.Stops.{code_of};
-ghost use Rattle.txn_program.specs.Report.{answer_frames, entry_lines, frame_text, line, out_line, reply_frames, reply_text, stop_word, taken_line, text_of, window_frames};
+ghost use Rattle.txn_program.specs.Report.{answer_frames, entry_lines, frame_text, line, out_line, reply_frames, reply_text, stop_word, taken_line, report_text, window_frames};
 
 use crate::frame_text::{put_flow, put_frame};
 use crate::report_words::{error_word, put, put_number, put_txn_id, reject_words, stop_word};
@@ -14,20 +14,33 @@ use std::alloc::Global;
 
 /// The text of a report: the lines of each entry, the stop, how many frames of the stopping step
 /// were taken, and a line for each frame that was taken.
-#[tactic(auto, unfolding(crate::specs::Report::text_of))]
 pub fn report(alloc: Global, driven: &Driven, taken: &Exchanges) -> Result<Text, NoMemory>
-    ensures { IfOk result (λ text. text ≡ text_of driven.now taken.now) }
+    ensures { IfOk result (λ text. text ≡ report_text driven.now taken.now) }
+{
+    let text = report_string(alloc, driven, taken)?;
+    Text::from_str(alloc, text.as_str())
+}
+
+/// The text of a report, in the string that it was put into.
+#[tactic(auto, unfolding(crate::specs::Report::report_text))]
+pub(crate) fn report_string(
+    alloc: Global,
+    driven: &Driven,
+    taken: &Exchanges,
+) -> Result<String, NoMemory>
+    ensures { IfOk result (λ text. string_bytes text ≡ report_text driven.now taken.now) }
 {
     let mut out = String::new(alloc);
     put_entries(alloc, &mut out, driven.entries.as_slice())?;
     put_stop(&mut out, &driven.stop)?;
     put_handed(&mut out, driven.handed)?;
     put_taken(alloc, &mut out, taken.as_slice())?;
-    Text::from_str(alloc, out.as_str())
+    Ok(out)
 }
 
 fn put_stop(out: &mut String, stop: &Stop) -> Result<(), NoMemory>
-    ensures { OnOk result (string_bytes out.new ≡ string_bytes out.old ++ line (codes "stop " ++ stop_word (code_of stop.now))) }
+    ensures { OnOk result (string_bytes out.new
+        ≡ string_bytes out.old ++ line (codes "stop " ++ stop_word (code_of stop.now))) }
 {
     put(out, "stop ")?;
     put(out, stop_word(stop.code()))?;
@@ -35,7 +48,8 @@ fn put_stop(out: &mut String, stop: &Stop) -> Result<(), NoMemory>
 }
 
 fn put_handed(out: &mut String, handed: usize) -> Result<(), NoMemory>
-    ensures { OnOk result (string_bytes out.new ≡ string_bytes out.old ++ line (codes "handed " ++ decimal handed)) }
+    ensures { OnOk result (string_bytes out.new
+        ≡ string_bytes out.old ++ line (codes "handed " ++ decimal handed)) }
 {
     put(out, "handed ")?;
     put_number(out, handed as u64)?;
@@ -43,7 +57,8 @@ fn put_handed(out: &mut String, handed: usize) -> Result<(), NoMemory>
 }
 
 fn put_entries(alloc: Global, out: &mut String, entries: &[Entry]) -> Result<(), NoMemory>
-    ensures { OnOk result (string_bytes out.new ≡ string_bytes out.old ++ flat_map entry_lines entries.now) }
+    ensures { OnOk result (string_bytes out.new
+        ≡ string_bytes out.old ++ flat_map entry_lines entries.now) }
 {
     for entry in entries {
         put_entry(alloc, out, entry)?;
@@ -90,7 +105,8 @@ fn put_reply(alloc: Global, out: &mut String, reply: &Reply) -> Result<(), NoMem
 }
 
 fn put_reply_frames(alloc: Global, out: &mut String, reply: &Reply) -> Result<(), NoMemory>
-    ensures { OnOk result (string_bytes out.new ≡ string_bytes out.old ++ flat_map out_line (reply_frames reply.now)) }
+    ensures { OnOk result (string_bytes out.new
+        ≡ string_bytes out.old ++ flat_map out_line (reply_frames reply.now)) }
 {
     match reply {
         Reply::Frames(answers) => put_answers(alloc, out, answers),
@@ -101,7 +117,8 @@ fn put_reply_frames(alloc: Global, out: &mut String, reply: &Reply) -> Result<()
 }
 
 fn put_echoes(alloc: Global, out: &mut String, echoes: &[Answers]) -> Result<(), NoMemory>
-    ensures { OnOk result (string_bytes out.new ≡ string_bytes out.old ++ flat_map out_line (flat_map answer_frames echoes.now)) }
+    ensures { OnOk result (string_bytes out.new
+        ≡ string_bytes out.old ++ flat_map out_line (flat_map answer_frames echoes.now)) }
 {
     for answers in echoes {
         put_answers(alloc, out, answers)?;
@@ -110,14 +127,16 @@ fn put_echoes(alloc: Global, out: &mut String, echoes: &[Answers]) -> Result<(),
 }
 
 fn put_answers(alloc: Global, out: &mut String, answers: &Answers) -> Result<(), NoMemory>
-    ensures { OnOk result (string_bytes out.new ≡ string_bytes out.old ++ flat_map out_line (answer_frames answers.now)) }
+    ensures { OnOk result (string_bytes out.new
+        ≡ string_bytes out.old ++ flat_map out_line (answer_frames answers.now)) }
 {
     put_frames(alloc, out, answers.given.as_slice())?;
     put_window(out, &answers.window)
 }
 
 fn put_window(out: &mut String, window: &Option<Flow>) -> Result<(), NoMemory>
-    ensures { OnOk result (string_bytes out.new ≡ string_bytes out.old ++ flat_map out_line (window_frames window.now)) }
+    ensures { OnOk result (string_bytes out.new
+        ≡ string_bytes out.old ++ flat_map out_line (window_frames window.now)) }
 {
     let Some(flow) = window else {
         return Ok(());
@@ -128,7 +147,8 @@ fn put_window(out: &mut String, window: &Option<Flow>) -> Result<(), NoMemory>
 }
 
 fn put_frames(alloc: Global, out: &mut String, frames: &[Frame]) -> Result<(), NoMemory>
-    ensures { OnOk result (string_bytes out.new ≡ string_bytes out.old ++ flat_map out_line frames.now) }
+    ensures { OnOk result (string_bytes out.new
+        ≡ string_bytes out.old ++ flat_map out_line frames.now) }
 {
     for frame in frames {
         put_out_line(alloc, out, frame)?;
@@ -145,7 +165,8 @@ fn put_out_line(alloc: Global, out: &mut String, frame: &Frame) -> Result<(), No
 }
 
 fn put_taken(alloc: Global, out: &mut String, taken: &[(Frame, Frames)]) -> Result<(), NoMemory>
-    ensures { OnOk result (string_bytes out.new ≡ string_bytes out.old ++ flat_map taken_line taken.now) }
+    ensures { OnOk result (string_bytes out.new
+        ≡ string_bytes out.old ++ flat_map taken_line taken.now) }
 {
     for exchange in taken {
         put_taken_line(alloc, out, &exchange.0)?;
@@ -154,7 +175,8 @@ fn put_taken(alloc: Global, out: &mut String, taken: &[(Frame, Frames)]) -> Resu
 }
 
 fn put_taken_line(alloc: Global, out: &mut String, frame: &Frame) -> Result<(), NoMemory>
-    ensures { OnOk result (string_bytes out.new ≡ string_bytes out.old ++ line (codes "taken " ++ frame_text frame.now)) }
+    ensures { OnOk result (string_bytes out.new
+        ≡ string_bytes out.old ++ line (codes "taken " ++ frame_text frame.now)) }
 {
     put(out, "taken ")?;
     put_frame(alloc, out, frame)?;

@@ -12,7 +12,7 @@ pub(crate) const A: &str = "00000000000000000000000000000001";
 
 pub(crate) const B: &str = "00000000000000000000000000000002";
 
-pub(crate) fn add_words(
+pub(crate) fn append_words(
     alloc: Global,
     texts: &mut Items<Text>,
     words: &[&str],
@@ -36,7 +36,7 @@ pub(crate) fn ran(
 ) -> Result<Ran<OpenSession>, NoMemory> {
     let mut source = SureSource::new(Binary::from_slice(alloc, input.as_bytes())?);
     let mut texts = Items::new(alloc);
-    if let Err(error) = add_words(alloc, &mut texts, words) {
+    if let Err(error) = append_words(alloc, &mut texts, words) {
         drop(texts);
         drop(source);
         return Err(error);
@@ -70,7 +70,8 @@ fn status_of_run(
     Ok((status, legal))
 }
 
-/// Runs the program, compares its status and its text, and its record with the plain program's answer.
+/// Runs the program, compares its status and its text, and its record with the plain program's
+/// answer.
 pub(crate) fn assert_run(
     rt: &(impl Abort + Alloc<A = Global>),
     words: &[&str],
@@ -207,17 +208,6 @@ fn a_rollback_hands_nothing(rt: HostRuntime) -> Result<(), Fail> {
 }
 
 #[test]
-fn a_post_under_a_dead_id_stops(rt: HostRuntime) -> Result<(), Fail> {
-    assert_run(
-        &rt,
-        &["run", A],
-        "attach c 0\npost 00000000000000000000000000000001 1 7 - - 61\nflow -\n",
-        1,
-        "attached 0\nstop unknown-txn-id\nhanded 0\n",
-    )
-}
-
-#[test]
 fn sixteen_live_draws_are_rejected(rt: HostRuntime) -> Result<(), Fail> {
     assert_run(
         &rt,
@@ -278,7 +268,8 @@ fn put_pair(lines: &mut String, pair: u32) -> Result<(), NoMemory> {
     Ok(())
 }
 
-/// Some hundred lines: pairs of interleaved transactions, every third rolled back, whose ids come again.
+/// Some hundred lines: pairs of interleaved transactions, every third rolled back, whose ids come
+/// again.
 fn put_pairs(lines: &mut String) -> Result<(), NoMemory> {
     lines.push_str("attach c 0\nattach d 1\n")?;
     for pair in 0..40u32 {

@@ -1,27 +1,29 @@
 //! A run: steps through a session, and what is written of them.
 
-ghost use Rattle.std.specs.Prelude.{◌≡◌, ◌++◌, ◌<◌, ◌≤◌, ◌⊎◌, [], length, None, Some, Ok, IfSome, IfOk, IsNone, IsOkAnd, OnErr};
-ghost use Rattle.amqp_below.specs.Recording.{IsFresh, is_unused};
-ghost use Rattle.amqp_resource.specs.Counted.{counted};
+ghost use Rattle.std.specs.Prelude.{◌≡◌, ◌++◌, ◌<◌, ◌≤◌, ◌⊎◌, [], length, None, Some, Ok, IfSome, IfOk, IsNone, IsOkAnd, OnErr, string_bytes};
+ghost use Rattle.amqp_layer.specs.Recording.{IsFresh, is_unused};
+ghost use Rattle.amqp_ids.specs.Counted.{ids_from};
 ghost use Rattle.amqp_resource.specs.Drive.{RunRose};
-ghost use Rattle.amqp_resource.specs.Listed.{listed};
-ghost use Rattle.txn_program.specs.Lines.{steps_of};
+ghost use Rattle.amqp_ids.specs.Listed.{listed};
+ghost use Rattle.txn_program.specs.Lines.{input_steps};
 ghost use Rattle.txn_program.specs.Made.{made};
-ghost use Rattle.txn_program.specs.Running.{IsRun, Untouched, driven_status, input_status, input_text, line_text, report_text, stop_status, summary_text, text_by};
+ghost use Rattle.txn_program.specs.Running.{IsRun, Untouched, driven_status, driven_text, input_status, input_text, line_text, stop_status, summary_text, text_by};
+ghost use Rattle.txn_program.specs.Completing.{InputEnds, MadeEnds, NoneRose, RunEnds};
 
 use crate::lines::{SpellError, spells};
 use crate::making::made;
-use crate::reporting::report;
+use crate::reporting::report_string;
 use crate::status;
 use crate::streaming::{read_all, write_all};
-use crate::summing::summary;
+use crate::summing::summary_string;
 use crate::words::TransactionIds;
 use amqp_below::{
-    ByteSink, IdSource, LayerBelow, Recorder, SessionInnerError, SureSink, SureSource,
+    ByteSink, CountIds, IdSource, LayerBelow, ListIds, Recorder, SessionInnerError, SureSink,
+    SureSource, Tells,
 };
 use amqp_record::{Driven, Entries, Steps, Stop};
-use amqp_resource::{CountIds, ListIds, TxnSession, drive};
-use amqp_txn_types::{NoMemory, Text};
+use amqp_resource::{TxnSession, drive};
+use amqp_txn_types::NoMemory;
 use std::alloc::Global;
 
 /// What a call of the program left.
@@ -88,11 +90,10 @@ fn status_of_stop(stop: &Stop) -> u8
 }
 
 /// The line of the input that isn't a step, as a text.
-fn line_text(alloc: Global, number: usize) -> Result<Text, NoMemory>
-    ensures { IfOk result (λ text. text ≡ line_text number) }
+fn line_text(alloc: Global, number: usize) -> Result<String, NoMemory>
+    ensures { IfOk result (λ text. string_bytes text ≡ line_text number) }
 {
-    let text = format!(in alloc; "not a step: line {number}\n")?;
-    Text::from_str(alloc, text.as_str())
+    Ok(format!(in alloc; "not a step: line {number}\n")?)
 }
 
 /// A run of the steps of the input, of which declares draw these ids.
@@ -104,13 +105,25 @@ pub(crate) fn run_input<S: LayerBelow>(
     output: &mut SureSink,
 ) -> Ran<S>
     requires some { 0 < length ids }
-    requires fresh { IsFresh (is_unused below) (⟦<Recorder<S> as LayerBelow>⟧.told below) }
-    ensures status { (result.status ≡ 6) ⊎ (result.status ≡ input_status (steps_of input.old) result.driven) }
-    ensures record { IfSome result.driven (λ driven. IsOkAnd (steps_of input.old) (λ steps. IsRun (listed ids) steps (⟦<Recorder<S> as LayerBelow>⟧.told result.below) driven)) }
-    ensures rose { IfSome result.driven (λ driven. RunRose (⟦<Recorder<S> as LayerBelow>⟧.told below).refusals (⟦<Recorder<S> as LayerBelow>⟧.told result.below).refusals driven.entries driven.stop) }
-    ensures fixed { (⟦<Recorder<S> as LayerBelow>⟧.told result.below).fixed ≡ (⟦<Recorder<S> as LayerBelow>⟧.told below).fixed }
-    ensures untouched { IsNone result.driven → Untouched (⟦<Recorder<S> as LayerBelow>⟧.told below) (⟦<Recorder<S> as LayerBelow>⟧.told result.below) }
-    ensures written { output.new.octets ≡ output.old.octets ++ text_by result.status (input_text (⟦<Recorder<S> as LayerBelow>⟧.told result.below) (steps_of input.old) result.driven) }
+    requires fresh { IsFresh (is_unused below) (⟦<Recorder<S> as Tells>⟧.told below) }
+    ensures status { (result.status ≡ 6)
+        ⊎ (result.status ≡ input_status (input_steps input.old) result.driven) }
+    ensures record { IfSome result.driven (λ driven. IsOkAnd (input_steps input.old) (λ steps.
+        IsRun (listed ids) steps (⟦<Recorder<S> as Tells>⟧.told result.below) driven)) }
+    ensures rose { IfSome result.driven (λ driven. RunRose
+        (⟦<Recorder<S> as Tells>⟧.told below).refusals
+        (⟦<Recorder<S> as Tells>⟧.told result.below).refusals driven.entries driven.stop) }
+    ensures fixed { (⟦<Recorder<S> as Tells>⟧.told result.below).fixed
+        ≡ (⟦<Recorder<S> as Tells>⟧.told below).fixed }
+    ensures untouched { IsNone result.driven →
+        Untouched (⟦<Recorder<S> as Tells>⟧.told below)
+        (⟦<Recorder<S> as Tells>⟧.told result.below) }
+    ensures completes { NoneRose (⟦<Recorder<S> as Tells>⟧.told below).refusals
+        (⟦<Recorder<S> as Tells>⟧.told result.below).refusals →
+        InputEnds (input_steps input.old) result.driven result.status }
+    ensures written { output.new.octets ≡ output.old.octets ++ text_by result.status
+        (input_text (⟦<Recorder<S> as Tells>⟧.told result.below)
+        (input_steps input.old) result.driven) }
     ensures entries { result.entries ≡ None }
     ensures read { IfSome result.driven (λ driven. input.new ≡ []) }
 {
@@ -142,20 +155,30 @@ fn run_listed<S: LayerBelow>(
     output: &mut SureSink,
 ) -> Ran<S>
     requires some { 0 < length ids }
-    requires fresh { IsFresh (is_unused below) (⟦<Recorder<S> as LayerBelow>⟧.told below) }
+    requires fresh { IsFresh (is_unused below) (⟦<Recorder<S> as Tells>⟧.told below) }
     ensures status { (result.status ≡ 6) ⊎ (result.status ≡ driven_status result.driven) }
-    ensures record { IfSome result.driven (λ driven. IsRun (listed ids) steps (⟦<Recorder<S> as LayerBelow>⟧.told result.below) driven) }
-    ensures rose { IfSome result.driven (λ driven. RunRose (⟦<Recorder<S> as LayerBelow>⟧.told below).refusals (⟦<Recorder<S> as LayerBelow>⟧.told result.below).refusals driven.entries driven.stop) }
-    ensures fixed { (⟦<Recorder<S> as LayerBelow>⟧.told result.below).fixed ≡ (⟦<Recorder<S> as LayerBelow>⟧.told below).fixed }
-    ensures untouched { IsNone result.driven → Untouched (⟦<Recorder<S> as LayerBelow>⟧.told below) (⟦<Recorder<S> as LayerBelow>⟧.told result.below) }
-    ensures written { output.new.octets ≡ output.old.octets ++ text_by result.status (report_text (⟦<Recorder<S> as LayerBelow>⟧.told result.below) result.driven) }
+    ensures record { IfSome result.driven (λ driven.
+        IsRun (listed ids) steps (⟦<Recorder<S> as Tells>⟧.told result.below) driven) }
+    ensures rose { IfSome result.driven (λ driven. RunRose
+        (⟦<Recorder<S> as Tells>⟧.told below).refusals
+        (⟦<Recorder<S> as Tells>⟧.told result.below).refusals driven.entries driven.stop) }
+    ensures fixed { (⟦<Recorder<S> as Tells>⟧.told result.below).fixed
+        ≡ (⟦<Recorder<S> as Tells>⟧.told below).fixed }
+    ensures untouched { IsNone result.driven →
+        Untouched (⟦<Recorder<S> as Tells>⟧.told below)
+        (⟦<Recorder<S> as Tells>⟧.told result.below) }
+    ensures completes { NoneRose (⟦<Recorder<S> as Tells>⟧.told below).refusals
+        (⟦<Recorder<S> as Tells>⟧.told result.below).refusals →
+        RunEnds steps result.driven result.status }
+    ensures written { output.new.octets ≡ output.old.octets ++ text_by result.status
+        (driven_text (⟦<Recorder<S> as Tells>⟧.told result.below) result.driven) }
     ensures entries { result.entries ≡ None }
 {
     let Ok(mut source) = ListIds::new(alloc, ids.as_slice()) else {
         return out_of_memory(None, below);
     };
     let Run { driven, below } = run_steps(alloc, steps, &mut source, below);
-    let text = report(alloc, &driven, below.exchanges());
+    let text = report_string(alloc, &driven, below.exchanges());
     finished(driven, text, below, output)
 }
 
@@ -167,13 +190,23 @@ pub(crate) fn run_made<S: LayerBelow>(
     output: &mut SureSink,
 ) -> Ran<S>
     requires few { count ≤ 20000 }
-    requires fresh { IsFresh (is_unused below) (⟦<Recorder<S> as LayerBelow>⟧.told below) }
+    requires fresh { IsFresh (is_unused below) (⟦<Recorder<S> as Tells>⟧.told below) }
     ensures status { (result.status ≡ 6) ⊎ (result.status ≡ driven_status result.driven) }
-    ensures record { IfSome result.driven (λ driven. IsRun (counted 1) (made count) (⟦<Recorder<S> as LayerBelow>⟧.told result.below) driven) }
-    ensures rose { IfSome result.driven (λ driven. RunRose (⟦<Recorder<S> as LayerBelow>⟧.told below).refusals (⟦<Recorder<S> as LayerBelow>⟧.told result.below).refusals driven.entries driven.stop) }
-    ensures fixed { (⟦<Recorder<S> as LayerBelow>⟧.told result.below).fixed ≡ (⟦<Recorder<S> as LayerBelow>⟧.told below).fixed }
-    ensures untouched { IsNone result.driven → Untouched (⟦<Recorder<S> as LayerBelow>⟧.told below) (⟦<Recorder<S> as LayerBelow>⟧.told result.below) }
-    ensures written { output.new.octets ≡ output.old.octets ++ text_by result.status (summary_text (⟦<Recorder<S> as LayerBelow>⟧.told result.below) result.driven) }
+    ensures record { IfSome result.driven (λ driven.
+        IsRun (ids_from 1) (made count) (⟦<Recorder<S> as Tells>⟧.told result.below) driven) }
+    ensures rose { IfSome result.driven (λ driven. RunRose
+        (⟦<Recorder<S> as Tells>⟧.told below).refusals
+        (⟦<Recorder<S> as Tells>⟧.told result.below).refusals driven.entries driven.stop) }
+    ensures fixed { (⟦<Recorder<S> as Tells>⟧.told result.below).fixed
+        ≡ (⟦<Recorder<S> as Tells>⟧.told below).fixed }
+    ensures untouched { IsNone result.driven →
+        Untouched (⟦<Recorder<S> as Tells>⟧.told below)
+        (⟦<Recorder<S> as Tells>⟧.told result.below) }
+    ensures completes { NoneRose (⟦<Recorder<S> as Tells>⟧.told below).refusals
+        (⟦<Recorder<S> as Tells>⟧.told result.below).refusals →
+        MadeEnds result.status }
+    ensures written { output.new.octets ≡ output.old.octets ++ text_by result.status
+        (summary_text (⟦<Recorder<S> as Tells>⟧.told result.below) result.driven) }
     ensures entries { result.entries ≡ None }
 {
     let Ok(steps) = made(alloc, count) else {
@@ -190,11 +223,13 @@ fn summed<S: LayerBelow>(
     alloc: Global,
     driven: &Driven,
     below: &Recorder<S>,
-) -> Result<Text, NoMemory>
-    ensures { IfOk result (λ text. text ≡ summary_text (⟦<Recorder<S> as LayerBelow>⟧.told below.now) (Some driven.now)) }
+) -> Result<String, NoMemory>
+    ensures { IfOk result (λ text.
+        string_bytes text
+        ≡ summary_text (⟦<Recorder<S> as Tells>⟧.told below.now) (Some driven.now)) }
 {
     let taken = below.exchanges().len();
-    summary(alloc, driven.entries.as_slice(), taken)
+    summary_string(alloc, driven.entries.as_slice(), taken)
 }
 
 /// Steps that were driven, and the recorder that they were driven over.
@@ -210,10 +245,14 @@ fn run_steps<S: LayerBelow, G: IdSource>(
     ids: &mut G,
     below: Recorder<S>,
 ) -> Run<S>
-    requires fresh { IsFresh (is_unused below) (⟦<Recorder<S> as LayerBelow>⟧.told below) }
-    ensures record { IsRun (G.next ids.old) steps (⟦<Recorder<S> as LayerBelow>⟧.told result.below) result.driven }
-    ensures rose { RunRose (⟦<Recorder<S> as LayerBelow>⟧.told below).refusals (⟦<Recorder<S> as LayerBelow>⟧.told result.below).refusals result.driven.entries result.driven.stop }
-    ensures fixed { (⟦<Recorder<S> as LayerBelow>⟧.told result.below).fixed ≡ (⟦<Recorder<S> as LayerBelow>⟧.told below).fixed }
+    requires fresh { IsFresh (is_unused below) (⟦<Recorder<S> as Tells>⟧.told below) }
+    ensures record { IsRun (G.next ids.old) steps (⟦<Recorder<S> as Tells>⟧.told result.below)
+        result.driven }
+    ensures rose { RunRose (⟦<Recorder<S> as Tells>⟧.told below).refusals
+        (⟦<Recorder<S> as Tells>⟧.told result.below).refusals
+        result.driven.entries result.driven.stop }
+    ensures fixed { (⟦<Recorder<S> as Tells>⟧.told result.below).fixed
+        ≡ (⟦<Recorder<S> as Tells>⟧.told below).fixed }
 {
     let mut session = TxnSession::new(alloc, below);
     let driven = drive(&mut session, steps, ids);
@@ -226,14 +265,15 @@ fn run_steps<S: LayerBelow, G: IdSource>(
 /// The end of a run: its text, where there was memory for it, with the status of its stop.
 fn finished<S: LayerBelow>(
     driven: Driven,
-    text: Result<Text, NoMemory>,
+    text: Result<String, NoMemory>,
     below: Recorder<S>,
     output: &mut SureSink,
 ) -> Ran<S>
     ensures status { (result.status ≡ 6) ⊎ (result.status ≡ stop_status driven.stop) }
     ensures driven { result.driven ≡ Some driven }
     ensures below { result.below ≡ below }
-    ensures written { IfOk text (λ text. output.new.octets ≡ output.old.octets ++ text_by result.status text) }
+    ensures written { IfOk text (λ text. output.new.octets
+        ≡ output.old.octets ++ text_by result.status (string_bytes text)) }
     ensures none { OnErr text ((result.status ≡ 6) × (output.new ≡ output.old)) }
     ensures entries { result.entries ≡ None }
 {

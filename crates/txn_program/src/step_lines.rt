@@ -5,7 +5,7 @@ ghost use Rattle.amqp_txn_types.specs.declared.performatives.Frame.TheVariants a
 ghost use Rattle.amqp_txn_types.specs.declared.delivery.ConnectionStopReason.TheVariants as reasons;
 ghost use Rattle.amqp_txn_types.specs.Frames.{state_of_outcomes};
 ghost use Rattle.amqp_record.specs.declared.step.Step.TheVariants as steps;
-ghost use Rattle.txn_program.specs.Lines.{alone, attach_line, attach_of, control_line, coordinator, detach_line, disposition_line, disposition_of, first_count, flow_line, flow_of, link_end_line, link_flow_line, link_line, node, post_line, retire_line, step_of_line, step_of_words, tag_of, transfer_line, transfer_of, under, format_of};
+ghost use Rattle.txn_program.specs.Lines.{alone, attach_line, attach_of, control_line, coordinator, detach_line, disposition_line, disposition_of, first_count, flow_line, flow_of, link_end_line, link_flow_line, link_line, node, post_line, retire_line, step_of_line, step_of_words, tag_of, transfer_line, transfer_of, state_under, format_of};
 ghost use Rattle.txn_program.specs.Reads.{Reads, words_left};
 
 use crate::line_words::{
@@ -15,9 +15,9 @@ use crate::line_words::{
 use crate::unread::Unread;
 use amqp_record::Step;
 use amqp_txn_types::{
-    Attach, Binary, Boxed, ConnectionStopReason, Coordinator, DeliveryState, Detach, Disposition,
-    Flow, Frame, Handle, NoMemory, Outcome, ReceiverSettleMode, Role, SenderSettleMode, Source,
-    Target, TargetArchetype, Text, TransactionId, TransactionalState, Transfer,
+    Attach, Binary, ConnectionStopReason, Coordinator, DeliveryState, Detach, Disposition, Flow,
+    Frame, Handle, NoMemory, Outcome, ReceiverSettleMode, Role, SenderSettleMode, Source, Target,
+    TargetArchetype, Text, TransactionId, TransactionalState, Transfer,
 };
 use std::alloc::Global;
 
@@ -76,7 +76,7 @@ fn attach_line(alloc: Global, words: Option<&[u8]>) -> Result<Step, Unread>
     end_at(words)?;
     let target = TargetArchetype::Coordinator(Coordinator { capabilities: None });
     let attach = attach_of(alloc, name, handle, Role::Sender, target)?;
-    Ok(Step::Frame(Frame::Attach(Boxed::new(alloc, attach)?)))
+    Ok(Step::Frame(Frame::Attach(attach)))
 }
 
 /// `link NAME H ROLE`
@@ -89,7 +89,7 @@ fn link_line(alloc: Global, words: Option<&[u8]>) -> Result<Step, Unread>
     let (role, words) = role_at(words)?;
     end_at(words)?;
     let attach = attach_of(alloc, name, handle, role, node(alloc, name)?)?;
-    Ok(Step::Frame(Frame::Attach(Boxed::new(alloc, attach)?)))
+    Ok(Step::Frame(Frame::Attach(attach)))
 }
 
 /// `flow H N` or `flow -`
@@ -142,7 +142,7 @@ fn post_line(alloc: Global, words: Option<&[u8]>) -> Result<Step, Unread>
     let (payload, words) = word_at(words)?;
     let payload = payload_of(alloc, payload)?;
     end_at(words)?;
-    let transfer = transfer_of(alloc, delivery, under(txn_id, outcome))?;
+    let transfer = transfer_of(alloc, delivery, state_under(txn_id, outcome))?;
     Ok(Step::Frame(Frame::Transfer { transfer, payload }))
 }
 
@@ -171,7 +171,7 @@ fn retire_line(alloc: Global, words: Option<&[u8]>) -> Result<Step, Unread>
     let (outcome, words) = word_at(words)?;
     let outcome = optional_outcome_of(outcome)?;
     end_at(words)?;
-    let state = under(txn_id, outcome);
+    let state = state_under(txn_id, outcome);
     let disposition = disposition_of(deliveries, state);
     Ok(Step::Frame(Frame::Disposition(disposition)))
 }
@@ -232,7 +232,8 @@ fn remote_end_line(words: Option<&[u8]>) -> Result<Step, Unread>
 
 /// `connection-stop`
 fn connection_stop_line(words: Option<&[u8]>) -> Result<Step, Unread>
-    ensures { Reads (λ step. step) result (alone (words_left words.entry) (steps.ConnectionStop reasons.RemoteClosed)) }
+    ensures { Reads (λ step. step) result
+        (alone (words_left words.entry) (steps.ConnectionStop reasons.RemoteClosed)) }
 {
     end_at(words)?;
     Ok(Step::ConnectionStop(ConnectionStopReason::RemoteClosed))
@@ -373,8 +374,8 @@ fn disposition_of(deliveries: Deliveries, state: Option<DeliveryState>) -> Dispo
 }
 
 /// The state of a delivery under a transaction.
-pub(crate) fn under(txn_id: TransactionId, outcome: Option<Outcome>) -> Option<DeliveryState>
-    ensures { result ≡ under txn_id outcome }
+pub(crate) fn state_under(txn_id: TransactionId, outcome: Option<Outcome>) -> Option<DeliveryState>
+    ensures { result ≡ state_under txn_id outcome }
 {
     Some(DeliveryState::TransactionalState(TransactionalState { txn_id, outcome }))
 }

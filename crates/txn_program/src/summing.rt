@@ -7,27 +7,32 @@ ghost use Rattle.txn_program.specs.Report.{line};
 ghost use Rattle.txn_program.specs.Made.{ends_by, ends_count, made_text, step_ends_by};
 
 use crate::report_words::{put, put_number};
-use amqp_record::{Entry, Reply, Step, rolls_back};
-use amqp_txn_codec::{ControlMessageBody, decode};
-use amqp_txn_types::{NoMemory, Text};
+use amqp_record::{Entry, Reply, Step};
+use amqp_txn_codec::{ControlMessageBody, decode, rolls_back};
+use amqp_txn_types::NoMemory;
 use std::alloc::Global;
 
 /// How many entries there are, accepted commits and rollbacks among them, and frames that were
 /// taken, a line each. The only error is want of memory.
 #[tactic(auto, unfolding(crate::specs::Made::made_text))]
-pub(crate) fn summary(alloc: Global, entries: &[Entry], taken: usize) -> Result<Text, NoMemory>
-    ensures { IfOk result (λ text. text ≡ made_text entries.now taken) }
+pub(crate) fn summary_string(
+    alloc: Global,
+    entries: &[Entry],
+    taken: usize,
+) -> Result<String, NoMemory>
+    ensures { IfOk result (λ text. string_bytes text ≡ made_text entries.now taken) }
 {
     let mut out = String::new(alloc);
     put_count(&mut out, "steps ", entries.len())?;
     put_count(&mut out, "commits ", ends_count(entries, false))?;
     put_count(&mut out, "rollbacks ", ends_count(entries, true))?;
     put_count(&mut out, "taken ", taken)?;
-    Text::from_str(alloc, out.as_str())
+    Ok(out)
 }
 
 fn put_count(out: &mut String, name: &str, count: usize) -> Result<(), NoMemory>
-    ensures { OnOk result (string_bytes out.new ≡ string_bytes out.old ++ line (name.now ++ decimal count)) }
+    ensures { OnOk result (string_bytes out.new
+        ≡ string_bytes out.old ++ line (name.now ++ decimal count)) }
 {
     put(out, name)?;
     put_number(out, count as u64)?;

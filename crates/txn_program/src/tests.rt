@@ -8,8 +8,11 @@ use amqp_txn_types::{NoMemory, Text};
 use std::alloc::Global;
 use std::test::Fail;
 
-const ALL_LINES: &str =
-    "attach c 0\nlink my.d-1_x 4294967295 receiver\nflow 1 200\nflow -\ntransfer 1 7 - 6869\npost 0A 1 7 - - FF\ndisposition receiver 3 5 false released\nretire 0a0B sender 6 - true rejected\ndetach 1 true\ncontrol 18446744073709551615 00537700533145\nlink-end 0\nend\nremote-end\nconnection-stop";
+const ALL_LINES: &str = "attach c 0\nlink my.d-1_x 4294967295 receiver\nflow 1 200\nflow -\n\
+     transfer 1 7 - 6869\npost 0A 1 7 - - FF\n\
+     disposition receiver 3 5 false released\nretire 0a0B sender 6 - true rejected\n\
+     detach 1 true\ncontrol 18446744073709551615 00537700533145\nlink-end 0\n\
+     end\nremote-end\nconnection-stop";
 
 #[test]
 fn every_line_is_a_step(rt: HostRuntime) -> Result<(), Fail> {

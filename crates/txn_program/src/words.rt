@@ -3,7 +3,7 @@
 ghost use Rattle.std.specs.Prelude.{◌≡◌, ◌≤◌, ◌==◌, IfOk, IfSome};
 ghost use Rattle.std.specs.List.{slice_split};
 ghost use Rattle.txn_program.specs.LineWords.{between};
-ghost use Rattle.txn_program.specs.Words.{IsWithin, call_of, command_of, count_of, each, id_of, list_of, make_words, refusing_words, run_of, run_words, some_few};
+ghost use Rattle.txn_program.specs.Words.{IsWithin, call_of, command_of, count_of, each, id_of, call_list_of, make_words, refusing_words, run_of, run_words, some_few};
 
 use crate::cutting::cut_at;
 use crate::line_words::{is_text, number_of};
@@ -61,7 +61,7 @@ fn refusing_words(alloc: Global, words: &[Text]) -> Result<Option<Command>, NoMe
     let [word, others @ ..] = words else {
         return Ok(None);
     };
-    let Some(plan) = list_of(alloc, word.as_str().as_bytes())? else {
+    let Some(plan) = call_list_of(alloc, word.as_str().as_bytes())? else {
         return Ok(None);
     };
     run_of(alloc, Some(plan), others)
@@ -138,8 +138,8 @@ fn id_of_sixteen(octets: &[u8]) -> Option<TransactionId>
 }
 
 /// The numbers of a LIST, `None` where the word is no LIST.
-fn list_of(alloc: Global, word: &[u8]) -> Result<Option<CallNumbers>, NoMemory>
-    ensures { IfOk result (λ calls. calls ≡ list_of word.now) }
+fn call_list_of(alloc: Global, word: &[u8]) -> Result<Option<CallNumbers>, NoMemory>
+    ensures { IfOk result (λ calls. calls ≡ call_list_of word.now) }
 {
     let Some(calls) = calls_of(alloc, word)? else {
         return Ok(None);

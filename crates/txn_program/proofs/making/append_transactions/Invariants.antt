@@ -1,6 +1,6 @@
 use Rattle.std.proofs.Common.{◌≡◌, ◌+◌, ◌*◌, ◌≤◌, ◌++◌}
 use Rattle.txn_program.specs.Made.{made_from}
-use Rattle.txn_program.proofs.making.push_transactions.Given as goal
+use Rattle.txn_program.proofs.making.append_transactions.Given as goal
 
 -- the steps so far, and then those of the transactions that are left; their numbers and those of their deliveries
 abbrev pub invariant-loop-left : goal.invariant-loop-left

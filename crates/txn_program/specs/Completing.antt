@@ -1,0 +1,50 @@
+-- How a call ends during which the layer below counted no refusal.
+use Rattle.std.specs.Prelude.{ℕ, ◌≡◌, Option, Some, None, Result, Ok, Err, List, ◌⊎◌, IsSome}
+use Rattle.amqp_txn_types.specs.Counts.{Rose}
+use Rattle.amqp_record.specs.declared.step.Step.{Step}
+use Rattle.amqp_record.specs.declared.entry.Entry.{Entry}
+use Rattle.amqp_record.specs.declared.stop.Driven.{Driven}
+use Rattle.amqp_record.specs.Entries.{steps_of}
+use Rattle.amqp_resource.specs.Drive.{NextStep}
+use Rattle.amqp_resource.specs.Steps.{UnderDead, ended_by}
+use Rattle.txn_program.specs.declared.words.Command.{Command}
+use Rattle.txn_program.specs.declared.words.Command.TheVariants as commands
+
+-- the count neither rose nor stands at its last value
+abbrev pub NoneRose : ℕ → ℕ → Type 0
+NoneRose before now = Rose before now → ⊥
+
+-- after the record, the step is an end, or a frame under an id that isn't live
+abbrev pub StopsRun : List Entry → Step → Type 0
+StopsRun r s = UnderDead r s ⊎ IsSome (ended_by s)
+
+-- every step has its entry
+abbrev pub EveryStep : List Step → Driven → ℕ → Type 0
+EveryStep steps driven status = (status ≡ 0) × (steps_of driven.entries ≡ steps)
+
+-- the next step is an end, or a frame under an id that isn't live
+abbrev pub Stopped : List Step → Driven → ℕ → Type 0
+Stopped steps driven status =
+    (status ≡ 1) × NextStep steps driven.entries (StopsRun driven.entries)
+
+-- a run of these steps: 0 where none of them is an end or a frame under an id that isn't live, 1
+-- where one is, or want of memory
+abbrev pub RunEnds : List Step → Option Driven → ℕ → Type 0
+RunEnds steps None status = status ≡ 6
+RunEnds steps (Some driven) status =
+    (status ≡ 6) ⊎ (EveryStep steps driven status ⊎ Stopped steps driven status)
+
+-- a run of the input, of which a line may be outside the table
+abbrev pub InputEnds : Result (List Step) ℕ → Option Driven → ℕ → Type 0
+InputEnds (Err line) driven status = (status ≡ 6) ⊎ (status ≡ 3)
+InputEnds (Ok steps) driven status = RunEnds steps driven status
+
+-- a made run: every step has its entry, or want of memory
+abbrev pub MadeEnds : ℕ → Type 0
+MadeEnds status = (status ≡ 6) ⊎ (status ≡ 0)
+
+-- by the words
+abbrev pub Completes : Option Command → Result (List Step) ℕ → Option Driven → ℕ → Type 0
+Completes None spelled driven status = (status ≡ 6) ⊎ (status ≡ 2)
+Completes (Some (commands.Run plan ids)) spelled driven status = InputEnds spelled driven status
+Completes (Some (commands.Make count)) spelled driven status = MadeEnds status
