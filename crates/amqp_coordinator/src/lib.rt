@@ -23,8 +23,6 @@ mod coordinator;
 mod errors;
 mod outcomes;
 mod resource_transaction;
-#[cfg(test)]
-mod tests;
 mod transaction_manager;
 
 pub use coordinator::TxnCoordinator;

@@ -34,8 +34,6 @@ mod poll;
 mod receiver;
 mod sendable;
 mod sender;
-#[cfg(test)]
-mod tests;
 mod wire_receiver;
 mod wire_sender;
 

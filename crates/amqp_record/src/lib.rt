@@ -63,8 +63,6 @@ mod open_links;
 mod reply;
 mod step;
 mod stop;
-#[cfg(test)]
-mod tests;
 
 pub use answering::is_answer;
 pub use entry::{Drawn16, Entries, Entry};

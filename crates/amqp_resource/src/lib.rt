@@ -35,11 +35,7 @@ mod held;
 mod link_steps;
 mod outcomes;
 mod session;
-#[cfg(test)]
-mod tests;
 mod transacting;
-#[cfg(test)]
-mod window_tests;
 
 pub use amqp_coordinator::{
     CoordinatorError, CoordinatorReply, DischargeError, ResourceTransaction, SuccessfulOutcome,

@@ -23,14 +23,10 @@
 //! 'The standard' is OASIS AMQP 1.0.
 #![tactic(auto)]
 
-#[cfg(test)]
-mod error_tests;
 mod link_frames;
 mod links;
 mod numbers;
 mod plain_session;
-#[cfg(test)]
-mod plain_tests;
 mod relay;
 mod session;
 mod session_errors;

@@ -19,7 +19,7 @@ use crate::state_moves::require_mapped;
 use amqp_layer::{LayerBelow, SessionInnerError, Tells};
 use amqp_txn_types::{
     Attach, Begin, ConnectionStopReason, Detach, Disposition, Flow, Frames, IncomingChannel,
-    OutgoingChannel, OutputHandle, Payload, SessionState, SessionStopReason, Transfer,
+    OutgoingChannel, OutputHandle, Payload, SessionState, SessionStopReason, Transfer, refuse,
 };
 use std::alloc::Global;
 
@@ -119,10 +119,7 @@ impl LayerBelow for PlainSession {
     fn on_incoming_attach(&mut self, attach: Attach) -> Result<Frames, SessionInnerError> {
         match attach_link(self.state, &mut self.links, attach) {
             Ok(()) => Ok(Frames::new(self.alloc)),
-            Err(error) => {
-                self.refusals = self.refusals.saturating_add(1);
-                Err(error)
-            }
+            Err(error) => refuse(&mut self.refusals, error),
         }
     }
 
@@ -136,8 +133,7 @@ impl LayerBelow for PlainSession {
             }
             Err(error) => {
                 self.numbers = either(error.is_unattached(), numbers, self.numbers);
-                self.refusals = self.refusals.saturating_add(1);
-                Err(error)
+                refuse(&mut self.refusals, error)
             }
         }
     }
@@ -156,10 +152,7 @@ impl LayerBelow for PlainSession {
                 self.transfers_since_window = self.transfers_since_window.saturating_add(1);
                 Ok(Frames::new(self.alloc))
             }
-            Err(error) => {
-                self.refusals = self.refusals.saturating_add(1);
-                Err(error)
-            }
+            Err(error) => refuse(&mut self.refusals, error),
         }
     }
 
@@ -170,33 +163,25 @@ impl LayerBelow for PlainSession {
         drop(disposition);
         match require_mapped(self.state) {
             Ok(()) => Ok(Frames::new(self.alloc)),
-            Err(error) => {
-                self.refusals = self.refusals.saturating_add(1);
-                Err(error)
-            }
+            Err(error) => refuse(&mut self.refusals, error),
         }
     }
 
     fn on_incoming_detach(&mut self, detach: Detach) -> Result<Frames, SessionInnerError> {
         match detach_link(self.alloc, self.state, &mut self.links, detach) {
             Ok(given) => Ok(given),
-            Err(error) => {
-                self.refusals = self.refusals.saturating_add(1);
-                Err(error)
-            }
+            Err(error) => refuse(&mut self.refusals, error),
         }
     }
 
     fn on_control_attach(&mut self, attach: &Attach) -> Result<Frames, SessionInnerError> {
         if self.stop.is_some() {
-            self.refusals = self.refusals.saturating_add(1);
-            return Err(SessionInnerError::IllegalState);
+            return refuse(&mut self.refusals, SessionInnerError::IllegalState);
         }
         match place_control_link(self.alloc, &mut self.links, self.begin.handle_max, attach) {
             Ok(()) => Ok(Frames::new(self.alloc)),
             Err(fault) => {
-                self.refusals = self.refusals.saturating_add(1);
-                Err(control_error(fault))
+                refuse(&mut self.refusals, control_error(fault))
             }
         }
     }
@@ -207,10 +192,7 @@ impl LayerBelow for PlainSession {
     ) -> Result<(), SessionInnerError> {
         match require_mapped(self.state) {
             Ok(()) => Ok(()),
-            Err(error) => {
-                self.refusals = self.refusals.saturating_add(1);
-                Err(error)
-            }
+            Err(error) => refuse(&mut self.refusals, error),
         }
     }
 

@@ -25,8 +25,6 @@ mod fields;
 mod laws;
 mod message;
 mod section;
-#[cfg(test)]
-mod tests;
 mod value;
 
 pub use decoding::decode;

@@ -1,11 +1,12 @@
 //! Counts of refusals and faults.
 
-ghost use Rattle.std.specs.Prelude.{◌≡◌, Err};
+ghost use Rattle.std.specs.Prelude.{◌≡◌, ◌≤◌, Err};
 ghost use Rattle.amqp_txn_types.specs.Counts.{one_more};
 
 /// Counts a refusal, up to the last value of a count, 2^64 - 1, and answers it.
 pub fn refuse<T, E>(refusals: &mut u64, error: E) -> Result<T, E>
     ensures counted { refusals.new ≡ one_more refusals.old }
+    ensures later { refusals.old ≤ refusals.new }
     ensures answer { result ≡ Err error }
 {
     *refusals = refusals.saturating_add(1);
@@ -14,7 +15,8 @@ pub fn refuse<T, E>(refusals: &mut u64, error: E) -> Result<T, E>
 
 /// Counts a refusal, up to the last value of a count, 2^64 - 1.
 pub fn count_refusal(refusals: &mut u64)
-    ensures { refusals.new ≡ one_more refusals.old }
+    ensures counted { refusals.new ≡ one_more refusals.old }
+    ensures later { refusals.old ≤ refusals.new }
 {
     *refusals = refusals.saturating_add(1);
 }

@@ -44,8 +44,6 @@ mod presumptive;
 mod short_octets;
 mod small;
 mod symbols;
-#[cfg(test)]
-mod tests;
 mod text;
 
 pub use binary::Binary;

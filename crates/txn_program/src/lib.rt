@@ -22,33 +22,21 @@
 //! for want of memory, and a made run with 0 or 6.
 #![tactic(auto)]
 
-#[cfg(test)]
-mod changed_tests;
 mod commands;
 mod cutting;
 mod frame_text;
 mod line_words;
 mod lines;
-#[cfg(test)]
-mod long_run_tests;
 mod making;
-#[cfg(test)]
-mod refusing_tests;
 mod report_words;
 mod reporting;
-#[cfg(test)]
-mod run_tests;
 mod running;
 pub mod status;
 mod step_lines;
 mod streaming;
 mod summing;
-#[cfg(test)]
-mod tests;
 mod unread;
 mod words;
-#[cfg(test)]
-mod worked_tests;
 
 pub use commands::{run, run_command, run_commands};
 pub use lines::{SpellError, spells};

@@ -16,7 +16,7 @@ use amqp_layer::SessionInnerError;
 use amqp_txn_types::{
     Attach, Begin, ConnectionStopReason, Detach, End, Error, Flow, IncomingChannel, InputHandle,
     LinkFlow, OutgoingChannel, OutputHandle, SessionState, SessionStopReason, Text, Transfer,
-    TryClone,
+    TryClone, refuse,
 };
 
 impl Session for PlainSession {
@@ -91,15 +91,11 @@ impl Session for PlainSession {
     fn allocate_link(&mut self, name: Text, relay: Relay) -> Result<OutputHandle, AllocLinkError> {
         if let Some(reason) = &self.stop {
             let error = stop_fault(reason);
-            self.refusals = self.refusals.saturating_add(1);
-            return Err(error);
+            return refuse(&mut self.refusals, error);
         }
         match place_link(&mut self.links, self.begin.handle_max, name, relay) {
             Ok(output) => Ok(output),
-            Err(error) => {
-                self.refusals = self.refusals.saturating_add(1);
-                Err(error)
-            }
+            Err(error) => refuse(&mut self.refusals, error),
         }
     }
 
@@ -111,15 +107,11 @@ impl Session for PlainSession {
     ) -> Result<OutputHandle, AllocLinkError> {
         if let Some(reason) = &self.stop {
             let error = stop_fault(reason);
-            self.refusals = self.refusals.saturating_add(1);
-            return Err(error);
+            return refuse(&mut self.refusals, error);
         }
         match place_mapped_link(&mut self.links, self.begin.handle_max, name, relay, input) {
             Ok(output) => Ok(output),
-            Err(error) => {
-                self.refusals = self.refusals.saturating_add(1);
-                Err(error)
-            }
+            Err(error) => refuse(&mut self.refusals, error),
         }
     }
 
@@ -136,8 +128,7 @@ impl Session for PlainSession {
         numbers.note_begin(&begin);
         drop(begin);
         let Some(state) = begin_received(self.state) else {
-            self.refusals = self.refusals.saturating_add(1);
-            return Err(SessionInnerError::IllegalState);
+            return refuse(&mut self.refusals, SessionInnerError::IllegalState);
         };
         self.numbers = numbers;
         self.incoming = Some(channel);
@@ -151,8 +142,7 @@ impl Session for PlainSession {
         end: &End,
     ) -> Result<(), SessionInnerError> {
         let Some(state) = end_received(self.state) else {
-            self.refusals = self.refusals.saturating_add(1);
-            return Err(SessionInnerError::IllegalState);
+            return refuse(&mut self.refusals, SessionInnerError::IllegalState);
         };
         self.state = state;
         Ok(())
@@ -160,12 +150,10 @@ impl Session for PlainSession {
 
     fn send_begin(&mut self) -> Result<Begin, BeginError> {
         let Some(state) = begin_sent(self.state) else {
-            self.refusals = self.refusals.saturating_add(1);
-            return Err(BeginError::IllegalState);
+            return refuse(&mut self.refusals, BeginError::IllegalState);
         };
         let Ok(mut begin) = self.begin.try_clone() else {
-            self.refusals = self.refusals.saturating_add(1);
-            return Err(BeginError::NoMemory);
+            return refuse(&mut self.refusals, BeginError::NoMemory);
         };
         begin.remote_channel = remote_channel(self.incoming);
         self.state = state;
@@ -175,8 +163,7 @@ impl Session for PlainSession {
     fn send_end(&mut self, error: Option<Error>) -> Result<End, SessionInnerError> {
         let Some(state) = end_sent(error.is_some(), self.state) else {
             drop(error);
-            self.refusals = self.refusals.saturating_add(1);
-            return Err(SessionInnerError::IllegalState);
+            return refuse(&mut self.refusals, SessionInnerError::IllegalState);
         };
         self.state = state;
         Ok(End { error })
@@ -185,10 +172,7 @@ impl Session for PlainSession {
     fn on_outgoing_attach(&mut self, attach: &Attach) -> Result<(), SessionInnerError> {
         match require_mapped(self.state) {
             Ok(()) => Ok(()),
-            Err(error) => {
-                self.refusals = self.refusals.saturating_add(1);
-                Err(error)
-            }
+            Err(error) => refuse(&mut self.refusals, error),
         }
     }
 
@@ -198,8 +182,7 @@ impl Session for PlainSession {
             Ok(()) => Ok(sent),
             Err(error) => {
                 drop(sent);
-                self.refusals = self.refusals.saturating_add(1);
-                Err(error)
+                refuse(&mut self.refusals, error)
             }
         }
     }
@@ -215,20 +198,14 @@ impl Session for PlainSession {
                 transfer.delivery_id = number_transfer(&mut self.numbers, is_first);
                 Ok(())
             }
-            Err(error) => {
-                self.refusals = self.refusals.saturating_add(1);
-                Err(error)
-            }
+            Err(error) => refuse(&mut self.refusals, error),
         }
     }
 
     fn on_outgoing_detach(&mut self, detach: &Detach) -> Result<(), SessionInnerError> {
         match require_mapped(self.state) {
             Ok(()) => Ok(()),
-            Err(error) => {
-                self.refusals = self.refusals.saturating_add(1);
-                Err(error)
-            }
+            Err(error) => refuse(&mut self.refusals, error),
         }
     }
 }

@@ -4,7 +4,7 @@ use crate::plain_session::PlainSession;
 use crate::transacting::{AllocTxnIdError, CommitFault, HandleDeclare, HandleDischarge};
 use amqp_ids::{Drawn, IdSource};
 use amqp_layer::Echoes;
-use amqp_txn_types::{Accepted, TransactionError, TransactionId};
+use amqp_txn_types::{Accepted, TransactionError, TransactionId, refuse};
 
 impl HandleDeclare for PlainSession {
     ghost use Rattle.std.specs.Prelude.{◌≡◌, Err};
@@ -18,8 +18,7 @@ impl HandleDeclare for PlainSession {
         &mut self,
         ids: &mut G,
     ) -> Result<Drawn, AllocTxnIdError> {
-        self.refusals = self.refusals.saturating_add(1);
-        Err(AllocTxnIdError::NotImplemented)
+        refuse(&mut self.refusals, AllocTxnIdError::NotImplemented)
     }
 }
 
@@ -38,15 +37,13 @@ impl HandleDischarge for PlainSession {
         &mut self,
         txn_id: &TransactionId,
     ) -> Result<Result<Echoes, TransactionError>, CommitFault> {
-        self.refusals = self.refusals.saturating_add(1);
-        Ok(Err(TransactionError::UnknownId))
+        Ok(refuse(&mut self.refusals, TransactionError::UnknownId))
     }
 
     fn rollback_transaction(
         &mut self,
         txn_id: &TransactionId,
     ) -> Result<Accepted, TransactionError> {
-        self.refusals = self.refusals.saturating_add(1);
-        Err(TransactionError::UnknownId)
+        refuse(&mut self.refusals, TransactionError::UnknownId)
     }
 }

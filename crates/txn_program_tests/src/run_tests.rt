@@ -1,6 +1,6 @@
 //! Whole runs: what the program answers to words and lines, with ample memory.
 
-use crate::*;
+use txn_program::*;
 use amqp_below::{OpenSession, Recorder, SureSink, SureSource};
 use amqp_record::{Entry, is_legal, work};
 use amqp_txn_types::{Binary, Frame, Frames, Items, NoMemory, Text};
@@ -48,7 +48,7 @@ pub(crate) fn ran(
     Ok(ran)
 }
 
-/// Whether the record of a run is legal by the plain program; no record is.
+/// Whether the record of a run is legal by the slow program; no record is.
 fn has_legal_record(ran: &Ran<OpenSession>) -> bool {
     match &ran.driven {
         Some(driven) => is_legal(driven.entries.as_slice()),
@@ -70,7 +70,7 @@ fn status_of_run(
     Ok((status, legal))
 }
 
-/// Runs the program, compares its status and its text, and its record with the plain program's
+/// Runs the program, compares its status and its text, and its record with the slow program's
 /// answer.
 pub(crate) fn assert_run(
     rt: &(impl Abort + Alloc<A = Global>),

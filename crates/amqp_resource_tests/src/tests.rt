@@ -1,7 +1,7 @@
 //! What no clause says: what goes out is checked by the layer below. And the life of an id of no
 //! link, step by step.
 
-use crate::*;
+use amqp_resource::*;
 use amqp_layer::{LayerBelow, OpenSession, Recorder, SessionInnerError, Tells};
 use amqp_sessions::{HandleDeclare, HandleDischarge};
 use amqp_txn_codec::{ControlMessageBody, Declare, Discharge};

@@ -1,8 +1,8 @@
-//! Long runs, whose records agree with the plain program of `amqp_record` entry by entry.
+//! Long runs, whose records agree with the slow program of `amqp_record` entry by entry.
 
 ghost use Rattle.std.specs.Prelude.{◌<◌};
 
-use crate::*;
+use txn_program::*;
 use amqp_below::{Exchanges, OpenSession, Recorder, SureSink, SureSource};
 use amqp_record::{Entry, Step, hands, is_entry_after};
 use amqp_txn_types::{Binary, Frame, Items, NoMemory, Text};
@@ -98,7 +98,7 @@ fn handed_from(
     Ok(if same { Some(count) } else { None })
 }
 
-/// The place of the first entry that isn't, or didn't hand, what the plain program says after the
+/// The place of the first entry that isn't, or didn't hand, what the slow program says after the
 /// entries before it; where there is none, the number of entries, or 0 where more was taken.
 fn agreed(alloc: Global, entries: &[Entry], taken: &Exchanges) -> Result<usize, NoMemory> {
     let mut count = 0usize;
@@ -118,7 +118,7 @@ fn agreed(alloc: Global, entries: &[Entry], taken: &Exchanges) -> Result<usize, 
     Ok(entries.len())
 }
 
-/// How many entries of a run's record agree with the plain program.
+/// How many entries of a run's record agree with the slow program.
 fn agreed_in(alloc: Global, ran: &Ran<OpenSession>) -> Result<usize, NoMemory> {
     match &ran.driven {
         Some(driven) => agreed(alloc, driven.entries.as_slice(), ran.below.exchanges()),
@@ -133,7 +133,7 @@ fn entry_count(ran: &Ran<OpenSession>) -> usize {
     }
 }
 
-/// The status of a run, the number of its entries, how many of them agree with the plain program,
+/// The status of a run, the number of its entries, how many of them agree with the slow program,
 /// and how many frames were taken.
 fn facts_of_run(
     alloc: Global,
@@ -154,7 +154,7 @@ fn facts_of_run(
     Ok((status, count, agreed?, taken))
 }
 
-/// Runs the lines to their end, and compares the record with the plain program.
+/// Runs the lines to their end, and compares the record with the slow program.
 fn assert_long_run(
     rt: &(impl Abort + Alloc<A = Global>),
     ids: u32,
@@ -222,7 +222,7 @@ fn put_interleaved(lines: &mut String) -> Result<(), NoMemory> {
 }
 
 #[test]
-fn interleaved_transactions_agree_with_the_plain_program(rt: HostRuntime) -> Result<(), Fail> {
+fn interleaved_transactions_agree_with_the_slow_program(rt: HostRuntime) -> Result<(), Fail> {
     let mut lines = String::new(rt.alloc());
     let put = put_interleaved(&mut lines);
     // Of the 64 transactions 21 are rolled back; the others hand four frames each.
@@ -292,7 +292,7 @@ fn put_ending(lines: &mut String) -> Result<(), NoMemory> {
 }
 
 #[test]
-fn link_ends_agree_with_the_plain_program(rt: HostRuntime) -> Result<(), Fail> {
+fn link_ends_agree_with_the_slow_program(rt: HostRuntime) -> Result<(), Fail> {
     let mut lines = String::new(rt.alloc());
     let put = put_ending(&mut lines);
     // In each round a flow, a transfer and the four frames of the one commit.
@@ -348,7 +348,7 @@ fn put_thousands(lines: &mut String) -> Result<(), NoMemory> {
 }
 
 #[test]
-fn thousands_of_steps_agree_with_the_plain_program(rt: HostRuntime) -> Result<(), Fail> {
+fn thousands_of_steps_agree_with_the_slow_program(rt: HostRuntime) -> Result<(), Fail> {
     let mut lines = String::new(rt.alloc());
     let put = put_thousands(&mut lines);
     // 32 commits of 24 posts, and 100 of one.

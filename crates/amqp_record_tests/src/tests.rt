@@ -1,7 +1,7 @@
 //! What no clause says: that there is an answer where there is memory, and one short record by
 //! hand.
 
-use crate::*;
+use amqp_record::*;
 use amqp_ids::Drawn;
 use amqp_layer::{Answers, SessionInnerError};
 use amqp_txn_types::{

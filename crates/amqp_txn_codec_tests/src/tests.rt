@@ -1,7 +1,7 @@
 //! Payloads of outside origin, and what no clause says: that calls succeed with ample memory, and
 //! that deep values are read at once.
 
-use crate::{ControlMessageBody, Declare, Discharge, NotControl, decode, skip_value};
+use amqp_txn_codec::{ControlMessageBody, Declare, Discharge, NotControl, decode, skip_value};
 use amqp_txn_types::{IdTooLong, TransactionId};
 use std::alloc::{Alloc, Global};
 use std::process::Abort;

@@ -1,6 +1,6 @@
 //! The texts of errors.
 
-use crate::*;
+use amqp_sessions::*;
 use amqp_ids::Drawn;
 use amqp_layer::SessionInnerError;
 use amqp_txn_types::{AmqpError, ConnectionStopReason, Error, ErrorCondition, SessionStopReason};

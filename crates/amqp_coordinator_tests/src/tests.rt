@@ -1,6 +1,6 @@
 //! What no clause says: that the calls succeed where there is memory, and printed texts.
 
-use crate::*;
+use amqp_coordinator::*;
 use amqp_ids::{Drawn, IdSource, ListIds};
 use amqp_layer::{Answers, Echoes, SessionInnerError, Tells};
 use amqp_sessions::{AllocTxnIdError, CommitFault, HandleDeclare, HandleDischarge};

@@ -1,6 +1,6 @@
 //! What no clause says: that each call succeeds where there is memory, and printed texts.
 
-use crate::*;
+use amqp_txn_types::*;
 use std::alloc::Global;
 use std::process::Abort;
 use std::test::Fail;

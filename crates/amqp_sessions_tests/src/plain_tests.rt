@@ -1,6 +1,6 @@
 //! The plain session, called as its users call it.
 
-use crate::*;
+use amqp_sessions::*;
 use amqp_ids::IdSource;
 use amqp_layer::{Answers, LayerBelow, Recorder, SessionInnerError, take_frame};
 use amqp_txn_types::{

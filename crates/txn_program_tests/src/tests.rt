@@ -1,10 +1,9 @@
 //! What no clause says: the tables of lines and words by examples from outside, and printed texts.
 
-use crate::frame_text::put_frame;
-use crate::*;
+use txn_program::*;
 use amqp_below::Exchanges;
 use amqp_record::{Driven, Entries, Step, Steps, Stop};
-use amqp_txn_types::{NoMemory, Text};
+use amqp_txn_types::{Frames, NoMemory, Text, TryClone};
 use std::alloc::Global;
 use std::test::Fail;
 
@@ -43,58 +42,6 @@ fn the_first_line_outside_the_table_is_told(rt: HostRuntime) {
     }
 }
 
-fn put_first(alloc: Global, text: &mut String, steps: &Steps) -> Result<(), NoMemory> {
-    if let Some(Step::Frame(frame)) = steps.get(0) {
-        put_frame(alloc, text, frame)?;
-    }
-    Ok(())
-}
-
-/// The frame of a line, as a report prints it.
-fn put_printed(alloc: Global, text: &mut String, line: &str) -> Result<(), SpellError> {
-    let steps = spells(alloc, line.as_bytes())?;
-    let put = put_first(alloc, text, &steps);
-    drop(steps);
-    match put {
-        Ok(()) => Ok(()),
-        Err(_) => Err(SpellError::NoMemory),
-    }
-}
-
-/// Whether the frame of a line is printed so.
-fn is_printed(alloc: Global, line: &str, text: &str) -> Result<bool, SpellError> {
-    let mut printed = String::new(alloc);
-    let put = put_printed(alloc, &mut printed, line);
-    let same = printed.as_str() == text;
-    drop(printed);
-    put?;
-    Ok(same)
-}
-
-#[test]
-fn frames_are_printed_with_their_states(rt: HostRuntime) -> Result<(), Fail> {
-    for (line, text) in [
-        ("attach c 0", "attach c 0 sender"),
-        ("flow 1 200", "flow 1 200"),
-        ("flow -", "flow - -"),
-        ("transfer 1 - true -", "transfer 1 - true - -"),
-        ("post 0A 1 7 - - FF", "transfer 1 7 - txn:0a:- ff"),
-        (
-            "retire 0a sender 6 - true rejected",
-            "disposition sender 6 - true txn:0a:rejected",
-        ),
-        (
-            "disposition receiver 3 5 false released",
-            "disposition receiver 3 5 false released",
-        ),
-        ("detach 1 true", "detach 1 true"),
-    ] {
-        let printed = is_printed(rt.alloc(), line, text)?;
-        assert!(rt; printed, "at {line}");
-    }
-    Ok(())
-}
-
 /// A run without steps.
 fn no_steps(alloc: Global) -> Driven {
     Driven {
@@ -105,19 +52,81 @@ fn no_steps(alloc: Global) -> Driven {
     }
 }
 
-/// The report of a run without steps.
-fn empty_report(alloc: Global) -> Result<Text, NoMemory> {
+/// The report of a run without steps, after which these frames were taken.
+fn report_of(alloc: Global, taken: &Exchanges) -> Result<Text, NoMemory> {
     let driven = no_steps(alloc);
-    let taken = Exchanges::new(alloc);
-    let text = report(alloc, &driven, &taken);
-    drop(taken);
+    let text = report(alloc, &driven, taken);
     drop(driven);
     text
 }
 
+/// The frames of the first line, as taken ones that were given nothing back.
+fn taken_of(alloc: Global, steps: &Steps) -> Result<Exchanges, NoMemory> {
+    let mut taken = Exchanges::new(alloc);
+    if let Some(Step::Frame(frame)) = steps.get(0) {
+        taken.append((frame.try_clone()?, Frames::new(alloc)))?;
+    }
+    Ok(taken)
+}
+
+/// The report in which the frame of a line was taken.
+fn report_taking(alloc: Global, line: &str) -> Result<Text, SpellError> {
+    let steps = spells(alloc, line.as_bytes())?;
+    let taken = taken_of(alloc, &steps);
+    drop(steps);
+    let Ok(taken) = taken else {
+        return Err(SpellError::NoMemory);
+    };
+    let text = report_of(alloc, &taken);
+    drop(taken);
+    match text {
+        Ok(text) => Ok(text),
+        Err(_) => Err(SpellError::NoMemory),
+    }
+}
+
+#[test]
+fn frames_are_printed_with_their_states(rt: HostRuntime) -> Result<(), Fail> {
+    for (line, want) in [
+        (
+            "attach c 0",
+            "stop done\nhanded 0\ntaken attach c 0 sender\n",
+        ),
+        (
+            "flow 1 200",
+            "stop done\nhanded 0\ntaken flow 1 200\n",
+        ),
+        ("flow -", "stop done\nhanded 0\ntaken flow - -\n"),
+        (
+            "transfer 1 - true -",
+            "stop done\nhanded 0\ntaken transfer 1 - true - -\n",
+        ),
+        (
+            "post 0A 1 7 - - FF",
+            "stop done\nhanded 0\ntaken transfer 1 7 - txn:0a:- ff\n",
+        ),
+        (
+            "retire 0a sender 6 - true rejected",
+            "stop done\nhanded 0\ntaken disposition sender 6 - true txn:0a:rejected\n",
+        ),
+        (
+            "disposition receiver 3 5 false released",
+            "stop done\nhanded 0\ntaken disposition receiver 3 5 false released\n",
+        ),
+        (
+            "detach 1 true",
+            "stop done\nhanded 0\ntaken detach 1 true\n",
+        ),
+    ] {
+        let text = report_taking(rt.alloc(), line)?;
+        assert_eq!(rt; text.as_str(), want);
+    }
+    Ok(())
+}
+
 #[test]
 fn an_empty_run_has_a_report(rt: HostRuntime) -> Result<(), Fail> {
-    let text = empty_report(rt.alloc())?;
+    let text = report_of(rt.alloc(), &Exchanges::new(rt.alloc()))?;
     assert_eq!(rt; text.as_str(), "stop done\nhanded 0\n");
     Ok(())
 }

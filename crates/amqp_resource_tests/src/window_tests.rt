@@ -1,7 +1,7 @@
 //! The window of a plain session, through a recorder: asked for after each transfer.
 
 use crate::tests::{answer_of, attach, begin_transaction, discharge, post, transfer};
-use crate::*;
+use amqp_resource::*;
 use amqp_layer::{Answers, LayerBelow, Recorder};
 use amqp_sessions::{PlainSession, Relay, Session};
 use amqp_txn_types::{

@@ -1,7 +1,7 @@
 //! Runs that are refused below or ended, and made runs.
 
 use crate::run_tests::{A, B, append_words, assert_run, ran};
-use crate::{run_commands, status};
+use txn_program::{run_commands, status};
 use amqp_below::{PlainSession, Recorder, SureSink, SureSource};
 use amqp_txn_types::{Begin, Binary, Handle, Items, NoMemory, OutgoingChannel, SessionState, Text};
 use std::alloc::{Alloc, Global};

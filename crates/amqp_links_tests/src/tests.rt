@@ -1,6 +1,6 @@
 //! What no clause says: that the calls succeed where there is memory, and printed texts.
 
-use crate::*;
+use amqp_links::*;
 use amqp_txn_types::{
     AmqpError, Binary, CallNumbers, DeliveryState, Error, ErrorCondition, Fields, LinkEnd,
     NoMemory, OutputHandle, Payload, ReceiverSettleMode, Role, SenderSettleMode, SessionStopReason,

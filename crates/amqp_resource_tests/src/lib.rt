@@ -1,0 +1,8 @@
+//! The tests of `amqp_resource`. They stand apart from it, since a crate with tests is proved
+//! twice.
+#![tactic(auto)]
+
+#[cfg(test)]
+mod tests;
+#[cfg(test)]
+mod window_tests;
