@@ -1,7 +1,7 @@
 -- The plain receiving end of a link.
 use Rattle.std.specs.Prelude.{ℕ, ◌≡◌, Bool, true, false, if◌then◌else◌, Option, Some, None, Result, Ok, Err, List, [], ◌∷◌, ◌++◌, drop}
 use Rattle.amqp_txn_types.specs.declared.performatives.LinkEnd.{LinkEnd}
-use Rattle.amqp_links.specs.declared.calls.Calls.{Calls}
+use Rattle.amqp_txn_types.specs.declared.calls.Calls.{Calls}
 use Rattle.amqp_links.specs.declared.delivery.Delivery.{Delivery}
 use Rattle.amqp_links.specs.declared.errors.IllegalLinkStateError.{IllegalLinkStateError}
 use Rattle.amqp_links.specs.declared.errors.LinkStateError.TheVariants as link_errors
@@ -9,7 +9,8 @@ use Rattle.amqp_links.specs.declared.errors.RecvError.{RecvError}
 use Rattle.amqp_links.specs.declared.errors.RecvError.TheVariants as recv_errors
 use Rattle.amqp_links.specs.declared.messages.ReceiverMessage.{ReceiverMessage}
 use Rattle.amqp_links.specs.declared.poll.Poll.{Poll}
-use Rattle.amqp_links.specs.Calls.{is_failing, faulted, after_call, after_look}
+use Rattle.amqp_txn_types.specs.Calls.{is_failing, faulted, after_call}
+use Rattle.amqp_links.specs.Calls.{after_look}
 use Rattle.amqp_links.specs.Receiving.{Properties, ReceiverTold, put_by}
 
 -- a receiving wire: the deliveries that wait, in order

@@ -6,7 +6,7 @@ use Rattle.amqp_txn_types.specs.declared.performatives.LinkEnd.{LinkEnd}
 use Rattle.amqp_txn_types.specs.declared.small.Token.{Token}
 use Rattle.amqp_links.specs.declared.answer_slot.AnswerSlot.{AnswerSlot}
 use Rattle.amqp_links.specs.declared.answer_slot.AnswerSlot.TheVariants as slots
-use Rattle.amqp_links.specs.declared.calls.Calls.{Calls}
+use Rattle.amqp_txn_types.specs.declared.calls.Calls.{Calls}
 use Rattle.amqp_links.specs.declared.errors.DetachError.{DetachError}
 use Rattle.amqp_links.specs.declared.errors.LinkStateError.TheVariants as link_errors
 use Rattle.amqp_links.specs.declared.errors.SendError.{SendError}
@@ -17,7 +17,8 @@ use Rattle.amqp_links.specs.declared.sendable.Sendable.{Sendable}
 use Rattle.amqp_links.specs.declared.sendable.Sent.{Sent}
 use Rattle.amqp_links.specs.declared.sendable.Sent.TheVariants as sendings
 use Rattle.amqp_links.specs.Answers.{answer_in, is_awaited, filled_slot, emptied_slot}
-use Rattle.amqp_links.specs.Calls.{is_failing, after_call, after_look}
+use Rattle.amqp_txn_types.specs.Calls.{is_failing, after_call}
+use Rattle.amqp_links.specs.Calls.{after_look}
 use Rattle.amqp_links.specs.Sending.{Answer, SenderTold, as_sent}
 
 -- a sending wire: the answers stand by the number of their token

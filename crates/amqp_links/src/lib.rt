@@ -26,7 +26,6 @@
 #![tactic(auto)]
 
 mod answer_slot;
-mod calls;
 mod delivery;
 mod errors;
 mod messages;

@@ -3,11 +3,11 @@
 ghost use Rattle.std.specs.Prelude.{◌≡◌, ◌≤◌, ◌∷◌, ◌++◌, [], None, IfOk, IfErr, OnOk, OnErr};
 ghost use Rattle.amqp_links.specs.declared.errors.IllegalLinkStateError.TheVariants as link_errors;
 ghost use Rattle.amqp_links.specs.declared.messages.ReceiverMessage.TheVariants as messages;
-ghost use Rattle.amqp_links.specs.Calls.{is_failing, FailsAsListed, FailsOnlyAsListed};
+ghost use Rattle.amqp_txn_types.specs.Calls.{is_failing};
+ghost use Rattle.amqp_links.specs.Calls.{FailsAsListed, FailsOnlyAsListed};
 ghost use Rattle.amqp_links.specs.Receiving.{Disposes, Receives, SetsCredit, SendsFlow, Inserts, Removes, included, inserted, removed};
 ghost use Rattle.amqp_links.specs.ReceiverWire.{ReceiverWire, receiver_tells, after_put, received, after_credit, delivered, with_failing, with_properties, with_put};
 
-use crate::calls::Calls;
 use crate::delivery::{Delivery, DeliveryInfo};
 use crate::errors::{
     DispositionError, FlowError, IllegalLinkStateError, LinkStateError, RecvError,
@@ -16,7 +16,7 @@ use crate::messages::{ReceiverMessage, ReceiverMessages};
 use crate::poll::Poll;
 use crate::receiver::ReceiverLink;
 use amqp_txn_types::{
-    CallNumbers, DeliveryState, Fields, LinkEnd, NoMemory, Symbol, TryClone, Value,
+    CallNumbers, Calls, DeliveryState, Fields, LinkEnd, NoMemory, Symbol, TryClone, Value,
 };
 use std::alloc::Global;
 use std::collections::VecDeque;
@@ -73,7 +73,7 @@ impl WireReceiver {
             deliveries: VecDeque::new(alloc),
             credit: 0,
             properties: None,
-            calls: Calls::new(alloc),
+            calls: Calls::new(CallNumbers::new(alloc)),
             alloc,
         }
     }

@@ -5,18 +5,18 @@ ghost use Rattle.amqp_links.specs.declared.errors.DetachError.TheVariants as det
 ghost use Rattle.amqp_links.specs.declared.errors.LinkStateError.TheVariants as link_errors;
 ghost use Rattle.amqp_links.specs.declared.errors.SendError.TheVariants as send_errors;
 ghost use Rattle.amqp_links.specs.Answers.{answer_in, is_awaited};
-ghost use Rattle.amqp_links.specs.Calls.{is_failing, FailsAsListed};
+ghost use Rattle.amqp_txn_types.specs.Calls.{is_failing};
+ghost use Rattle.amqp_links.specs.Calls.{FailsAsListed};
 ghost use Rattle.amqp_links.specs.Sending.{Sends, Looks, Closes as ClosesLink, sent_after};
 ghost use Rattle.amqp_links.specs.SenderWire.{SenderWire, sender_tells, after_send, after_close, answered, filled_at, given_at, looked, with_failing, with_message};
 
 use crate::answer_slot::AnswerSlot;
-use crate::calls::Calls;
 use crate::errors::{DetachError, LinkStateError, SendError};
 use crate::messages::{Closes, SentMessage, SentMessages};
 use crate::poll::Poll;
 use crate::sendable::{Sendable, Sent};
 use crate::sender::{Answer, SenderLink};
-use amqp_txn_types::{CallNumbers, DeliveryState, Error, Items, LinkEnd, NoMemory, Token};
+use amqp_txn_types::{CallNumbers, Calls, DeliveryState, Error, Items, LinkEnd, NoMemory, Token};
 use std::alloc::Global;
 use std::marker::Model;
 
@@ -70,7 +70,7 @@ impl WireSender {
             put: SentMessages::new(alloc),
             answers: Items::new(alloc),
             closes: Closes::new(alloc),
-            calls: Calls::new(alloc),
+            calls: Calls::new(CallNumbers::new(alloc)),
         }
     }
 

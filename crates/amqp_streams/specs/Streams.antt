@@ -5,6 +5,18 @@ use Rattle.amqp_txn_types.specs.declared.items.NoMemory.{NoMemory}
 use Rattle.amqp_txn_types.specs.Growing.{grown}
 use Rattle.amqp_txn_types.specs.Counts.{Rose}
 
+-- what a source tells: the octets that are left, where it tells them, and how often it failed
+pub record SourceTold : Type 0 where
+  pub rest : Option (List ℕ)
+  pub faults : ℕ
+
+-- what a sink tells: the octets that were written, where it tells them, how often it failed, and
+-- for how many octets there is room
+pub record SinkTold : Type 0 where
+  pub written : Option (List ℕ)
+  pub faults : ℕ
+  pub spare : ℕ
+
 -- where the octets are told, these n came first and the others are left
 abbrev pub MovesOn : Option (List ℕ) → Option (List ℕ) → List ℕ → ℕ → Type 0
 MovesOn None new filled n = new ≡ None

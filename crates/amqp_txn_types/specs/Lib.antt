@@ -9,3 +9,4 @@ pub mod Counts
 pub mod Growing
 pub mod Ids
 pub mod Presumptive
+pub mod Calls

@@ -31,6 +31,7 @@
 #![tactic(auto)]
 
 mod binary;
+mod calls;
 mod capability;
 mod counts;
 mod delivery;
@@ -47,6 +48,7 @@ mod symbols;
 mod text;
 
 pub use binary::Binary;
+pub use calls::Calls;
 pub use capability::TxnCapability;
 pub use counts::{count_refusal, refuse};
 pub use delivery::{

@@ -1,29 +1,31 @@
-//! The fallible calls of a wire.
+//! The fallible calls of a body in memory.
 
 ghost use Rattle.std.specs.Prelude.{◌≡◌, ◌≤◌, Err, []};
-ghost use Rattle.amqp_links.specs.Calls.{is_failing, called, faulted};
+ghost use Rattle.amqp_txn_types.specs.Calls.{is_failing, called, faulted};
 
-use amqp_txn_types::{CallNumbers, refuse};
+use crate::counts::refuse;
+use crate::items::CallNumbers;
 use std::alloc::Global;
 
-/// The fallible calls of a wire, whichever they are: how many there were, how many failed, and the
-/// numbers of those that are to fail.
+/// The fallible calls of a body in memory, whichever they are: how many there were, how many
+/// failed, and the numbers, from 1, of those that are to fail.
 #[derive(Debug, Drop)]
 pub struct Calls {
-    pub(crate) failing: CallNumbers,
+    /// The numbers of the calls that are to fail.
+    pub failing: CallNumbers,
     made: u64,
     faults: u64,
 }
 
 impl Calls {
-    /// No calls yet, of which none is to fail.
-    pub(crate) fn new(alloc: Global) -> Calls
-        ensures failing { result.failing ≡ [] }
+    /// No calls yet, of which those of these numbers are to fail.
+    pub fn new(failing: CallNumbers) -> Calls
+        ensures failing { result.failing ≡ failing }
         ensures made { result.made ≡ 0 }
         ensures faults { result.faults ≡ 0 }
     {
         Calls {
-            failing: CallNumbers::new(alloc),
+            failing,
             made: 0,
             faults: 0,
         }
@@ -31,7 +33,7 @@ impl Calls {
 
     /// Counts a call, and answers whether its number is one of those that are to fail.
     #[tactic(auto, unfolding(crate::specs::Calls::is_failing))]
-    pub(crate) fn begin(&mut self) -> bool
+    pub fn begin(&mut self) -> bool
         ensures fails { result ≡ is_failing self.old }
         ensures counted { self.new ≡ called self.old }
     {
@@ -40,12 +42,11 @@ impl Calls {
     }
 
     /// Counts a fault, and answers it.
-    pub(crate) fn fail<T, E>(&mut self, error: E) -> Result<T, E>
+    pub fn fail<T, E>(&mut self, error: E) -> Result<T, E>
         ensures answer { result ≡ Err error }
         ensures counted { self.new ≡ faulted self.old }
         ensures later { self.old.faults ≤ self.new.faults }
     {
-        let _faults = self.faults;
         refuse(&mut self.faults, error)
     }
 }
