@@ -9,3 +9,4 @@ pub mod Midway
 pub mod MadeRuns
 pub mod Endings
 pub mod Runs
+pub mod Streaming

@@ -1,4 +1,4 @@
--- How a call ends during which the layer below counted no refusal.
+-- How a call ends during which the layer below counted no refusal and the sink no fault.
 use Rattle.std.specs.Prelude.{ℕ, ◌≡◌, Option, Some, None, Result, Ok, Err, List, ◌⊎◌, IsSome}
 use Rattle.amqp_txn_types.specs.Counts.{Rose}
 use Rattle.amqp_record.specs.declared.step.Step.{Step}
@@ -7,6 +7,9 @@ use Rattle.amqp_record.specs.declared.stop.Driven.{Driven}
 use Rattle.amqp_record.specs.Entries.{steps_of}
 use Rattle.amqp_resource.specs.Drive.{NextStep}
 use Rattle.amqp_resource.specs.Steps.{UnderDead, ended_by}
+use Rattle.txn_program.specs.Lines.{input_steps}
+use Rattle.txn_program.specs.declared.reading.Reading.{Reading}
+use Rattle.txn_program.specs.declared.reading.Reading.TheVariants as readings
 use Rattle.txn_program.specs.declared.words.Command.{Command}
 use Rattle.txn_program.specs.declared.words.Command.TheVariants as commands
 
@@ -34,17 +37,23 @@ RunEnds steps None status = status ≡ 6
 RunEnds steps (Some driven) status =
     (status ≡ 6) ⊎ (EveryStep steps driven status ⊎ Stopped steps driven status)
 
--- a run of the input, of which a line may be outside the table
-abbrev pub InputEnds : Result (List Step) ℕ → Option Driven → ℕ → Type 0
-InputEnds (Err line) driven status = (status ≡ 6) ⊎ (status ≡ 3)
-InputEnds (Ok steps) driven status = RunEnds steps driven status
+-- a run of what the input spells, of which a line may be outside the table
+abbrev pub SpelledEnds : Result (List Step) ℕ → Option Driven → ℕ → Type 0
+SpelledEnds (Err line) driven status = (status ≡ 6) ⊎ (status ≡ 3)
+SpelledEnds (Ok steps) driven status = RunEnds steps driven status
+
+-- a run of the input
+abbrev pub InputEnds : Reading → Option Driven → ℕ → Type 0
+InputEnds readings.Fault driven status = (status ≡ 6) ⊎ (status ≡ 4)
+InputEnds readings.TooLong driven status = (status ≡ 6) ⊎ (status ≡ 7)
+InputEnds (readings.Whole octets) driven status = SpelledEnds (input_steps octets) driven status
 
 -- a made run: every step has its entry, or want of memory
 abbrev pub MadeEnds : ℕ → Type 0
 MadeEnds status = (status ≡ 6) ⊎ (status ≡ 0)
 
 -- by the words
-abbrev pub Completes : Option Command → Result (List Step) ℕ → Option Driven → ℕ → Type 0
-Completes None spelled driven status = (status ≡ 6) ⊎ (status ≡ 2)
-Completes (Some (commands.Run plan ids)) spelled driven status = InputEnds spelled driven status
-Completes (Some (commands.Make count)) spelled driven status = MadeEnds status
+abbrev pub Completes : Option Command → Reading → Option Driven → ℕ → Type 0
+Completes None reading driven status = (status ≡ 6) ⊎ (status ≡ 2)
+Completes (Some (commands.Run plan ids)) reading driven status = InputEnds reading driven status
+Completes (Some (commands.Make count)) reading driven status = MadeEnds status

@@ -1,5 +1,5 @@
 -- What a run of the program answers: its statuses, its record, what was taken, and what is written.
-use Rattle.std.specs.Prelude.{ℕ, ◌≡◌, ◌==◌, ◌↔◌, ◌++◌, Option, Some, None, Result, Ok, Err, List, [], length, take, codes, unwrap_or, ◌⊎◌, IsNone, IfSome, IsOkAnd, if◌then◌else◌}
+use Rattle.std.specs.Prelude.{ℕ, ◌≡◌, ◌↔◌, ◌++◌, Option, Some, None, Result, Ok, Err, List, [], length, take, codes, unwrap_or, ◌⊎◌, IsNone, IsOkAnd}
 use Rattle.std.specs.Fmt.{decimal}
 use Rattle.amqp_txn_types.specs.declared.id.TransactionId.{TransactionId}
 use Rattle.amqp_txn_types.specs.declared.performatives.Frame.{Frame}
@@ -17,7 +17,12 @@ use Rattle.amqp_record.specs.Opened.{opens}
 use Rattle.amqp_resource.specs.Drive.{RunTook, RunRefused, StopCause}
 use Rattle.amqp_ids.specs.Counted.{ids_from}
 use Rattle.amqp_ids.specs.Listed.{listed}
+use Rattle.amqp_streams.specs.Streams.{SourceTold}
+use Rattle.txn_program.specs.Lines.{input_steps}
 use Rattle.txn_program.specs.Made.{made, made_text}
+use Rattle.txn_program.specs.Reading.{Finds}
+use Rattle.txn_program.specs.declared.reading.Reading.{Reading}
+use Rattle.txn_program.specs.declared.reading.Reading.TheVariants as readings
 use Rattle.txn_program.specs.Report.{report_text}
 use Rattle.txn_program.specs.declared.words.Command.{Command}
 use Rattle.txn_program.specs.declared.words.Command.TheVariants as commands
@@ -38,16 +43,23 @@ abbrev pub driven_status : Option Driven → ℕ
 driven_status None = 6
 driven_status (Some driven) = stop_status driven.stop
 
--- the status of a run of the input: 3 for a line outside the line table
-abbrev pub input_status : Result (List Step) ℕ → Option Driven → ℕ
-input_status (Err line) driven = 3
-input_status (Ok steps) driven = driven_status driven
+-- the status of a run of what the input spells: 3 for a line outside the line table
+abbrev pub spelled_status : Result (List Step) ℕ → Option Driven → ℕ
+spelled_status (Err line) driven = 3
+spelled_status (Ok steps) driven = driven_status driven
 
--- the status: 2 for words outside the table, else by the run; want of memory apart
-abbrev pub status_of : Option Command → Result (List Step) ℕ → Option Driven → ℕ
-status_of None spelled driven = 2
-status_of (Some (commands.Run plan ids)) spelled driven = input_status spelled driven
-status_of (Some (commands.Make count)) spelled driven = driven_status driven
+-- the status of a run of the input: 4 for a fault of the source, 7 for more octets than the limit
+abbrev pub input_status : Reading → Option Driven → ℕ
+input_status readings.Fault driven = 4
+input_status readings.TooLong driven = 7
+input_status (readings.Whole octets) driven = spelled_status (input_steps octets) driven
+
+-- the status: 2 for words outside the table, else by the run; want of memory and a fault of the
+-- sink apart
+abbrev pub status_of : Option Command → Reading → Option Driven → ℕ
+status_of None reading driven = 2
+status_of (Some (commands.Run plan ids)) reading driven = input_status reading driven
+status_of (Some (commands.Make count)) reading driven = driven_status driven
 
 -- ---- texts
 
@@ -64,10 +76,16 @@ abbrev pub driven_text : Told → Option Driven → List ℕ
 driven_text below None = []
 driven_text below (Some driven) = report_text driven (taken_of below)
 
--- the text of a run of the input: of the line that isn't a step, or the report
-abbrev pub input_text : Told → Result (List Step) ℕ → Option Driven → List ℕ
-input_text below (Err line) driven = line_text line
-input_text below (Ok steps) driven = driven_text below driven
+-- the text of a run of what the input spells: of the line that isn't a step, or the report
+abbrev pub spelled_text : Told → Result (List Step) ℕ → Option Driven → List ℕ
+spelled_text below (Err line) driven = line_text line
+spelled_text below (Ok steps) driven = driven_text below driven
+
+-- the text of a run of the input
+abbrev pub input_text : Told → Reading → Option Driven → List ℕ
+input_text below readings.Fault driven = codes "read fault\n"
+input_text below readings.TooLong driven = codes "input too long\n"
+input_text below (readings.Whole octets) driven = spelled_text below (input_steps octets) driven
 
 -- the text of a made run, where steps were driven
 abbrev pub summary_text : Told → Option Driven → List ℕ
@@ -75,23 +93,21 @@ summary_text below None = []
 summary_text below (Some driven) = made_text driven.entries (length (taken_of below))
 
 -- the text that is written, by the words
-abbrev pub written_text : Told → Option Command → Result (List Step) ℕ → Option Driven → List ℕ
-written_text below None spelled driven = codes "usage\n"
-written_text below (Some (commands.Run plan ids)) spelled driven = input_text below spelled driven
-written_text below (Some (commands.Make count)) spelled driven = summary_text below driven
-
--- the text of a status: none for want of memory
-abbrev pub text_by : ℕ → List ℕ → List ℕ
-text_by status text = if status == 6 then [] else text
+abbrev pub written_text : Told → Option Command → Reading → Option Driven → List ℕ
+written_text below None reading driven = codes "usage\n"
+written_text below (Some (commands.Run plan ids)) reading driven = input_text below reading driven
+written_text below (Some (commands.Make count)) reading driven = summary_text below driven
 
 -- ---- what a call leaves
 
--- what is left of the input: a run reads it to its end before it drives a step, and nothing else
--- reads it
-abbrev pub LeftUnread : Option Command → Option Driven → List ℕ → List ℕ → Type 0
-LeftUnread None driven before after = after ≡ before
-LeftUnread (Some (commands.Run plan ids)) driven before after = IfSome driven (λ d. after ≡ [])
-LeftUnread (Some (commands.Make count)) driven before after = after ≡ before
+-- what was read: a run reads the input to its end before it drives a step, and nothing else reads
+-- it; want of memory may come before the input is read
+abbrev pub ReadFor :
+    Option Command → ℕ → Option Driven → SourceTold → SourceTold → Reading → Type 0
+ReadFor None status driven before after reading = after ≡ before
+ReadFor (Some (commands.Run plan ids)) status driven before after reading =
+    Finds before after reading ⊎ ((status ≡ 6) × IsNone driven)
+ReadFor (Some (commands.Make count)) status driven before after reading = after ≡ before
 
 -- the plan of the words, or the one that was there
 abbrev pub plan_or : List ℕ → Option (List ℕ) → List ℕ
@@ -138,10 +154,16 @@ pub record IsRun (ids : ℕ → TransactionId) (steps : List Step) (below : Told
   pub opened : below.opened ≡ Some (opens driven.entries)
   pub refused : RunRefused (Some []) below.refused steps driven.entries driven.stop driven.handed
 
+-- the input was read whole and each of its lines is a step, and of these steps the fact holds
+abbrev pub IsSpelledBy : Reading → (List Step → Type 0) → Type 0
+IsSpelledBy readings.Fault P = ⊥
+IsSpelledBy readings.TooLong P = ⊥
+IsSpelledBy (readings.Whole octets) P = IsOkAnd (input_steps octets) P
+
 -- the steps that the words ask for, with the ids that declares draw: a run of the input, of which
 -- every line is a step, with the ids of the words, or a made run with the numbers from 1
-abbrev pub IsRunOf : Option Command → Result (List Step) ℕ
-    → ((ℕ → TransactionId) → List Step → Type 0) → Type 0
-IsRunOf None spelled P = ⊥
-IsRunOf (Some (commands.Run plan ids)) spelled P = IsOkAnd spelled (P (listed ids))
-IsRunOf (Some (commands.Make count)) spelled P = P (ids_from 1) (made count)
+abbrev pub IsRunOf :
+    Option Command → Reading → ((ℕ → TransactionId) → List Step → Type 0) → Type 0
+IsRunOf None reading P = ⊥
+IsRunOf (Some (commands.Run plan ids)) reading P = IsSpelledBy reading (P (listed ids))
+IsRunOf (Some (commands.Make count)) reading P = P (ids_from 1) (made count)

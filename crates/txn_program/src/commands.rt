@@ -4,13 +4,15 @@ ghost use Rattle.std.specs.Prelude.{◌≡◌};
 ghost use Rattle.amqp_layer.specs.Recording.{IsFresh, is_unused};
 ghost use Rattle.amqp_layer.specs.Told.{planned};
 ghost use Rattle.txn_program.specs.Words.{IsWithin, command_of};
+ghost use Rattle.txn_program.specs.Reading.{source_of};
 ghost use Rattle.txn_program.specs.Running.{plan_or};
 ghost use Rattle.txn_program.specs.Serving.{Serves};
+ghost use Rattle.txn_program.specs.Writing.{sink_of};
 
 use crate::running::{Ran, answered, out_of_memory, run_input, run_made};
 use crate::status;
 use crate::words::{Command, command_of};
-use amqp_below::{LayerBelow, Recorder, SureSink, SureSource, Tells};
+use amqp_below::{ByteSink, ByteSource, LayerBelow, Recorder, Tells};
 use amqp_txn_types::{CallNumbers, Text};
 use std::alloc::Global;
 
@@ -22,16 +24,18 @@ use std::alloc::Global;
 /// # Requires
 ///
 /// The recorder is fresh, as [`Recorder::is_fresh`] tests.
-pub fn run<S: LayerBelow>(
+pub fn run<S: LayerBelow, I: ByteSource, O: ByteSink>(
     alloc: Global,
     words: &[Text],
     below: Recorder<S>,
-    input: &mut SureSource,
-    output: &mut SureSink,
+    input: &mut I,
+    output: &mut O,
 ) -> Ran<S>
     requires { IsFresh (is_unused below) (⟦<Recorder<S> as Tells>⟧.told below) }
     ensures { Serves ⟦<Recorder<S> as Tells>⟧.told (command_of words.now) below
-        input.old input.new output.old.octets output.new.octets result }
+        (source_of I.rest I.faults input.old) (source_of I.rest I.faults input.new)
+        (sink_of O.written O.faults O.spare output.old)
+        (sink_of O.written O.faults O.spare output.new) result }
 {
     run_commands(alloc, words, below, input, output)
 }
@@ -41,16 +45,18 @@ pub fn run<S: LayerBelow>(
 /// # Requires
 ///
 /// The recorder is fresh, as [`Recorder::is_fresh`] tests.
-pub fn run_commands<S: LayerBelow>(
+pub fn run_commands<S: LayerBelow, I: ByteSource, O: ByteSink>(
     alloc: Global,
     words: &[Text],
     below: Recorder<S>,
-    input: &mut SureSource,
-    output: &mut SureSink,
+    input: &mut I,
+    output: &mut O,
 ) -> Ran<S>
     requires { IsFresh (is_unused below) (⟦<Recorder<S> as Tells>⟧.told below) }
     ensures { Serves ⟦<Recorder<S> as Tells>⟧.told (command_of words.now) below
-        input.old input.new output.old.octets output.new.octets result }
+        (source_of I.rest I.faults input.old) (source_of I.rest I.faults input.new)
+        (sink_of O.written O.faults O.spare output.old)
+        (sink_of O.written O.faults O.spare output.new) result }
 {
     match command_of(alloc, words) {
         Ok(command) => run_command(alloc, command, below, input, output),
@@ -66,17 +72,19 @@ pub fn run_commands<S: LayerBelow>(
 /// The recorder is fresh, as [`Recorder::is_fresh`] tests, and the command is within the limits of
 /// the table, as each that [`command_of`] gives: a run has an id, and 1 to 20,000 transactions are
 /// made.
-pub fn run_command<S: LayerBelow>(
+pub fn run_command<S: LayerBelow, I: ByteSource, O: ByteSink>(
     alloc: Global,
     command: Option<Command>,
     below: Recorder<S>,
-    input: &mut SureSource,
-    output: &mut SureSink,
+    input: &mut I,
+    output: &mut O,
 ) -> Ran<S>
     requires fresh { IsFresh (is_unused below) (⟦<Recorder<S> as Tells>⟧.told below) }
     requires within { IsWithin command }
     ensures { Serves ⟦<Recorder<S> as Tells>⟧.told command below
-        input.old input.new output.old.octets output.new.octets result }
+        (source_of I.rest I.faults input.old) (source_of I.rest I.faults input.new)
+        (sink_of O.written O.faults O.spare output.old)
+        (sink_of O.written O.faults O.spare output.new) result }
 {
     match command {
         Some(Command::Run { plan, ids }) => {

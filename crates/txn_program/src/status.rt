@@ -21,5 +21,8 @@ pub const WRITE_FAULT: u8 = 5;
 /// Want of memory; nothing was written.
 pub const NO_MEMORY: u8 = 6;
 
+/// The input has more octets than the limit.
+pub const TOO_LONG: u8 = 7;
+
 /// Want of memory in the layer below.
 pub const NO_MEMORY_BELOW: u8 = 8;

@@ -1,0 +1,40 @@
+-- What the reading of an input finds.
+use Rattle.std.specs.Prelude.{ℕ, ◌≡◌, ◌≤◌, ◌<◌, ◌+◌, ◌++◌, Option, Some, None, List, [], length, drop}
+use Rattle.amqp_streams.specs.Streams.{SourceTold}
+use Rattle.amqp_txn_types.specs.Counts.{Rose}
+use Rattle.txn_program.specs.declared.reading.TheConstants.{INPUT_LIMIT}
+use Rattle.txn_program.specs.declared.reading.Reading.{Reading}
+use Rattle.txn_program.specs.declared.reading.Reading.TheVariants as readings
+
+-- what a source tells, by its two members
+abbrev pub source_of : {I : Type 0} → (I → Option (List ℕ)) → (I → ℕ) → I → SourceTold
+source_of rest faults input = record { rest = rest input; faults = faults input }
+
+-- where the octets are told, these came first and the others are left
+abbrev pub IsRead : Option (List ℕ) → List ℕ → Option (List ℕ) → Type 0
+IsRead None octets after = after ≡ None
+IsRead (Some before) octets after =
+    (rest : List ℕ) × (before ≡ octets ++ rest) × (after ≡ Some rest)
+
+-- where the octets are told, a read of none comes at the end alone
+abbrev pub IsEndAt : Option (List ℕ) → ℕ → Type 0
+IsEndAt None count = Unit {0}
+IsEndAt (Some before) count = count ≡ 0 → before ≡ []
+
+-- where the octets are told: they were more than the limit, of which that many and one were read
+abbrev pub IsTooLong : Option (List ℕ) → Option (List ℕ) → Type 0
+IsTooLong None after = Unit {0}
+IsTooLong (Some before) after =
+    (INPUT_LIMIT < length before) × (after ≡ Some (drop (INPUT_LIMIT + 1) before))
+
+-- where the octets are told: these are all of them, and none is left
+abbrev pub IsWhole : Option (List ℕ) → List ℕ → Option (List ℕ) → Type 0
+IsWhole None octets after = Unit {0}
+IsWhole (Some before) octets after = (before ≡ octets) × (after ≡ Some [])
+
+-- a reading, by what it found: a fault only where the count of faults rose
+abbrev pub Finds : SourceTold → SourceTold → Reading → Type 0
+Finds before after readings.Fault = Rose before.faults after.faults
+Finds before after readings.TooLong = IsTooLong before.rest after.rest
+Finds before after (readings.Whole octets) =
+    (length octets ≤ INPUT_LIMIT) × IsWhole before.rest octets after.rest
