@@ -9,6 +9,7 @@ pub use Rattle.amqp_ids.specs.Listed
 pub use Rattle.amqp_ids.specs.Counted
 pub use Rattle.amqp_streams.specs.Streams
 pub use Rattle.amqp_streams.specs.Sinks
+pub use Rattle.amqp_streams.specs.Memory
 pub use Rattle.amqp_sessions.specs.Links
 pub use Rattle.amqp_sessions.specs.Agreement
 pub use Rattle.amqp_sessions.specs.Transacting

@@ -5,7 +5,7 @@
 //! | [`LayerBelow`], [`Recorder`], [`OpenSession`], [`take_frame`] | what takes the frames that are handed on | `amqp_layer` |
 //! | [`Session`], [`HandleDeclare`], [`HandleDischarge`], [`PlainSession`] | sessions with links, and their transactional calls | `amqp_sessions` |
 //! | [`IdSource`], [`Drawn`], [`ListIds`], [`CountIds`] | where the ids of declares come from | `amqp_ids` |
-//! | [`ByteSource`], [`ByteSink`], [`SureSource`], [`SureSink`] | where octets come from and go | `amqp_streams` |
+//! | [`ByteSource`], [`ByteSink`], [`SureSource`], [`SureSink`], [`MemorySource`], [`MemorySink`] | where octets come from and go | `amqp_streams` |
 //!
 //! This crate has nothing of its own: it passes these on, and their definitions too.
 #![tactic(auto)]
@@ -19,4 +19,6 @@ pub use amqp_sessions::{
     AllocLinkError, AllocTxnIdError, BeginError, CommitFault, HandleDeclare, HandleDischarge,
     NameState, PlainSession, Relay, Session,
 };
-pub use amqp_streams::{ByteSink, ByteSource, Failed, SureSink, SureSource};
+pub use amqp_streams::{
+    ByteSink, ByteSource, Failed, MemorySink, MemorySource, SureSink, SureSource,
+};

@@ -6,7 +6,6 @@ use Rattle.txn_main.specs.declared.fault.Fault.TheVariants as faults
 -- the status of a call without an answer of its own
 abbrev pub fault_status : Fault → ℕ
 fault_status faults.Words = 2
-fault_status faults.Read = 4
 fault_status faults.Write = 5
 fault_status faults.NoMemory = 6
 

@@ -13,8 +13,6 @@ use txn_program::status;
 pub enum Fault {
     /// A word isn't UTF-8.
     Words,
-    /// Standard input failed.
-    Read,
     /// Standard output failed.
     Write,
     /// An allocation failed.
@@ -32,7 +30,6 @@ impl Fault {
     pub fn text(self) -> &'static str {
         match self {
             Fault::Words => "usage\n",
-            Fault::Read => "read fault\n",
             Fault::Write | Fault::NoMemory => "",
         }
     }
@@ -42,7 +39,6 @@ impl Fault {
     {
         match self {
             Fault::Words => status::USAGE,
-            Fault::Read => status::READ_FAULT,
             Fault::Write => status::WRITE_FAULT,
             Fault::NoMemory => status::NO_MEMORY,
         }

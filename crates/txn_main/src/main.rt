@@ -1,8 +1,7 @@
 //! The program: its words, standard input and standard output around the top call.
 //!
-//! It reads the words, and standard input to its end where they ask for a run of it, calls
-//! `run_command` over a recorder that takes everything, writes out what was answered, and ends with
-//! the status.
+//! It reads the words, calls `run_command` over a recorder that takes everything, with standard
+//! input and standard output as its source and its sink, and ends with the status.
 #![tactic(auto)]
 
 ghost use Rattle.std.specs.Prelude.{IfOk};
@@ -11,14 +10,14 @@ ghost use Rattle.txn_program.specs.Words.{IsWithin};
 mod fault;
 
 use crate::fault::{Fault, exit_of};
-use amqp_below::{OpenSession, Recorder, SureSink, SureSource};
-use amqp_txn_types::{Binary, Items, Text};
+use amqp_below::{OpenSession, Recorder};
+use amqp_txn_types::{Items, Text};
 use std::alloc::{Alloc, Global};
 use std::env::{self, Env};
-use std::io::{self, Input, Print, Read};
+use std::io::{self, Input, Print};
 use std::mem::ManuallyDrop;
 use std::process::ExitCode;
-use txn_program::{Command, command_of, run_command};
+use txn_program::{Command, StdSink, StdSource, command_of, run_command};
 
 /// The words after the program's name.
 fn words(rt: &(impl Env + Alloc<A = Global>)) -> Result<Items<Text>, Fault> {
@@ -42,40 +41,16 @@ fn command(rt: &(impl Env + Alloc<A = Global>)) -> Result<Option<Command>, Fault
     Ok(command_of(rt.alloc(), words.as_slice())?)
 }
 
-/// All octets of standard input.
-fn octets(rt: &(impl Input + Alloc<A = Global>)) -> Result<Binary, Fault> {
-    let mut octets = Vec::new(rt.alloc());
-    match rt.reader().read_to_end(&mut octets) {
-        Ok(_) => Ok(Binary::from_vec(octets)),
-        Err(error) if error.kind() == io::ErrorKind::OutOfMemory => Err(Fault::NoMemory),
-        Err(_) => Err(Fault::Read),
-    }
-}
-
-/// What a command reads: only a run of the input reads.
-fn input(
-    rt: &(impl Input + Alloc<A = Global>),
-    command: &Option<Command>,
-) -> Result<Binary, Fault> {
-    match command {
-        Some(Command::Run { .. }) => octets(rt),
-        Some(Command::Make(_)) | None => Ok(Binary::new(rt.alloc())),
-    }
-}
-
 /// What the program does, with the status of the run. The record isn't taken apart at the end: the
 /// process gives all its memory back at once.
 fn serve(rt: &(impl Env + Input + Print + Alloc<A = Global>)) -> Result<u8, Fault> {
     let alloc = rt.alloc();
     let command = command(rt)?;
-    let mut input = SureSource::new(input(rt, &command)?);
-    let mut output = SureSink::new(alloc);
+    let mut input = StdSource::new(rt.reader());
+    let mut output = StdSink::new(io::writer(rt));
     let below = Recorder::new(alloc, OpenSession::new(alloc));
     let ran = ManuallyDrop::new(run_command(alloc, command, below, &mut input, &mut output));
-    match rt.write_all(output.as_slice()) {
-        Ok(()) => Ok(ran.status),
-        Err(_) => Err(Fault::Write),
-    }
+    Ok(ran.status)
 }
 
 /// Writes the text of a fault. The answer is the fault that the process ends with.

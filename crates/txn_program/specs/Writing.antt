@@ -2,6 +2,7 @@
 use Rattle.std.specs.Prelude.{ℕ, ◌≡◌, ◌≤◌, ◌==◌, ◌⊎◌, Option, List, [], take, if◌then◌else◌}
 use Rattle.amqp_streams.specs.Streams.{SinkTold}
 use Rattle.amqp_txn_types.specs.Counts.{Rose}
+use Rattle.txn_program.specs.declared.std_streams.StdSink.{StdSink}
 use Rattle.amqp_txn_types.specs.Growing.{grown}
 
 -- what a sink tells, by its three members
@@ -30,3 +31,7 @@ pub record Wrote (before after : Option (List ℕ)) (status : ℕ) (text : List 
 abbrev pub EndsWith : ℕ → ℕ → ℕ → ℕ → Type 0
 EndsWith faults faults_after wanted status =
     (status ≡ 6) ⊎ (((status ≡ 5) × Rose faults faults_after) ⊎ (status ≡ wanted))
+
+-- the writer of a sink
+abbrev pub writer_of : {W : Type 0} → StdSink W → W
+writer_of sink = sink.writer

@@ -2,7 +2,8 @@
 //!
 //! Here the proof ends: what a file, a terminal or a pipe gives or takes is told by nobody.
 
-ghost use Rattle.std.specs.Prelude.{◌≤◌, length, IfOk};
+ghost use Rattle.std.specs.Prelude.{◌≡◌, ◌≤◌, length, IfOk};
+ghost use Rattle.txn_program.specs.Writing.{writer_of};
 
 use amqp_below::{ByteSink, ByteSource, Failed};
 use amqp_txn_types::{NoMemory, refuse};
@@ -72,6 +73,13 @@ impl<W: Write> StdSink<W> {
             faults: 0,
             spare: 0,
         }
+    }
+
+    /// The writer.
+    pub fn into_writer(self) -> W
+        ensures { result ≡ writer_of self }
+    {
+        self.writer
     }
 }
 

@@ -1,12 +1,12 @@
 //! A record in which one field of one entry was changed is legal no more, by the slow program.
 
-use txn_program::Ran;
 use crate::run_tests::{A, ran};
 use amqp_below::{Answers, Echoes, SureSink};
 use amqp_record::{Entry, Reply, Step, is_legal};
 use amqp_txn_types::{Frames, NoMemory, TransactionId};
 use std::alloc::Global;
 use std::test::Fail;
+use txn_program::Ran;
 
 const ONE_COMMIT: &str = "attach c 0\nattach d 1\ncontrol 0 00537700533145\n\
      post 00000000000000000000000000000001 1 7 - - 6869\n\

@@ -11,6 +11,8 @@ mod refusing_tests;
 #[cfg(test)]
 mod run_tests;
 #[cfg(test)]
+mod stream_tests;
+#[cfg(test)]
 mod tests;
 #[cfg(test)]
 mod worked_tests;

@@ -2,13 +2,13 @@
 
 ghost use Rattle.std.specs.Prelude.{◌<◌};
 
-use txn_program::*;
 use amqp_below::{Exchanges, OpenSession, Recorder, SureSink, SureSource};
 use amqp_record::{Entry, Step, hands, is_entry_after};
 use amqp_txn_types::{Binary, Frame, Items, NoMemory, Text};
 use std::alloc::{Alloc, Global};
 use std::process::Abort;
 use std::test::Fail;
+use txn_program::*;
 
 fn put_word(words: &mut Items<Text>, word: Text) -> Result<(), NoMemory> {
     match words.push(word) {

@@ -1,12 +1,12 @@
 //! Runs that are refused below or ended, and made runs.
 
 use crate::run_tests::{A, B, append_words, assert_run, ran};
-use txn_program::{run_commands, status};
 use amqp_below::{PlainSession, Recorder, SureSink, SureSource};
 use amqp_txn_types::{Begin, Binary, Handle, Items, NoMemory, OutgoingChannel, SessionState, Text};
 use std::alloc::{Alloc, Global};
 use std::process::Abort;
 use std::test::Fail;
+use txn_program::{run_commands, status};
 
 /// Two transactions of which the second is committed first: their lines, and what each is answered.
 const LINES: [(&str, &str); 8] = [

@@ -1,12 +1,12 @@
 //! Whole runs: what the program answers to words and lines, with ample memory.
 
-use txn_program::*;
 use amqp_below::{OpenSession, Recorder, SureSink, SureSource};
 use amqp_record::{Entry, is_legal, work};
 use amqp_txn_types::{Binary, Frame, Frames, Items, NoMemory, Text};
 use std::alloc::{Alloc, Global};
 use std::process::Abort;
 use std::test::Fail;
+use txn_program::*;
 
 pub(crate) const A: &str = "00000000000000000000000000000001";
 

@@ -1,11 +1,11 @@
 //! What no clause says: the tables of lines and words by examples from outside, and printed texts.
 
-use txn_program::*;
 use amqp_below::Exchanges;
 use amqp_record::{Driven, Entries, Step, Steps, Stop};
 use amqp_txn_types::{Frames, NoMemory, Text, TryClone};
 use std::alloc::Global;
 use std::test::Fail;
+use txn_program::*;
 
 const ALL_LINES: &str = "attach c 0\nlink my.d-1_x 4294967295 receiver\nflow 1 200\nflow -\n\
      transfer 1 7 - 6869\npost 0A 1 7 - - FF\n\
@@ -92,10 +92,7 @@ fn frames_are_printed_with_their_states(rt: HostRuntime) -> Result<(), Fail> {
             "attach c 0",
             "stop done\nhanded 0\ntaken attach c 0 sender\n",
         ),
-        (
-            "flow 1 200",
-            "stop done\nhanded 0\ntaken flow 1 200\n",
-        ),
+        ("flow 1 200", "stop done\nhanded 0\ntaken flow 1 200\n"),
         ("flow -", "stop done\nhanded 0\ntaken flow - -\n"),
         (
             "transfer 1 - true -",

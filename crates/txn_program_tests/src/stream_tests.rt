@@ -1,0 +1,130 @@
+//! Sources and sinks of which calls fail, and those of the standard library.
+
+use crate::run_tests::{A, append_words};
+use amqp_below::{ByteSink, ByteSource, Failed, MemorySink, MemorySource, OpenSession, Recorder};
+use amqp_txn_types::{Binary, CallNumbers, Items, NoMemory};
+use std::alloc::Global;
+use std::test::Fail;
+use txn_program::{INPUT_LIMIT, StdSink, StdSource, run_commands};
+
+/// The number of the call that fails; none at 0.
+fn failing(alloc: Global, call: u64) -> Result<CallNumbers, NoMemory> {
+    let mut fails = CallNumbers::new(alloc);
+    if call > 0 {
+        fails.append(call)?;
+    }
+    Ok(fails)
+}
+
+/// The status of `run A` over a source and a sink.
+fn status_over(
+    alloc: Global,
+    source: &mut MemorySource,
+    sink: &mut MemorySink,
+) -> Result<u8, NoMemory> {
+    let mut texts = Items::new(alloc);
+    if let Err(error) = append_words(alloc, &mut texts, &["run", A]) {
+        drop(texts);
+        return Err(error);
+    }
+    let below = Recorder::new(alloc, OpenSession::new(alloc));
+    let ran = run_commands(alloc, texts.as_slice(), below, source, sink);
+    drop(texts);
+    let status = ran.status;
+    drop(ran);
+    Ok(status)
+}
+
+/// The status of a run of the octets, of which a read and a write of these numbers fail, and
+/// whether this text was written.
+fn ends_so(
+    alloc: Global,
+    octets: &[u8],
+    read: u64,
+    write: u64,
+    text: &str,
+) -> Result<(u8, bool), NoMemory> {
+    let octets = Binary::from_slice(alloc, octets)?;
+    let mut source = MemorySource::new(octets, failing(alloc, read)?);
+    let mut sink = MemorySink::new(alloc, failing(alloc, write)?);
+    let status = status_over(alloc, &mut source, &mut sink);
+    drop(source);
+    let written = sink.as_slice() == text.as_bytes();
+    drop(sink);
+    Ok((status?, written))
+}
+
+const DONE: &str = "stop done\nhanded 0\n";
+
+#[test]
+fn a_source_that_fails_is_a_read_fault(rt: HostRuntime) -> Result<(), Fail> {
+    assert_eq!(rt; ends_so(rt.alloc(), b"", 1, 0, "read fault\n")?, (4, true));
+    assert_eq!(rt; ends_so(rt.alloc(), b"", 2, 0, DONE)?, (0, true));
+    Ok(())
+}
+
+#[test]
+fn a_later_read_that_fails_is_a_read_fault(rt: HostRuntime) -> Result<(), Fail> {
+    let line = b"attach c 0\n";
+    assert_eq!(rt; ends_so(rt.alloc(), line, 2, 0, "read fault\n")?, (4, true));
+    let text = "attached 0\nstop done\nhanded 0\n";
+    assert_eq!(rt; ends_so(rt.alloc(), line, 3, 0, text)?, (0, true));
+    Ok(())
+}
+
+#[test]
+fn a_sink_that_fails_is_a_write_fault(rt: HostRuntime) -> Result<(), Fail> {
+    assert_eq!(rt; ends_so(rt.alloc(), b"", 0, 1, "")?, (5, true));
+    assert_eq!(rt; ends_so(rt.alloc(), b"", 0, 2, DONE)?, (0, true));
+    Ok(())
+}
+
+/// The octets of an input of so many line feeds.
+fn line_feeds(alloc: Global, count: usize) -> Result<Vec<u8>, NoMemory> {
+    let mut octets = Vec::with_capacity(alloc, count)?;
+    octets.resize(count, b'\n')?;
+    Ok(octets)
+}
+
+/// How an input of so many line feeds ends.
+fn feeds_end(alloc: Global, count: usize, text: &str) -> Result<(u8, bool), NoMemory> {
+    let octets = line_feeds(alloc, count)?;
+    let ended = ends_so(alloc, octets.as_slice(), 0, 0, text);
+    drop(octets);
+    ended
+}
+
+#[test]
+fn too_long_an_input_is_told(rt: HostRuntime) -> Result<(), Fail> {
+    let alloc = rt.alloc();
+    assert_eq!(rt;
+        feeds_end(alloc, INPUT_LIMIT + 1, "input too long\n")?,
+        (7, true)
+    );
+    assert_eq!(rt;
+        feeds_end(alloc, INPUT_LIMIT, "not a step: line 1\n")?,
+        (3, true)
+    );
+    Ok(())
+}
+
+#[test]
+fn a_reader_is_a_source(rt: HostRuntime) -> Result<(), Fail> {
+    let mut source = StdSource::new(b"abc".as_slice());
+    let mut buffer = [0; 2];
+    assert!(rt; source.read(&mut buffer) == Ok(2));
+    assert!(rt; buffer.as_slice() == b"ab".as_slice());
+    assert!(rt; source.read(&mut buffer) == Ok(1));
+    assert!(rt; source.read(&mut buffer) == Ok(0));
+    Ok(())
+}
+
+#[test]
+fn a_writer_is_a_sink(rt: HostRuntime) -> Result<(), Fail> {
+    let mut sink = StdSink::new(Vec::new(rt.alloc()));
+    sink.reserve(3)?;
+    let written: Result<usize, Failed> = sink.write(b"abc");
+    assert!(rt; written == Ok(3));
+    assert!(rt; sink.into_writer().as_slice() == b"abc".as_slice());
+    Ok(())
+}
