@@ -2,15 +2,13 @@
 
 ghost use Rattle.std.specs.Prelude.{◌≡◌, ◌↔◌, [], Some, IsTrue};
 ghost use Rattle.amqp_layer.specs.Told.{Told, Takes, planned};
-ghost use Rattle.amqp_layer.specs.Recording.{IsFresh, RecordsCall, StartsOver, calls_of, inner_of, is_unused, own_of, plan_of};
+ghost use Rattle.amqp_recorder.specs.Recording.{IsFresh, RecordsCall, StartsOver, calls_of, inner_of, is_unused, own_of, plan_of};
 
 use crate::call_numbers::is_among;
-use crate::incoming::on_incoming_frame;
-use crate::inner_error::SessionInnerError;
 use crate::keeping::{keep_refusal, keep_taken, make_room};
-use crate::layer::LayerBelow;
-use crate::refusal::{Exchanges, Openings, Refusal, Refusals};
-use crate::tells::Tells;
+use amqp_layer::{
+    Exchanges, LayerBelow, Openings, Refusal, Refusals, SessionInnerError, Tells, on_incoming_frame,
+};
 use amqp_txn_types::{
     Attach, CallNumbers, Detach, Disposition, Flow, Frame, Frames, Payload, SessionState, Transfer,
     TryClone, count_refusal,
@@ -170,7 +168,9 @@ impl<S: LayerBelow> Tells for Recorder<S> {
 }
 
 impl<S: LayerBelow> LayerBelow for Recorder<S> {
-    ghost use Rattle.amqp_layer.specs.Recording.{AsksWindow, PassesCheck, RecordsCall, RecordsOpen};
+    ghost use Rattle.std.specs.Prelude.{◌≡◌};
+    ghost use Rattle.amqp_layer.specs.Told.{Checks};
+    ghost use Rattle.amqp_recorder.specs.Recording.{Passes, RecordsCall, RecordsOpen};
 
     ghost incoming_gives = { λ old new frame answer.
         RecordsCall S.told S.incoming_gives old new frame answer };
@@ -179,9 +179,11 @@ impl<S: LayerBelow> LayerBelow for Recorder<S> {
         RecordsOpen S.told S.opening_gives old new attach answer };
 
     ghost check_gives = { λ old new disposition answer.
-        PassesCheck S.told S.check_gives old new disposition answer };
+        Passes (λ a b. Checks (S.told a) (S.told b) answer)
+        (λ a b. S.check_gives a b disposition answer) old new };
 
-    ghost window_gives = { λ old new flow. AsksWindow S.told S.window_gives old new flow };
+    ghost window_gives = { λ old new flow.
+        Passes (λ a b. S.told b ≡ S.told a) (λ a b. S.window_gives a b flow) old new };
 
     fn local_state(&self) -> SessionState {
         self.session.local_state()

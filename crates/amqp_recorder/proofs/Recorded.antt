@@ -3,7 +3,7 @@ use Rattle.std.proofs.Common.{◌≡◌, ℕ, Bool, false, Result, Err, List, sy
 use Rattle.amqp_txn_types.specs.declared.performatives.Frame.{Frame}
 use Rattle.amqp_layer.specs.declared.inner_error.SessionInnerError.{SessionInnerError}
 use Rattle.amqp_layer.specs.declared.refusal.Refusal.{Refusal}
-use Rattle.amqp_layer.specs.Recording.{KeepsRefusal, Recorded, WhyErr, error_uncopied, passed}
+use Rattle.amqp_recorder.specs.Recording.{KeepsRefusal, Recorded, WhyErr, error_uncopied, passed}
 
 -- a refusal of the layer in it
 pub recorded-refusal : (Inner : Result (List Frame) SessionInnerError → Type 0) (Untouched : Type 0) (planned : Bool) (own own_after : ℕ)

@@ -5,8 +5,9 @@ use Rattle.amqp_txn_types.specs.declared.performatives.Attach.{Attach}
 use Rattle.amqp_txn_types.specs.declared.performatives.Frame.{Frame}
 use Rattle.amqp_layer.specs.declared.inner_error.SessionInnerError.{SessionInnerError}
 use Rattle.amqp_layer.specs.declared.inner_error.SessionInnerError.TheVariants as faults
-use Rattle.amqp_layer.specs.declared.recorder.Recorder.{Recorder}
-use Rattle.amqp_layer.specs.Recording.{Opened, RecordsCall, RecordsOpen, Took, WhyErr, error_uncopied, given_uncopied, inner_of, no_room, passed, vetoed}
+use Rattle.amqp_recorder.specs.declared.recorder.Recorder.{Recorder}
+use Rattle.amqp_layer.specs.Inner.{Opened, Took}
+use Rattle.amqp_recorder.specs.Recording.{RecordsCall, RecordsOpen, WhyErr, error_uncopied, given_uncopied, inner_of, no_room, passed, vetoed}
 use Rattle.amqp_layer.specs.Told.{Told}
 use Rattle.amqp_sessions.specs.Names.{LeftBy, Names, SameNames}
 use Rattle.amqp_sessions.specs.Sessions.{Kept, LeavesFrame, LeavesOpening}

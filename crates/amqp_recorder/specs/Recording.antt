@@ -9,9 +9,10 @@ use Rattle.amqp_txn_types.specs.Counts.{one_more}
 use Rattle.amqp_txn_types.specs.declared.small.SessionState.TheVariants as session_states
 use Rattle.amqp_layer.specs.declared.inner_error.SessionInnerError.{SessionInnerError}
 use Rattle.amqp_layer.specs.declared.inner_error.SessionInnerError.TheVariants as faults
-use Rattle.amqp_layer.specs.declared.recorder.Recorder.{Recorder}
+use Rattle.amqp_recorder.specs.declared.recorder.Recorder.{Recorder}
 use Rattle.amqp_layer.specs.declared.refusal.Refusal.{Refusal}
-use Rattle.amqp_layer.specs.Told.{Told, Checks, Takes, Opens, refusal_of}
+use Rattle.amqp_layer.specs.Told.{Told, Checks, refusal_of}
+use Rattle.amqp_layer.specs.Inner.{Took, Opened}
 
 -- the number is among these
 abbrev pub is_among : List ℕ → ℕ → Bool
@@ -84,12 +85,6 @@ Recorded Inner Untouched planned own own_after (Ok given) = (planned ≡ false) 
 Recorded Inner Untouched planned own own_after (Err error) =
     (rose : Bool) × WhyErr Inner Untouched planned error rose × (own_after ≡ risen rose own)
 
--- what the layer in a recorder told and gave in an incoming frame call
-pub record Took {S : Type 0} (told : S → Told) (gives : S → S → Frame → Result (List Frame) SessionInnerError → Type 0)
-    (old new : S) (frame : Frame) (result : Result (List Frame) SessionInnerError) : Type 0 where
-  pub takes : Takes (told old) (told new) frame result
-  pub gave : gives old new frame result
-
 -- one incoming frame call of a recorder, which counts it
 pub record RecordsCall {S : Type 0} (told : S → Told) (gives : S → S → Frame → Result (List Frame) SessionInnerError → Type 0)
     (old new : Recorder S) (frame : Frame) (result : Result (List Frame) SessionInnerError) : Type 0 where
@@ -99,12 +94,6 @@ pub record RecordsCall {S : Type 0} (told : S → Told) (gives : S → S → Fra
   pub calls : calls_of new ≡ one_more (calls_of old)
   pub plan : plan_of new ≡ plan_of old
   pub used : is_unused new ≡ false
-
--- what the layer in a recorder told and gave at the attach of a control link
-pub record Opened {S : Type 0} (told : S → Told) (gives : S → S → Attach → Result (List Frame) SessionInnerError → Type 0)
-    (old new : S) (attach : Attach) (result : Result (List Frame) SessionInnerError) : Type 0 where
-  pub opens : Opens (told old) (told new) attach result
-  pub gave : gives old new attach result
 
 -- the attach of a control link through a recorder, which no plan refuses
 pub record RecordsOpen {S : Type 0} (told : S → Told) (gives : S → S → Attach → Result (List Frame) SessionInnerError → Type 0)
@@ -123,16 +112,8 @@ pub record PassesOn {S : Type 0} (old new : Recorder S) : Type 0 where
   pub plan : plan_of new ≡ plan_of old
   pub unused : is_unused new ≡ is_unused old
 
--- the check of a disposition through a recorder: the layer in it answers
-pub record PassesCheck {S : Type 0} (told : S → Told) (gives : S → S → Disposition → Result Unit SessionInnerError → Type 0)
-    (old new : Recorder S) (disposition : Disposition) (result : Result Unit SessionInnerError) : Type 0 where
-  pub checks : Checks (told (inner_of old)) (told (inner_of new)) result
-  pub gave : gives (inner_of old) (inner_of new) disposition result
-  pub kept : PassesOn old new
-
--- the session's window through a recorder: the layer in it gives it
-pub record AsksWindow {S : Type 0} (told : S → Told) (gives : S → S → Option Flow → Type 0)
-    (old new : Recorder S) (flow : Option Flow) : Type 0 where
-  pub steady : told (inner_of new) ≡ told (inner_of old)
-  pub gave : gives (inner_of old) (inner_of new) flow
+-- a call that the layer in a recorder answers, by what that told and gave
+pub record Passes {S : Type 0} (Tells Gives : S → S → Type 0) (old new : Recorder S) : Type 0 where
+  pub tells : Tells (inner_of old) (inner_of new)
+  pub gave : Gives (inner_of old) (inner_of new)
   pub kept : PassesOn old new

@@ -1,7 +1,7 @@
 //! Numbers of calls.
 
 ghost use Rattle.std.specs.Prelude.{◌≡◌};
-ghost use Rattle.amqp_layer.specs.Recording.{is_among};
+ghost use Rattle.amqp_recorder.specs.Recording.{is_among};
 
 use amqp_txn_types::CallNumbers;
 

@@ -1,10 +1,9 @@
 //! What a recorder keeps of a call, over lists that have room for it.
 
 ghost use Rattle.std.specs.Prelude.{◌≡◌, ◌≢◌, ◌<◌, ◌++◌, ◌∷◌, [], IfOk, OnOk, OnErr, vec_len, vec_capacity};
-ghost use Rattle.amqp_layer.specs.Recording.{KeepsRefusal};
+ghost use Rattle.amqp_recorder.specs.Recording.{KeepsRefusal};
 
-use crate::inner_error::SessionInnerError;
-use crate::refusal::Refusal;
+use amqp_layer::{Refusal, SessionInnerError};
 use amqp_txn_types::{Frame, Frames, NoMemory, TryClone};
 use std::alloc::Global;
 
