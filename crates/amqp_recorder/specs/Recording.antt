@@ -1,9 +1,7 @@
 -- What a recorder keeps of the calls of the layer in it.
-use Rattle.std.specs.Prelude.{ℕ, ◌≡◌, ◌≢◌, ◌==◌, ◌⊎◌, ◌++◌, Bool, true, false, cond, Option, Some, Result, Ok, Err, List, []}
+use Rattle.std.specs.Prelude.{ℕ, ◌≡◌, ◌≢◌, ◌==◌, ◌⊎◌, ◌++◌, Bool, true, false, cond, Option, Some, Result, Ok, Err, List, [], ◌∷◌}
 use Rattle.std.specs.List.{list_any}
 use Rattle.amqp_txn_types.specs.declared.performatives.Attach.{Attach}
-use Rattle.amqp_txn_types.specs.declared.performatives.Disposition.{Disposition}
-use Rattle.amqp_txn_types.specs.declared.performatives.Flow.{Flow}
 use Rattle.amqp_txn_types.specs.declared.performatives.Frame.{Frame}
 use Rattle.amqp_txn_types.specs.Counts.{one_more}
 use Rattle.amqp_txn_types.specs.declared.small.SessionState.TheVariants as session_states
@@ -11,7 +9,7 @@ use Rattle.amqp_layer.specs.declared.inner_error.SessionInnerError.{SessionInner
 use Rattle.amqp_layer.specs.declared.inner_error.SessionInnerError.TheVariants as faults
 use Rattle.amqp_recorder.specs.declared.recorder.Recorder.{Recorder}
 use Rattle.amqp_layer.specs.declared.refusal.Refusal.{Refusal}
-use Rattle.amqp_layer.specs.Told.{Told, Checks, refusal_of}
+use Rattle.amqp_layer.specs.Told.{Told, refusal_of}
 use Rattle.amqp_layer.specs.Inner.{Took, Opened}
 
 -- the number is among these
@@ -61,6 +59,44 @@ abbrev pub KeepsRefusal : List Refusal → List Refusal → Frame → SessionInn
 KeepsRefusal before after frame error answer =
     ((answer ≡ error) × (after ≡ before ++ refusal_of frame error))
     ⊎ ((answer ≡ faults.NoMemory) × (after ≡ before))
+
+-- why a call didn't reach the layer in a recorder, and what was kept of that: the plan refuses it, or there was no room
+abbrev pub RefusedBefore : Bool → List Refusal → List Refusal → Frame → SessionInnerError → Type 0
+RefusedBefore planned before after frame answer =
+    ((planned ≡ true) × (answer ≡ faults.IllegalState) × (after ≡ before ++ refusal_of frame faults.IllegalState))
+    ⊎ ((answer ≡ faults.NoMemory) × (after ≡ before))
+
+-- the frames given back were kept with their frame, and no refusal
+pub record KeepsTaken (kept kept_after : List (Frame × List Frame)) (refused refused_after : List Refusal)
+    (own own_after : ℕ) (frame : Frame) (given out : List Frame) : Type 0 where
+  pub out_is : out ≡ given
+  pub kept_is : kept_after ≡ kept ++ (frame, given) ∷ []
+  pub refused_is : refused_after ≡ refused
+  pub own_is : own_after ≡ own
+
+-- the frames given back, which are some, couldn't be copied, and nothing was kept
+pub record CopyFails (kept kept_after : List (Frame × List Frame)) (refused refused_after : List Refusal)
+    (own own_after : ℕ) (given : List Frame) (error : SessionInnerError) : Type 0 where
+  pub some : given ≢ []
+  pub error_is : error ≡ faults.NoMemory
+  pub kept_is : kept_after ≡ kept
+  pub refused_is : refused_after ≡ refused
+  pub own_is : own_after ≡ one_more own
+
+-- a refusal of the layer was kept
+pub record PassesRefusal (kept kept_after : List (Frame × List Frame)) (refused refused_after : List Refusal)
+    (own own_after : ℕ) (frame : Frame) (error answer : SessionInnerError) : Type 0 where
+  pub keeps : KeepsRefusal refused refused_after frame error answer
+  pub kept_is : kept_after ≡ kept
+  pub own_is : own_after ≡ own
+
+-- what was kept of the layer's answer, and what was answered for it
+abbrev pub KeepsAnswer : List (Frame × List Frame) → List (Frame × List Frame) → List Refusal → List Refusal → ℕ → ℕ → Frame
+    → Result (List Frame) SessionInnerError → Result (List Frame) SessionInnerError → Type 0
+KeepsAnswer kept kept' refused refused' own own' frame (Ok given) (Ok out) = KeepsTaken kept kept' refused refused' own own' frame given out
+KeepsAnswer kept kept' refused refused' own own' frame (Ok given) (Err error) = CopyFails kept kept' refused refused' own own' given error
+KeepsAnswer kept kept' refused refused' own own' frame (Err error) (Ok out) = ⊥
+KeepsAnswer kept kept' refused refused' own own' frame (Err error) (Err answer) = PassesRefusal kept kept' refused refused' own own' frame error answer
 
 -- why a recorder answered an Err, by what the layer in it was asked and answered, and whether its own count rose
 pub data WhyErr (Inner : Result (List Frame) SessionInnerError → Type 0) (Untouched : Type 0) (planned : Bool) : SessionInnerError → Bool → Type 0 where

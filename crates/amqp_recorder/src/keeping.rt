@@ -1,17 +1,19 @@
 //! What a recorder keeps of a call, over lists that have room for it.
 
-ghost use Rattle.std.specs.Prelude.{◌≡◌, ◌≢◌, ◌<◌, ◌++◌, ◌∷◌, [], IfOk, OnOk, OnErr, vec_len, vec_capacity};
-ghost use Rattle.amqp_recorder.specs.Recording.{KeepsRefusal};
+ghost use Rattle.std.specs.Prelude.{◌≡◌, ◌≢◌, ◌<◌, ◌++◌, ◌∷◌, [], false, IfErr, IfOk, OnOk, OnErr, vec_len, vec_capacity};
+ghost use Rattle.amqp_recorder.specs.Recording.{KeepsAnswer, KeepsRefusal, RefusedBefore};
 
 use amqp_layer::{Refusal, SessionInnerError};
-use amqp_txn_types::{Frame, Frames, NoMemory, TryClone};
+use amqp_txn_types::{Frame, Frames, NoMemory, TryClone, refuse};
 use std::alloc::Global;
 
-/// Room for one more item of each list. The only error is want of memory.
-pub(crate) fn make_room<F>(
+/// A copy of what comes, and room for one more item of each list. The only error is want of memory.
+pub(crate) fn prepare<F: TryClone>(
+    item: &F,
     kept: &mut Vec<(F, Frames)>,
     refused: &mut Vec<Refusal>,
-) -> Result<(), NoMemory>
+) -> Result<F, NoMemory>
+    ensures copy { IfOk result (λ copy. copy ≡ item.now) }
     ensures kept { kept.new.items ≡ kept.old.items }
     ensures refused { refused.new.items ≡ refused.old.items }
     ensures room { OnOk result (vec_len kept.new < vec_capacity kept.new) }
@@ -19,7 +21,59 @@ pub(crate) fn make_room<F>(
 {
     kept.reserve(1)?;
     refused.reserve(1)?;
-    Ok(())
+    item.try_clone()
+}
+
+/// What comes before a call of the layer: room for what is kept of it, and that no plan refuses it. A
+/// planned refusal is kept. It gives a copy of the frame, to be kept.
+pub(crate) fn before_call(
+    is_planned: bool,
+    frame: &Frame,
+    kept: &mut Vec<(Frame, Frames)>,
+    refused: &mut Vec<Refusal>,
+) -> Result<Frame, SessionInnerError>
+    ensures copy { IfOk result (λ copy. copy ≡ frame.now) }
+    ensures passes { OnOk result (is_planned ≡ false) }
+    ensures kept { kept.new.items ≡ kept.old.items }
+    ensures unrefused { OnOk result (refused.new.items ≡ refused.old.items) }
+    ensures room { OnOk result (vec_len kept.new < vec_capacity kept.new) }
+    ensures refusal_room { OnOk result (vec_len refused.new < vec_capacity refused.new) }
+    ensures err { IfErr result
+        (RefusedBefore is_planned refused.old.items refused.new.items frame.now) }
+{
+    let copy = prepare(frame, kept, refused)?;
+    if is_planned {
+        refused.push_reserved(Refusal {
+            frame: copy,
+            error: SessionInnerError::IllegalState,
+        });
+        return Err(SessionInnerError::IllegalState);
+    }
+    Ok(copy)
+}
+
+/// Keeps what the layer answered to a frame, and gives what is answered for it. A refusal of its own,
+/// for want of memory, is counted.
+pub(crate) fn after_call(
+    alloc: Global,
+    kept: &mut Vec<(Frame, Frames)>,
+    refused: &mut Vec<Refusal>,
+    refusals: &mut u64,
+    frame: Frame,
+    answer: Result<Frames, SessionInnerError>,
+) -> Result<Frames, SessionInnerError>
+    requires room { vec_len kept.old < vec_capacity kept.old }
+    requires refusal_room { vec_len refused.old < vec_capacity refused.old }
+    ensures { KeepsAnswer kept.old.items kept.new.items refused.old.items refused.new.items
+        refusals.old refusals.new frame answer result }
+{
+    match answer {
+        Ok(given) => match keep_taken(alloc, kept, frame, given) {
+            Ok(given) => Ok(given),
+            Err(_) => refuse(refusals, SessionInnerError::NoMemory),
+        },
+        Err(error) => Err(keep_refusal(refused, frame, error)),
+    }
 }
 
 /// A copy, which takes no memory where there are no frames.

@@ -4,14 +4,18 @@ ghost use Rattle.std.specs.Prelude.{◌≡◌, ◌↔◌, [], Some, IsTrue};
 ghost use Rattle.amqp_layer.specs.Told.{Told, Takes, planned};
 ghost use Rattle.amqp_recorder.specs.Recording.{IsFresh, RecordsCall, StartsOver, calls_of, inner_of, is_unused, own_of, plan_of};
 
+mod listener_calls;
+mod session_calls;
+mod transactional_calls;
+
 use crate::call_numbers::is_among;
-use crate::keeping::{keep_refusal, keep_taken, make_room};
+use crate::keeping::{after_call, before_call, keep_refusal, keep_taken, prepare};
 use amqp_layer::{
-    Exchanges, LayerBelow, Openings, Refusal, Refusals, SessionInnerError, Tells, on_incoming_frame,
+    Exchanges, LayerBelow, Openings, Refusals, SessionInnerError, Tells, on_incoming_frame,
 };
 use amqp_txn_types::{
     Attach, CallNumbers, Detach, Disposition, Flow, Frame, Frames, Payload, SessionState, Transfer,
-    TryClone, count_refusal,
+    count_refusal, refuse,
 };
 use std::alloc::Global;
 
@@ -122,36 +126,18 @@ impl<S: LayerBelow> Recorder<S> {
     {
         self.unused = false;
         self.calls = self.calls.saturating_add(1);
-        let Ok(copy) = frame.try_clone() else {
-            drop(frame);
-            count_refusal(&mut self.refusals);
-            return Err(SessionInnerError::NoMemory);
+        let is_planned = is_among(&self.plan, self.calls);
+        let exchanges = &mut self.exchanges.items;
+        let refused = &mut self.refused.items;
+        let copy = match before_call(is_planned, &frame, exchanges, refused) {
+            Ok(copy) => copy,
+            Err(error) => {
+                drop(frame);
+                return refuse(&mut self.refusals, error);
+            }
         };
-        let Ok(()) = make_room(&mut self.exchanges.items, &mut self.refused.items) else {
-            drop(frame);
-            drop(copy);
-            count_refusal(&mut self.refusals);
-            return Err(SessionInnerError::NoMemory);
-        };
-        if is_among(&self.plan, self.calls) {
-            drop(frame);
-            self.refused.items.push_reserved(Refusal {
-                frame: copy,
-                error: SessionInnerError::IllegalState,
-            });
-            count_refusal(&mut self.refusals);
-            return Err(SessionInnerError::IllegalState);
-        }
-        match on_incoming_frame(&mut self.session, frame) {
-            Ok(given) => match keep_taken(self.alloc, &mut self.exchanges.items, copy, given) {
-                Ok(given) => Ok(given),
-                Err(_) => {
-                    count_refusal(&mut self.refusals);
-                    Err(SessionInnerError::NoMemory)
-                }
-            },
-            Err(error) => Err(keep_refusal(&mut self.refused.items, copy, error)),
-        }
+        let answer = on_incoming_frame(&mut self.session, frame);
+        after_call(self.alloc, exchanges, refused, &mut self.refusals, copy, answer)
     }
 }
 
@@ -218,12 +204,7 @@ impl<S: LayerBelow> LayerBelow for Recorder<S> {
 
     fn on_control_attach(&mut self, attach: &Attach) -> Result<Frames, SessionInnerError> {
         self.unused = false;
-        let Ok(copy) = attach.try_clone() else {
-            count_refusal(&mut self.refusals);
-            return Err(SessionInnerError::NoMemory);
-        };
-        let Ok(()) = make_room(&mut self.opened.items, &mut self.refused.items) else {
-            drop(copy);
+        let Ok(copy) = prepare(attach, &mut self.opened.items, &mut self.refused.items) else {
             count_refusal(&mut self.refusals);
             return Err(SessionInnerError::NoMemory);
         };

@@ -1,7 +1,7 @@
 -- What a call of the program answers and leaves: the one contract of its top calls.
 use Rattle.std.specs.Prelude.{ℕ, ◌≡◌, ◌++◌, ◌⊎◌, Option, None, List, IsNone, IfSome}
 use Rattle.amqp_layer.specs.Told.{Told}
-use Rattle.amqp_layer.specs.declared.recorder.Recorder.{Recorder}
+use Rattle.amqp_recorder.specs.declared.recorder.Recorder.{Recorder}
 use Rattle.amqp_resource.specs.Drive.{RunRose}
 use Rattle.txn_program.specs.Lines.{input_steps}
 use Rattle.txn_program.specs.Running.{IsRun, IsRunOf, LeftUnread, PlanLeft, Untouched, status_of, text_by, written_text}

@@ -2,7 +2,7 @@
 
 use crate::recorder::Recorder;
 use amqp_ids::{Drawn, IdSource};
-use amqp_layer::{Echoes, LayerBelow};
+use amqp_layer::{Echoes, LayerBelow, Tells};
 use amqp_sessions::{AllocTxnIdError, CommitFault, HandleDeclare, HandleDischarge};
 use amqp_txn_types::{Accepted, TransactionError, TransactionId};
 

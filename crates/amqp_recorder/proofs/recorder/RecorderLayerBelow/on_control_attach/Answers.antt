@@ -3,18 +3,9 @@ use Rattle.amqp_recorder.specs.Recording.{no_room, given_uncopied}
 use Rattle.amqp_recorder.proofs.Recorded.{recorded-refusal}
 use Rattle.amqp_recorder.proofs.recorder.RecorderLayerBelow.on_control_attach.Goals as goal
 
--- no room for the copy
+-- no room for the copy or for what is kept
 pub returns-in_default-clause-gives : goal.returns-in_default-clause-gives
 returns-in_default-clause-gives g c = record {
-  recorded = (true, no_room (search rules), search rules);
-  calls = search rules;
-  plan = search rules;
-  used = search rules;
-}
-
--- no room for what is kept
-pub returns-in_default-make_room-clause-gives : goal.returns-in_default-make_room-clause-gives
-returns-in_default-make_room-clause-gives g c = record {
   recorded = (true, no_room (search rules), search rules);
   calls = search rules;
   plan = search rules;

@@ -1,0 +1,4 @@
+pub mod Held
+pub mod Listening
+pub mod Hearing
+pub mod ListenerLaws

@@ -1,0 +1,150 @@
+//! What a listener does with the frames that come, over its session, its queue and what it holds.
+
+ghost use Rattle.std.specs.Prelude.{◌≡◌};
+ghost use Rattle.amqp_txn_types.specs.declared.performatives.Frame.TheVariants as frames;
+ghost use Rattle.amqp_layer.specs.Inner.{Took};
+ghost use Rattle.amqp_sessions.specs.Names.{PlacesLink};
+ghost use Rattle.amqp_sessions.specs.Sessions.{StoppedBy};
+ghost use Rattle.amqp_sessions.specs.declared.relay.NameState.TheVariants.{Taken};
+ghost use Rattle.amqp_listener.specs.Held.{flows_for};
+ghost use Rattle.amqp_listener.specs.Hearing.{HearsAttach, HearsFlow, HearsTransfer, Queues, unqueued_fault};
+ghost use Rattle.amqp_listener.specs.Listening.{AllocatesHeld, counted};
+
+use crate::attach_queue::AttachQueue;
+use crate::held_flows::HeldFlows;
+use amqp_layer::{LayerBelow, SessionInnerError};
+use amqp_sessions::{AllocLinkError, NameState, Relay, Session};
+use amqp_txn_types::{
+    Attach, Flow, Frames, InputHandle, OutputHandle, Payload, Text, Transfer, count_refusal,
+};
+use std::alloc::Global;
+
+/// Counts an answer that is an Err, and gives the answer.
+pub fn count_answer<T, E>(refusals: &mut u64, answer: Result<T, E>) -> Result<T, E>
+    ensures answer { result ≡ answer }
+    ensures counted { refusals.new ≡ counted answer refusals.old }
+{
+    if answer.is_err() {
+        count_refusal(refusals);
+    }
+    answer
+}
+
+/// Why an attach isn't queued at a closed queue.
+fn unqueued_fault(state: NameState) -> SessionInnerError
+    ensures { result ≡ unqueued_fault state }
+{
+    match state {
+        NameState::Taken => SessionInnerError::HandleInUse,
+        NameState::Unknown | NameState::Waiting => SessionInnerError::UnattachedHandle,
+    }
+}
+
+/// An attach whose name doesn't wait: it is queued, where the queue is open.
+fn queue_attach(
+    queue: &mut AttachQueue,
+    alloc: Global,
+    state: NameState,
+    attach: Attach,
+) -> Result<Frames, SessionInnerError>
+    ensures { Queues state queue.old queue.new attach result }
+{
+    if queue.is_closed() {
+        drop(attach);
+        return Err(unqueued_fault(state));
+    }
+    match queue.push(attach) {
+        Ok(()) => Ok(Frames::new(alloc)),
+        Err(_) => Err(SessionInnerError::NoMemory),
+    }
+}
+
+/// An attach: it goes to the session where its name waits for it, else to the queue.
+pub fn hear_attach<S: Session>(
+    session: &mut S,
+    queue: &mut AttachQueue,
+    alloc: Global,
+    attach: Attach,
+) -> Result<Frames, SessionInnerError>
+    ensures fixed { (S.told session.new).fixed ≡ (S.told session.old).fixed }
+    ensures hears { HearsAttach
+        (Took S.told S.incoming_gives session.old session.new (frames.Attach attach))
+        ((S.names session.old).known attach.name) session.old session.new queue.old queue.new attach
+        result }
+{
+    match session.name_state(&attach.name) {
+        NameState::Waiting => session.on_incoming_attach(attach),
+        state => queue_attach(queue, alloc, state, attach),
+    }
+}
+
+/// A flow: it goes to the session, and is held where its handle isn't attached. Room for it is made
+/// first.
+pub fn hear_flow<S: LayerBelow>(
+    session: &mut S,
+    held: &mut HeldFlows,
+    alloc: Global,
+    flow: Flow,
+) -> Result<Frames, SessionInnerError>
+    ensures fixed { (S.told session.new).fixed ≡ (S.told session.old).fixed }
+    ensures hears { HearsFlow (Took S.told S.incoming_gives session.old session.new (frames.Flow flow))
+        session.old session.new (flows_for held.old) (flows_for held.new) flow result }
+{
+    let Ok(copy) = held.prepare(&flow) else {
+        drop(flow);
+        return Err(SessionInnerError::NoMemory);
+    };
+    match session.on_incoming_flow(flow) {
+        Err(error) if error.is_unattached() => {
+            held.hold(copy);
+            Ok(Frames::new(alloc))
+        }
+        answer => {
+            drop(copy);
+            answer
+        }
+    }
+}
+
+/// A transfer: it goes to the session, and is dropped where its handle isn't attached.
+pub fn hear_transfer<S: LayerBelow>(
+    session: &mut S,
+    alloc: Global,
+    transfer: Transfer,
+    payload: Payload,
+) -> Result<Frames, SessionInnerError>
+    ensures fixed { (S.told session.new).fixed ≡ (S.told session.old).fixed }
+    ensures hears { HearsTransfer
+        (Took S.told S.incoming_gives session.old session.new (frames.Transfer transfer payload))
+        result }
+{
+    match session.on_incoming_transfer(transfer, payload) {
+        Err(error) if error.is_unattached() => Ok(Frames::new(alloc)),
+        answer => answer,
+    }
+}
+
+/// Allocates a link that the peer attached. What is held for its handle is replayed to it: on Ok it
+/// is held no more.
+pub fn allocate_held<S: Session>(
+    session: &mut S,
+    held: &mut HeldFlows,
+    name: Text,
+    relay: Relay,
+    input: InputHandle,
+) -> Result<OutputHandle, AllocLinkError>
+    ensures kept { S.kept session.new ≡ S.kept session.old }
+    ensures stopped { StoppedBy (S.kept session.old).stop result }
+    ensures names { PlacesLink (S.names session.old) (S.names session.new) name Taken result }
+    ensures fixed { (S.told session.new).fixed ≡ (S.told session.old).fixed }
+    ensures allocates { AllocatesHeld S.told S.allocate_incoming_link_gives session.old session.new
+        (flows_for held.old) (flows_for held.new) name relay input result }
+{
+    let Ok(relay) = held.replay(input, relay) else {
+        drop(name);
+        return Err(AllocLinkError::NoMemory);
+    };
+    let output = session.allocate_incoming_link(name, relay, input)?;
+    held.forget(input);
+    Ok(output)
+}
