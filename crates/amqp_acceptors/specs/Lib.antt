@@ -1,3 +1,5 @@
 pub mod Modes
 pub mod Fields
 pub mod Termini
+pub mod Replies
+pub mod Opening

@@ -1,10 +1,18 @@
 //! Acceptors of links.
 #![tactic(auto)]
 
+mod credit;
 mod dynamic;
 mod fields;
 mod modes;
+mod opening;
+mod reply;
+mod termini;
 
+pub use credit::CreditMode;
 pub use dynamic::{Ask, OnDynamic, RejectDynamic};
 pub use fields::SharedLinkAcceptorFields;
 pub use modes::{SupportedReceiverSettleModes, SupportedSenderSettleModes};
+pub use opening::{OpenError, Opening};
+pub use reply::Reply;
+pub use termini::{TargetKind, Terminus};
