@@ -3,3 +3,5 @@ pub mod Fields
 pub mod Termini
 pub mod Replies
 pub mod Opening
+pub mod Accepting
+pub mod Receivers
