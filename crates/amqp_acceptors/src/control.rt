@@ -53,12 +53,7 @@ impl ControlLinkAcceptor {
     ghost use Rattle.amqp_acceptors.specs.Receivers.{control_answer, control_opening};
 
     /// A control link, ready to be opened. The only error is want of memory.
-    ///
-    /// # Requires
-    ///
-    /// The attach's target is a coordinator.
     pub fn prepare(&self, alloc: Global, remote: &Attach) -> Result<Opening, NoMemory>
-        requires { IsTrue (attaches_coordinator remote.now) }
         ensures { IfOk result (λ opening. opening ≡ control_opening self.now remote.now) }
     {
         let coordinator = Coordinator {

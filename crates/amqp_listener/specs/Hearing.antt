@@ -17,7 +17,7 @@ use Rattle.amqp_sessions.specs.declared.relay.NameState.TheVariants.{Unknown, Wa
 use Rattle.amqp_endpoints.specs.Queues.{Queue, with_last}
 use Rattle.amqp_listener.specs.declared.listener.ListenerSession.{ListenerSession}
 use Rattle.amqp_listener.specs.Held.{SameHeld, link_flow_in, with_held}
-use Rattle.amqp_listener.specs.Listening.{Keeps, NoRoom, counted, held_of, inner_of, own_of, queue_of}
+use Rattle.amqp_listener.specs.Listening.{Keeps, NoRoom, control_of, counted, held_of, inner_of, own_of, queue_of}
 
 -- why an attach isn't queued at a closed queue, by how its name is known
 abbrev pub unqueued_fault : NameState → SessionInnerError
@@ -97,4 +97,5 @@ pub record HearsFrame {S : Type 0} (told : S → Told)
   pub hears :
       HearsKind (Took told gives (inner_of old) (inner_of new)) (names (inner_of old)) old new frame
       result
+  pub control : control_of new ≡ control_of old
   pub counts : own_of new ≡ counted result (own_of old)

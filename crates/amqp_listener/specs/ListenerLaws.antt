@@ -9,10 +9,10 @@ use Rattle.amqp_txn_types.specs.declared.text.Text.{Text}
 use Rattle.amqp_txn_types.specs.Frames.{is_coordinator_attach}
 use Rattle.amqp_layer.specs.declared.inner_error.SessionInnerError.{SessionInnerError}
 use Rattle.amqp_layer.specs.declared.inner_error.SessionInnerError.TheVariants as faults
-use Rattle.amqp_layer.specs.Inner.{Opened, Took}
+use Rattle.amqp_layer.specs.Inner.{Took}
 use Rattle.amqp_layer.specs.Told.{Told}
 use Rattle.amqp_sessions.specs.Names.{Attaches, AttachLeaves, FrameLeaves, LeftBy, Names, SameNames, state_attached}
-use Rattle.amqp_sessions.specs.Sessions.{Kept, LeavesFrame, LeavesOpening}
+use Rattle.amqp_sessions.specs.Sessions.{Kept, LeavesFrame}
 use Rattle.amqp_sessions.specs.declared.relay.NameState.{NameState}
 use Rattle.amqp_sessions.specs.declared.relay.NameState.TheVariants.{Unknown, Waiting, Taken}
 use Rattle.amqp_endpoints.specs.Queues.{Queue}

@@ -10,6 +10,7 @@ use Rattle.amqp_sessions.specs.declared.relay.Relay.{Relay}
 use Rattle.amqp_sessions.specs.declared.session_errors.AllocLinkError.{AllocLinkError}
 use Rattle.amqp_sessions.specs.declared.session_errors.AllocLinkError.TheVariants as refusals
 use Rattle.amqp_endpoints.specs.Queues.{Queue}
+use Rattle.amqp_acceptors.specs.declared.control.ControlLinkAcceptor.{ControlLinkAcceptor}
 use Rattle.amqp_listener.specs.declared.listener.ListenerSession.{ListenerSession}
 use Rattle.amqp_listener.specs.Held.{SameHeld, flows_for, replaying, with_flows}
 
@@ -25,6 +26,10 @@ queue_of l = l.queue
 abbrev pub held_of : {S : Type 0} → ListenerSession S → InputHandle → List LinkFlow
 held_of l = flows_for l.held
 
+-- the acceptor of a listener's control links
+abbrev pub control_of : {S : Type 0} → ListenerSession S → ControlLinkAcceptor
+control_of l = l.control
+
 -- how many of its own calls a listener answered with an Err
 abbrev pub own_of : {S : Type 0} → ListenerSession S → ℕ
 own_of l = l.refusals
@@ -34,10 +39,11 @@ abbrev pub counted : {T E : Type 0} → Result T E → ℕ → ℕ
 counted (Ok value) count = count
 counted (Err error) count = one_more count
 
--- what a listener keeps beside its session and its count is as it was
+-- what a listener keeps beside its session and its count is as it was: queue, flows and acceptor
 pub record Keeps {S : Type 0} (old new : ListenerSession S) : Type 0 where
   pub queue : queue_of new ≡ queue_of old
   pub held : SameHeld (held_of old) (held_of new)
+  pub control : control_of new ≡ control_of old
 
 -- a call that the session in a listener answers, by what that told and gave; an Err is counted
 pub record Passes {S T E : Type 0} (Tells Gives : S → S → Type 0) (old new : ListenerSession S)
@@ -66,6 +72,7 @@ pub record ChangesQueue {S : Type 0} (old new : ListenerSession S) (queue : Queu
   pub inner : inner_of new ≡ inner_of old
   pub queue_is : queue_of new ≡ queue
   pub held : SameHeld (held_of old) (held_of new)
+  pub control : control_of new ≡ control_of old
   pub own : own_of new ≡ own_of old
 
 -- what is held once an allocation was answered: of the handle's flows nothing, where it was allocated
@@ -107,4 +114,5 @@ pub record Allocates {S : Type 0} (told : S → Told)
       AllocatesHeld told gives (inner_of old) (inner_of new) (held_of old) (held_of new) name relay
       input result
   pub queue : queue_of new ≡ queue_of old
+  pub control : control_of new ≡ control_of old
   pub counts : own_of new ≡ counted result (own_of old)

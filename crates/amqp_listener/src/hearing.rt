@@ -1,8 +1,11 @@
 //! What a listener does with the frames that come, over its session, its queue and what it holds.
 
-ghost use Rattle.std.specs.Prelude.{◌≡◌};
+ghost use Rattle.std.specs.Prelude.{◌≡◌, IfErr};
 ghost use Rattle.amqp_txn_types.specs.declared.performatives.Frame.TheVariants as frames;
 ghost use Rattle.amqp_layer.specs.Inner.{Took};
+ghost use Rattle.amqp_layer.specs.Told.{Steady};
+ghost use Rattle.amqp_sessions.specs.Plain.{control_error};
+ghost use Rattle.amqp_listener.specs.Controlling.{CausedBelow};
 ghost use Rattle.amqp_sessions.specs.Names.{PlacesLink};
 ghost use Rattle.amqp_sessions.specs.Sessions.{StoppedBy};
 ghost use Rattle.amqp_sessions.specs.declared.relay.NameState.TheVariants.{Taken};
@@ -136,7 +139,9 @@ pub fn allocate_held<S: Session>(
     ensures kept { S.kept session.new ≡ S.kept session.old }
     ensures stopped { StoppedBy (S.kept session.old).stop result }
     ensures names { PlacesLink (S.names session.old) (S.names session.new) name Taken result }
-    ensures fixed { (S.told session.new).fixed ≡ (S.told session.old).fixed }
+    ensures steady { Steady (S.told session.old) (S.told session.new) }
+    ensures cause { IfErr result (λ error. CausedBelow (control_error error) (S.told session.old)
+        (S.told session.new)) }
     ensures allocates { AllocatesHeld S.told S.allocate_incoming_link_gives session.old session.new
         (flows_for held.old) (flows_for held.new) name relay input result }
 {

@@ -2,15 +2,19 @@
 
 ghost use Rattle.std.specs.Prelude.{◌≡◌, [], true, false};
 ghost use Rattle.amqp_txn_types.specs.declared.small.InputHandle.{InputHandle as Input};
-ghost use Rattle.amqp_listener.specs.Listening.{ChangesQueue, held_of, inner_of, own_of, queue_of};
+ghost use Rattle.amqp_listener.specs.Listening.{ChangesQueue, control_of, held_of, inner_of, own_of, queue_of};
 
 mod endpoint_calls;
 mod session_calls;
+#[cfg(test)]
+mod tests;
 mod transactional_calls;
 
 use crate::attach_queue::AttachQueue;
+use crate::control_links::open_control;
 use crate::hearing::{count_answer, hear_attach, hear_flow, hear_transfer};
 use crate::held_flows::HeldFlows;
+use amqp_acceptors::ControlLinkAcceptor;
 use amqp_layer::{LayerBelow, SessionInnerError, Tells};
 use amqp_sessions::Session;
 use amqp_txn_types::{Attach, Detach, Disposition, Flow, Frames, Payload, SessionState, Transfer};
@@ -24,6 +28,7 @@ use std::alloc::Global;
 #[derive(Drop)]
 pub struct ListenerSession<S> {
     session: S,
+    control: ControlLinkAcceptor,
     queue: AttachQueue,
     held: HeldFlows,
     refusals: u64,
@@ -31,16 +36,18 @@ pub struct ListenerSession<S> {
 }
 
 impl<S: Session> ListenerSession<S> {
-    /// A listener over a session, with an open queue in which no attach waits. It makes its lists on
-    /// `alloc`, and takes no memory.
-    pub fn new(alloc: Global, session: S) -> Self
+    /// A listener over a session, with an acceptor for control links and an open queue in which no
+    /// attach waits. It makes its lists on `alloc`, and takes no memory.
+    pub fn new(alloc: Global, session: S, control: ControlLinkAcceptor) -> Self
         ensures inner { inner_of result ≡ session }
+        ensures control { control_of result ≡ control }
         ensures queue { queue_of result ≡ record { waiting = []; closed = false } }
         ensures held { (input : Input) → held_of result input ≡ [] }
         ensures own { own_of result ≡ 0 }
     {
         ListenerSession {
             session,
+            control,
             queue: AttachQueue::new(alloc),
             held: HeldFlows::new(alloc),
             refusals: 0,
@@ -70,16 +77,16 @@ impl<S: Session> Tells for ListenerSession<S> {
 
 impl<S: Session> LayerBelow for ListenerSession<S> {
     ghost use Rattle.std.specs.Prelude.{◌≡◌};
-    ghost use Rattle.amqp_layer.specs.Inner.{Opened};
     ghost use Rattle.amqp_layer.specs.Told.{Checks};
+    ghost use Rattle.amqp_listener.specs.Controlling.{HearsControl};
     ghost use Rattle.amqp_listener.specs.Hearing.{HearsFrame};
     ghost use Rattle.amqp_listener.specs.Listening.{Passes, PassesOn};
 
     ghost incoming_gives = { HearsFrame S.told S.incoming_gives S.names };
 
     ghost opening_gives = { λ old new attach answer.
-        Passes (λ a b. Unit {0}) (λ a b. Opened S.told S.opening_gives a b attach answer) old new
-        answer };
+        HearsControl S.told S.kept S.names S.allocate_incoming_link_gives S.outgoing_flow_gives
+        S.deallocate_link_gives old new attach answer };
 
     ghost check_gives = { λ old new disposition answer.
         Passes (λ a b. Checks (S.told a) (S.told b) answer)
@@ -125,7 +132,8 @@ impl<S: Session> LayerBelow for ListenerSession<S> {
     }
 
     fn on_control_attach(&mut self, attach: &Attach) -> Result<Frames, SessionInnerError> {
-        let answer = self.session.on_control_attach(attach);
+        let session = &mut self.session;
+        let answer = open_control(session, &mut self.held, &self.control, self.alloc, attach);
         count_answer(&mut self.refusals, answer)
     }
 

@@ -75,8 +75,7 @@ impl<S: Session> Session for ListenerSession<S> {
         heard-leaves S.told S.kept S.names S.incoming_gives S.incoming_leaves
         old new frame answer gives };
 
-    ghost opening_leaves = { λ old new attach answer gives.
-        S.opening_leaves (inner_of old) (inner_of new) attach answer gives.gave.gave };
+    ghost opening_leaves = { λ old new attach answer gives. gives.leaves };
 
     ghost check_leaves = { λ old new disposition answer gives.
         S.check_leaves (inner_of old) (inner_of new) disposition answer gives.gave };
