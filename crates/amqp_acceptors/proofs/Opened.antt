@@ -13,15 +13,15 @@ freed-placed : (old placed new : Names) (name : Text) (state : NameState) (outpu
 freed-placed old placed new name state output p f = record {
   known = λ other. elim (cases_Bool (pointwise nat_eq other name)) [
     | inl same ↦ let e : other ≡ name = same_text other name (sym same) in
-      ap new.known e ∙ f.known ∙ sym p.unknown ∙ sym (ap old.known e)
+        ap new.known e ∙ f.known ∙ sym p.unknown ∙ sym (ap old.known e)
     | inr differs ↦ let ne : other ≢ name = other_text other name (sym differs) in
-      f.others other ne ∙ p.others other ne
+        f.others other ne ∙ p.others other ne
   ];
   at = λ other. elim (cases_Bool (nat_eq other.0 output.0)) [
     | inl same ↦ let e : other ≡ output = ap (λ n. record { 0 = n }) (eqb-true other.0 output.0 same) in
-      ap new.at e ∙ f.here ∙ sym p.free ∙ sym (ap old.at e)
+        ap new.at e ∙ f.here ∙ sym p.free ∙ sym (ap old.at e)
     | inr differs ↦ let ne : other ≢ output = λ e. eqb-false other.0 output.0 differs (ap (λ (o : OutputHandle). o.0) e) in
-      f.elsewhere other ne ∙ p.elsewhere other ne
+        f.elsewhere other ne ∙ p.elsewhere other ne
   ];
 }
 

@@ -28,7 +28,7 @@ abbrev pub receiver_opening :
 receiver_opening shared credit remote target = record {
   name = remote.name;
   relay =
-    relay_of remote.name roles.Receiver (receiver_mode_for shared remote.rcv_settle_mode);
+      relay_of remote.name roles.Receiver (receiver_mode_for shared remote.rcv_settle_mode);
   input = record { 0 = remote.handle.0 };
   reply = record {
     attach = record (reply_of shared remote roles.Receiver None) { target = target };
@@ -40,7 +40,7 @@ receiver_opening shared credit remote target = record {
 abbrev pub control_opening : ControlLinkAcceptor → Attach → Opening
 control_opening acceptor remote =
     let coordinator : Coordinator =
-      record { capabilities = acceptor.receiver.target_capabilities } in
+    record { capabilities = acceptor.receiver.target_capabilities } in
     receiver_opening acceptor.shared acceptor.receiver.credit_mode remote
     (Some (targets.Coordinator coordinator))
 

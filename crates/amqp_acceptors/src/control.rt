@@ -6,6 +6,7 @@ ghost use Rattle.amqp_endpoints.specs.declared.attach_errors.ReceiverAttachError
 ghost use Rattle.amqp_acceptors.specs.Accepting.{AcceptLeaves, AcceptsBy, ReceiverTold};
 ghost use Rattle.amqp_acceptors.specs.Opening.{OpensThrough};
 
+use crate::builder::{Acceptor, Builder};
 use crate::dynamic::RejectDynamic;
 use crate::fields::SharedLinkAcceptorFields;
 use crate::opening::Opening;
@@ -40,6 +41,17 @@ impl Default for ControlLinkAcceptor {
     }
 }
 
+/// Its local end is a receiver.
+impl Acceptor for ControlLinkAcceptor {
+    type Ends = LocalReceiverLinkAcceptor<Coordinator, RejectDynamic>;
+
+    ghost of_parts = { λ shared receiver. record { shared = shared; receiver = receiver } };
+
+    fn of_parts(shared: SharedLinkAcceptorFields, receiver: Self::Ends) -> Self {
+        ControlLinkAcceptor { shared, receiver }
+    }
+}
+
 impl TryClone for ControlLinkAcceptor {
     fn try_clone(&self) -> Result<Self, NoMemory> {
         Ok(ControlLinkAcceptor {
@@ -50,7 +62,19 @@ impl TryClone for ControlLinkAcceptor {
 }
 
 impl ControlLinkAcceptor {
-    ghost use Rattle.amqp_acceptors.specs.Receivers.{control_answer, control_opening};
+    ghost use Rattle.amqp_acceptors.specs.Fields.{default_shared};
+    ghost use Rattle.amqp_acceptors.specs.Receivers.{IsDefaultReceiver, control_answer, control_opening};
+
+    /// A builder of the default acceptor.
+    pub fn builder() -> Builder<Self>
+        ensures shared { result.shared ≡ default_shared }
+        ensures receiver { IsDefaultReceiver result.ends }
+    {
+        Builder {
+            shared: SharedLinkAcceptorFields::default(),
+            ends: LocalReceiverLinkAcceptor::default(),
+        }
+    }
 
     /// A control link, ready to be opened. The only error is want of memory.
     pub fn prepare(&self, alloc: Global, remote: &Attach) -> Result<Opening, NoMemory>

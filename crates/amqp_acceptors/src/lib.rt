@@ -1,6 +1,7 @@
 //! Acceptors of links.
 #![tactic(auto)]
 
+mod builder;
 mod control;
 mod credit;
 mod dynamic;
@@ -12,6 +13,7 @@ mod refusals;
 mod reply;
 mod termini;
 
+pub use builder::{Acceptor, Builder};
 pub use control::ControlLinkAcceptor;
 pub use credit::CreditMode;
 pub use dynamic::{Ask, OnDynamic, RejectDynamic};

@@ -8,9 +8,7 @@ use crate::dynamic::RejectDynamic;
 use crate::fields::SharedLinkAcceptorFields;
 use crate::opening::{Opening, new_relay};
 use crate::reply::{Reply, credit_flow, reply_to};
-use amqp_txn_types::{
-    Attach, InputHandle, NoMemory, Role, Symbols, TargetArchetype, TryClone,
-};
+use amqp_txn_types::{Attach, InputHandle, NoMemory, Role, Symbols, TargetArchetype, TryClone};
 use std::alloc::Global;
 use std::marker::PhantomData;
 

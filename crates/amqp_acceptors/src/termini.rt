@@ -52,7 +52,8 @@ impl Terminus for Source {
     ghost is_dynamic = { λ source. source.dynamic };
 
     ghost with_capabilities = { λ capabilities source. record source {
-        capabilities = capabilities } };
+      capabilities = capabilities;
+    } };
 
     fn is_dynamic(&self) -> bool {
         self.dynamic
@@ -70,7 +71,8 @@ impl Terminus for Target {
     ghost is_dynamic = { λ target. target.dynamic };
 
     ghost with_capabilities = { λ capabilities target. record target {
-        capabilities = capabilities } };
+      capabilities = capabilities;
+    } };
 
     fn is_dynamic(&self) -> bool {
         self.dynamic
