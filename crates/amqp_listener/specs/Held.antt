@@ -3,7 +3,9 @@ use Rattle.std.specs.Prelude.{◌≡◌, ◌<◌, ◌++◌, ◌∷◌, [], if◌
 use Rattle.std.specs.Option.{option_map}
 use Rattle.std.specs.declared.vec.Vec.{Vec}
 use Rattle.std.specs.declared.alloc.Global.{Global}
-use Rattle.std.specs.HashMap.{get as entry_of}
+use Rattle.std.specs.declared.hash.FoldHasher.{FoldHasher}
+use Rattle.std.specs.declared.hash.BuildHasherDefault.{BuildHasherDefault}
+use Rattle.std.specs.HashMap.{HashMap, get as entry_of}
 use Rattle.amqp_txn_types.specs.declared.small.InputHandle.{InputHandle}
 use Rattle.amqp_txn_types.specs.declared.performatives.Flow.{Flow}
 use Rattle.amqp_txn_types.specs.declared.performatives.LinkFlow.{LinkFlow}
@@ -21,6 +23,15 @@ list_in (Some flows) = flows.items
 -- the flows that are held for a handle, in the order in which they came
 abbrev pub flows_for : HeldFlows → InputHandle → List LinkFlow
 flows_for held input = list_in (entry_of same_input held.flows input)
+
+-- a list of flows for each handle that had one
+abbrev pub FlowsByHandle : Type 0
+FlowsByHandle = HashMap InputHandle (Vec LinkFlow Global) (BuildHasherDefault FoldHasher)
+
+-- for every handle the same flows
+abbrev pub SameLists : FlowsByHandle → FlowsByHandle → Type 0
+SameLists old new =
+    (input : InputHandle) → list_in (entry_of same_input new input) ≡ list_in (entry_of same_input old input)
 
 -- there is room for one more flow
 abbrev pub ListHasRoom : Option (Vec LinkFlow Global) → Type 0

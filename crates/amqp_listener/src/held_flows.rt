@@ -1,18 +1,23 @@
 //! Flows of links that wait for the link's handle to be allocated.
 
-ghost use Rattle.std.specs.Prelude.{◌≡◌, ◌++◌, [], OnOk, IfOk};
+ghost use Rattle.std.specs.Prelude.{◌≡◌, ◌++◌, [], None, IsSome, OnOk, IfOk};
+ghost use Rattle.std.specs.HashMap.{get as entry_of};
+ghost use Rattle.amqp_sessions.specs.Links.{same_input};
 ghost use Rattle.amqp_txn_types.specs.declared.small.InputHandle.{InputHandle as Input};
-ghost use Rattle.amqp_listener.specs.Held.{HasRoom, HasRoomFor, SameHeld, flows_for, link_flow_in, replaying, with_flows, with_held};
+ghost use Rattle.amqp_listener.specs.Held.{HasRoom, HasRoomFor, ListHasRoom, SameHeld, SameLists, flows_for, link_flow_in, replaying, with_flows, with_held};
 
 use amqp_sessions::Relay;
 use amqp_txn_types::{Flow, InputHandle, LinkFlow, LinkFlows, NoMemory, TryClone};
 use std::alloc::Global;
 use std::collections::HashMap;
 
+/// A list of flows for each handle that had one.
+type FlowsByHandle = HashMap<InputHandle, Vec<LinkFlow>>;
+
 /// The flows that are held for each handle, in the order in which they came.
 #[derive(Drop)]
 pub struct HeldFlows {
-    flows: HashMap<InputHandle, Vec<LinkFlow>>,
+    flows: FlowsByHandle,
     alloc: Global,
 }
 
@@ -32,13 +37,11 @@ impl HeldFlows {
         ensures same { SameHeld (flows_for self.old) (flows_for self.new) }
         ensures room { OnOk result (HasRoom self.new input) }
     {
-        if let Some(flows) = self.flows.get_mut(&input) {
-            flows.reserve(1)?;
-            return Ok(());
+        if self.flows.contains_key(&input) {
+            grow_list(&mut self.flows, input)
+        } else {
+            start_list(&mut self.flows, self.alloc, input)
         }
-        let flows = Vec::with_capacity(self.alloc, 1)?;
-        self.flows.insert(input, flows)?;
-        Ok(())
     }
 
     /// A copy of the part of a flow that is about one link, with room to hold it; `None` where the
@@ -93,6 +96,33 @@ impl HeldFlows {
     {
         let _ = self.flows.remove(&input);
     }
+}
+
+/// Room for one more flow in the list of a handle that has one. The only error is want of memory.
+fn grow_list(flows: &mut FlowsByHandle, input: InputHandle) -> Result<(), NoMemory>
+    requires { IsSome (entry_of same_input flows.old input) }
+    ensures same { SameLists flows.old flows.new }
+    ensures room { OnOk result (ListHasRoom (entry_of same_input flows.new input)) }
+{
+    if let Some(list) = flows.get_mut(&input) {
+        list.reserve(1)?;
+    }
+    Ok(())
+}
+
+/// A list with room for one flow, for a handle that has none. The only error is want of memory.
+fn start_list(
+    flows: &mut FlowsByHandle,
+    alloc: Global,
+    input: InputHandle,
+) -> Result<(), NoMemory>
+    requires { entry_of same_input flows.old input ≡ None }
+    ensures same { SameLists flows.old flows.new }
+    ensures room { OnOk result (ListHasRoom (entry_of same_input flows.new input)) }
+{
+    let list = Vec::with_capacity(alloc, 1)?;
+    flows.insert(input, list)?;
+    Ok(())
 }
 
 /// Appends copies of some flows, in their order. The only error is want of memory.
