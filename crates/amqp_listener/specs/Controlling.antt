@@ -1,6 +1,6 @@
 -- How a control link is opened through a listener. Part 4 of the standard, section 4.2 (declaring a
 -- transaction).
-use Rattle.std.specs.Prelude.{◌≡◌, ◌⊎◌, false, IfErr, Result, Ok, Err, List}
+use Rattle.std.specs.Prelude.{◌≡◌, ◌⊎◌, Bool, false, IfErr, Result, Ok, Err, List}
 use Rattle.amqp_txn_types.specs.Counts.{Rose}
 use Rattle.amqp_txn_types.specs.declared.small.InputHandle.{InputHandle}
 use Rattle.amqp_txn_types.specs.declared.small.OutputHandle.{OutputHandle}

@@ -1,5 +1,5 @@
 -- What a listener does with the frames that come.
-use Rattle.std.specs.Prelude.{◌≡◌, ◌⊎◌, Bool, true, false, cond, if◌then◌else◌, Option, Result, Ok, Err, List, []}
+use Rattle.std.specs.Prelude.{◌≡◌, ◌⊎◌, Bool, true, false, if◌then◌else◌, Option, Result, Ok, Err, List, []}
 use Rattle.amqp_txn_types.specs.declared.small.InputHandle.{InputHandle}
 use Rattle.amqp_txn_types.specs.declared.performatives.Attach.{Attach}
 use Rattle.amqp_txn_types.specs.declared.performatives.Flow.{Flow}
@@ -43,15 +43,18 @@ HearsAttach Inner Waiting old new before after attach result = Inner result × (
 HearsAttach Inner state old new before after attach result =
     (new ≡ old) × Queues state before after attach result
 
+-- the answer is that a handle isn't attached
+abbrev pub lacks_handle : Result (List Frame) SessionInnerError → Bool
+lacks_handle (Ok given) = false
+lacks_handle (Err error) = is_unattached error
+
 -- what a listener answers for its session's answer: that a handle isn't attached is no refusal
 abbrev pub let_pass : Result (List Frame) SessionInnerError → Result (List Frame) SessionInnerError
-let_pass (Ok given) = Ok given
-let_pass (Err error) = if is_unattached error then Ok [] else Err error
+let_pass answer = if lacks_handle answer then Ok [] else answer
 
 -- what is held for a flow: it is held where the session answers that its handle isn't attached
 abbrev pub held_for : Result (List Frame) SessionInnerError → Flow → (InputHandle → List LinkFlow) → InputHandle → List LinkFlow
-held_for (Ok given) flow held = held
-held_for (Err error) flow held = if is_unattached error then with_held (link_flow_in flow) held else held
+held_for answer flow held = if lacks_handle answer then with_held (link_flow_in flow) held else held
 
 -- the session answers a flow
 pub record AnswersFlow (Inner : Result (List Frame) SessionInnerError → Type 0)

@@ -21,32 +21,32 @@ use Rattle.amqp_listener.specs.Hearing.{HearsAttach, HearsFrame, Queues, let_pas
 use Rattle.amqp_listener.specs.Listening.{inner_of}
 
 -- a refusal that leaves all
-left-same : {Done Same : Type 0} (error : SessionInnerError) → Same → LeftBy Done Same (Err error)
-left-same faults.NoMemory same = inr same
-left-same faults.UnattachedHandle same = same
-left-same faults.RemoteAttachingLinkNameNotFound same = same
-left-same faults.HandleInUse same = same
-left-same faults.IllegalState same = same
-left-same (faults.ConnectionStopped reason) same = same
-left-same faults.TransferFrameToSender same = same
-left-same faults.RemoteEnded same = same
-left-same (faults.RemoteEndedWithError cause) same = same
-left-same faults.UnknownTxnId same = same
+left-same : (Done Same : Type 0) (error : SessionInnerError) → Same → LeftBy Done Same (Err error)
+left-same Done Same faults.NoMemory same = inr same
+left-same Done Same faults.UnattachedHandle same = same
+left-same Done Same faults.RemoteAttachingLinkNameNotFound same = same
+left-same Done Same faults.HandleInUse same = same
+left-same Done Same faults.IllegalState same = same
+left-same Done Same (faults.ConnectionStopped reason) same = same
+left-same Done Same faults.TransferFrameToSender same = same
+left-same Done Same faults.RemoteEnded same = same
+left-same Done Same (faults.RemoteEndedWithError cause) same = same
+left-same Done Same faults.UnknownTxnId same = same
 
 -- an answer that is let pass, of a call that leaves all
-left-let_pass : {Same : Type 0} (answer : Result (List Frame) SessionInnerError)
+left-let_pass : (Same : Type 0) (answer : Result (List Frame) SessionInnerError)
     → LeftBy Same Same answer → LeftBy Same Same (let_pass answer)
-left-let_pass (Ok given) left = left
-left-let_pass (Err faults.NoMemory) left = left
-left-let_pass (Err faults.UnattachedHandle) left = left
-left-let_pass (Err faults.RemoteAttachingLinkNameNotFound) left = left
-left-let_pass (Err faults.HandleInUse) left = left
-left-let_pass (Err faults.IllegalState) left = left
-left-let_pass (Err (faults.ConnectionStopped reason)) left = left
-left-let_pass (Err faults.TransferFrameToSender) left = left
-left-let_pass (Err faults.RemoteEnded) left = left
-left-let_pass (Err (faults.RemoteEndedWithError cause)) left = left
-left-let_pass (Err faults.UnknownTxnId) left = left
+left-let_pass Same (Ok given) left = left
+left-let_pass Same (Err faults.NoMemory) left = left
+left-let_pass Same (Err faults.UnattachedHandle) left = left
+left-let_pass Same (Err faults.RemoteAttachingLinkNameNotFound) left = left
+left-let_pass Same (Err faults.HandleInUse) left = left
+left-let_pass Same (Err faults.IllegalState) left = left
+left-let_pass Same (Err (faults.ConnectionStopped reason)) left = left
+left-let_pass Same (Err faults.TransferFrameToSender) left = left
+left-let_pass Same (Err faults.RemoteEnded) left = left
+left-let_pass Same (Err (faults.RemoteEndedWithError cause)) left = left
+left-let_pass Same (Err faults.UnknownTxnId) left = left
 
 -- an attach that attaches nothing may be one to a coordinator
 attaches-leaves : (coordinator : Bool) (old new : Names) (name : Text) → Attaches old new name
@@ -88,7 +88,7 @@ module _ {S : Type 0} (told : S → Told) (kept : S → Kept) (names : S → Nam
           (attaches-same old new attach.name same stays);
     }
     queued-leaves old new state before after attach (Err error) same stays queues =
-        record { kept = ap kept same; names = left-same error (names-same old new same) }
+        record { kept = ap kept same; names = left-same _ _ error (names-same old new same) }
 
     -- an attach, by how its name is known
     attach-leaves : (old new : S) (state : NameState) (before after : Queue) (attach : Attach)
@@ -110,7 +110,7 @@ module _ {S : Type 0} (told : S → Told) (kept : S → Kept) (names : S → Nam
     passed-leaves old new frame answer result left is =
         let Left : Result (List Frame) SessionInnerError → Type 0 =
             LeftBy (SameNames (names old) (names new)) (SameNames (names old) (names new)) in
-        (left.0, subst Left (sym is) (left-let_pass answer left.1))
+        (left.0, subst Left (sym is) (left-let_pass _ answer left.1))
 
     -- an incoming frame call
     pub heard-leaves : (old new : ListenerSession S) (frame : Frame)

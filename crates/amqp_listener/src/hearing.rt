@@ -1,6 +1,7 @@
 //! What a listener does with the frames that come, over its session, its queue and what it holds.
 
-ghost use Rattle.std.specs.Prelude.{◌≡◌, IfErr};
+ghost use Rattle.std.specs.Prelude.{◌≡◌, ◌≤◌, IfErr, OnErr};
+ghost use Rattle.amqp_txn_types.specs.Counts.{Rose, one_more};
 ghost use Rattle.amqp_txn_types.specs.declared.performatives.Frame.TheVariants as frames;
 ghost use Rattle.amqp_layer.specs.Inner.{Took};
 ghost use Rattle.amqp_layer.specs.Told.{Steady};
@@ -10,7 +11,7 @@ ghost use Rattle.amqp_sessions.specs.Names.{PlacesLink};
 ghost use Rattle.amqp_sessions.specs.Sessions.{StoppedBy};
 ghost use Rattle.amqp_sessions.specs.declared.relay.NameState.TheVariants.{Taken};
 ghost use Rattle.amqp_listener.specs.Held.{flows_for};
-ghost use Rattle.amqp_listener.specs.Hearing.{HearsAttach, HearsFlow, HearsTransfer, Queues, unqueued_fault};
+ghost use Rattle.amqp_listener.specs.Hearing.{HearsAttach, HearsFlow, HearsTransfer, Queues, lacks_handle, unqueued_fault};
 ghost use Rattle.amqp_listener.specs.Listening.{AllocatesHeld, counted};
 
 use crate::attach_queue::AttachQueue;
@@ -22,15 +23,30 @@ use amqp_txn_types::{
 };
 use std::alloc::Global;
 
+/// Counts one more refusal.
+pub fn count_one(refusals: &mut u64)
+    ensures counted { refusals.new ≡ one_more refusals.old }
+    ensures later { refusals.old ≤ refusals.new }
+    ensures rose { Rose refusals.old refusals.new }
+{
+    let _count = *refusals;
+    count_refusal(refusals);
+}
+
 /// Counts an answer that is an Err, and gives the answer.
 pub fn count_answer<T, E>(refusals: &mut u64, answer: Result<T, E>) -> Result<T, E>
     ensures answer { result ≡ answer }
     ensures counted { refusals.new ≡ counted answer refusals.old }
+    ensures later { refusals.old ≤ refusals.new }
+    ensures cause { OnErr answer (Rose refusals.old refusals.new) }
 {
-    if answer.is_err() {
-        count_refusal(refusals);
+    match answer {
+        Ok(value) => Ok(value),
+        Err(error) => {
+            count_one(refusals);
+            Err(error)
+        }
     }
-    answer
 }
 
 /// Why an attach isn't queued at a closed queue.
@@ -81,6 +97,16 @@ pub fn hear_attach<S: Session>(
     }
 }
 
+/// Whether the answer is that a handle isn't attached.
+fn lacks_handle(answer: &Result<Frames, SessionInnerError>) -> bool
+    ensures { result ≡ lacks_handle answer.now }
+{
+    match answer {
+        Ok(_) => false,
+        Err(error) => error.is_unattached(),
+    }
+}
+
 /// A flow: it goes to the session, and is held where its handle isn't attached. Room for it is made
 /// first.
 pub fn hear_flow<S: LayerBelow>(
@@ -97,16 +123,14 @@ pub fn hear_flow<S: LayerBelow>(
         drop(flow);
         return Err(SessionInnerError::NoMemory);
     };
-    match session.on_incoming_flow(flow) {
-        Err(error) if error.is_unattached() => {
-            held.hold(copy);
-            Ok(Frames::new(alloc))
-        }
-        answer => {
-            drop(copy);
-            answer
-        }
+    let answer = session.on_incoming_flow(flow);
+    if lacks_handle(&answer) {
+        drop(answer);
+        held.hold(copy);
+        return Ok(Frames::new(alloc));
     }
+    drop(copy);
+    answer
 }
 
 /// A transfer: it goes to the session, and is dropped where its handle isn't attached.
@@ -121,10 +145,12 @@ pub fn hear_transfer<S: LayerBelow>(
         (Took S.told S.incoming_gives session.old session.new (frames.Transfer transfer payload))
         result }
 {
-    match session.on_incoming_transfer(transfer, payload) {
-        Err(error) if error.is_unattached() => Ok(Frames::new(alloc)),
-        answer => answer,
+    let answer = session.on_incoming_transfer(transfer, payload);
+    if lacks_handle(&answer) {
+        drop(answer);
+        return Ok(Frames::new(alloc));
     }
+    answer
 }
 
 /// Allocates a link that the peer attached. What is held for its handle is replayed to it: on Ok it

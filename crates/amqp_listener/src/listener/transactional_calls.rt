@@ -1,10 +1,11 @@
 //! A listener does no transactions.
 
+use crate::hearing::count_one;
 use crate::listener::ListenerSession;
 use amqp_ids::{Drawn, IdSource};
 use amqp_layer::Echoes;
 use amqp_sessions::{AllocTxnIdError, CommitFault, HandleDeclare, HandleDischarge, Session};
-use amqp_txn_types::{Accepted, TransactionError, TransactionId, count_refusal, refuse};
+use amqp_txn_types::{Accepted, TransactionError, TransactionId};
 
 impl<S: Session> HandleDeclare for ListenerSession<S> {
     ghost use Rattle.std.specs.Prelude.{◌≡◌, Err};
@@ -18,7 +19,8 @@ impl<S: Session> HandleDeclare for ListenerSession<S> {
         &mut self,
         ids: &mut G,
     ) -> Result<Drawn, AllocTxnIdError> {
-        refuse(&mut self.refusals, AllocTxnIdError::NotImplemented)
+        count_one(&mut self.refusals);
+        Err(AllocTxnIdError::NotImplemented)
     }
 }
 
@@ -37,7 +39,7 @@ impl<S: Session> HandleDischarge for ListenerSession<S> {
         &mut self,
         txn_id: &TransactionId,
     ) -> Result<Result<Echoes, TransactionError>, CommitFault> {
-        count_refusal(&mut self.refusals);
+        count_one(&mut self.refusals);
         Ok(Err(TransactionError::UnknownId))
     }
 
@@ -45,6 +47,7 @@ impl<S: Session> HandleDischarge for ListenerSession<S> {
         &mut self,
         txn_id: &TransactionId,
     ) -> Result<Accepted, TransactionError> {
-        refuse(&mut self.refusals, TransactionError::UnknownId)
+        count_one(&mut self.refusals);
+        Err(TransactionError::UnknownId)
     }
 }
