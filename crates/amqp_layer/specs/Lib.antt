@@ -1,5 +1,5 @@
 pub mod Faults
 pub mod Told
+pub mod Inner
 pub mod Windows
-pub mod Recording
 pub mod Taking

@@ -8,7 +8,7 @@ use std::alloc::Global;
 
 /// A layer that is Mapped, takes every frame, gives none back and refuses nothing.
 ///
-/// It keeps nothing, so it tells none of its lists: put it into a `Recorder`.
+/// It keeps nothing, so it tells none of its lists: a `Recorder` over it does.
 #[derive(Drop)]
 pub struct OpenSession {
     alloc: Global,

@@ -2,7 +2,8 @@
 //! link, step by step.
 
 use amqp_resource::*;
-use amqp_layer::{LayerBelow, OpenSession, Recorder, SessionInnerError, Tells};
+use amqp_layer::{LayerBelow, OpenSession, SessionInnerError, Tells};
+use amqp_recorder::Recorder;
 use amqp_sessions::{HandleDeclare, HandleDischarge};
 use amqp_txn_codec::{ControlMessageBody, Declare, Discharge};
 use amqp_txn_types::{

@@ -2,7 +2,8 @@
 
 use crate::tests::{answer_of, attach, begin_transaction, discharge, post, transfer};
 use amqp_resource::*;
-use amqp_layer::{Answers, LayerBelow, Recorder};
+use amqp_layer::{Answers, LayerBelow};
+use amqp_recorder::Recorder;
 use amqp_sessions::{PlainSession, Relay, Session};
 use amqp_txn_types::{
     Begin, Handle, Items, NoMemory, OutgoingChannel, ReceiverSettleMode, Role, SessionState, Text,

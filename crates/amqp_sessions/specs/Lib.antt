@@ -10,4 +10,3 @@ pub mod LinkMoves
 pub mod PlainSessions
 pub mod PlainFrames
 pub mod PlainCalls
-pub mod RecordedSessions

@@ -2,7 +2,7 @@
 
 use amqp_sessions::*;
 use amqp_ids::IdSource;
-use amqp_layer::{Answers, LayerBelow, Recorder, SessionInnerError, take_frame};
+use amqp_layer::{Answers, LayerBelow, SessionInnerError, take_frame};
 use amqp_txn_types::{
     Attach, Begin, ConnectionStopReason, Detach, Disposition, End, Flow, Frame, Frames, Handle,
     IncomingChannel, InputHandle, Items, LinkFlow, LinkFlows, OutgoingChannel, OutputHandle,
@@ -302,12 +302,10 @@ fn each_transfer_of_a_run_tells_a_window_of_two(rt: HostRuntime) -> Result<(), F
     let mut plain = session(alloc, SessionState::BeginSent, 9);
     plain.on_incoming_begin(IncomingChannel(3), begin(9))?;
     allocate_incoming(alloc, &mut plain)?;
-    let mut below = Recorder::new(alloc, plain);
-    let first = take_frame(&mut below, plain_transfer(alloc, 5)?);
+    let first = take_frame(&mut plain, plain_transfer(alloc, 5)?);
     assert!(rt; gives(first, told_window(alloc, 1)));
-    let second = take_frame(&mut below, plain_transfer(alloc, 5)?);
+    let second = take_frame(&mut plain, plain_transfer(alloc, 5)?);
     assert!(rt; gives(second, told_window(alloc, 2)));
-    assert_eq!(rt; below.exchanges().len(), 2);
     Ok(())
 }
 
@@ -319,18 +317,6 @@ fn no_handle_above_the_greatest(rt: HostRuntime) {
     let next = allocate(alloc, &mut plain, "b");
     assert!(rt; refuses(next, AllocLinkError::HandleMaxReached));
     drop(plain);
-}
-
-#[test]
-fn a_recorder_over_a_plain_session(rt: HostRuntime) {
-    let alloc = rt.alloc();
-    let mut below = Recorder::new(alloc, session(alloc, SessionState::Mapped, 9));
-    assert!(rt; is_done(below.on_incoming_disposition(disposition())));
-    let refused = transfer_to(alloc, &mut below, 4);
-    assert!(rt; refuses(refused, SessionInnerError::UnattachedHandle));
-    assert_eq!(rt; below.exchanges().len(), 1);
-    assert_eq!(rt; below.refused().len(), 1);
-    drop(below);
 }
 
 #[test]

@@ -2,7 +2,7 @@
 use Rattle.std.specs.Prelude.{ℕ, ◌≡◌, ◌⊎◌, Option, None, IsNone, IfSome}
 use Rattle.amqp_txn_types.specs.declared.id.TransactionId.{TransactionId}
 use Rattle.amqp_layer.specs.Told.{Told}
-use Rattle.amqp_layer.specs.declared.recorder.Recorder.{Recorder}
+use Rattle.amqp_recorder.specs.declared.recorder.Recorder.{Recorder}
 use Rattle.amqp_resource.specs.Drive.{RunRose}
 use Rattle.amqp_streams.specs.Streams.{SinkTold, SourceTold}
 use Rattle.txn_program.specs.Reading.{Finds}

@@ -1,7 +1,7 @@
 //! A run: steps through a session, and what is written of them.
 
 ghost use Rattle.std.specs.Prelude.{◌≡◌, ◌<◌, ◌≤◌, ◌⊎◌, length, None, Some, Ok, IfSome, IfOk, IsNone, IsOkAnd, List, ℕ, string_bytes};
-ghost use Rattle.amqp_layer.specs.Recording.{IsFresh, is_unused};
+ghost use Rattle.amqp_recorder.specs.Recording.{IsFresh, is_unused};
 ghost use Rattle.amqp_ids.specs.Counted.{ids_from};
 ghost use Rattle.amqp_resource.specs.Drive.{RunRose};
 ghost use Rattle.amqp_ids.specs.Listed.{listed};

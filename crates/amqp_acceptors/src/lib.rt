@@ -1,0 +1,25 @@
+//! Acceptors of links.
+#![tactic(auto)]
+
+mod builder;
+mod control;
+mod credit;
+mod dynamic;
+mod fields;
+mod modes;
+mod opening;
+mod receiver;
+mod refusals;
+mod reply;
+mod termini;
+
+pub use builder::{Acceptor, Builder};
+pub use control::ControlLinkAcceptor;
+pub use credit::CreditMode;
+pub use dynamic::{Ask, OnDynamic, RejectDynamic};
+pub use fields::SharedLinkAcceptorFields;
+pub use modes::{SupportedReceiverSettleModes, SupportedSenderSettleModes};
+pub use opening::{OpenError, Opening};
+pub use receiver::LocalReceiverLinkAcceptor;
+pub use reply::Reply;
+pub use termini::{TargetKind, Terminus};

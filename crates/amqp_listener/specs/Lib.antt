@@ -1,0 +1,5 @@
+pub mod Held
+pub mod Listening
+pub mod Hearing
+pub mod Controlling
+pub mod ListenerLaws

@@ -1,0 +1,236 @@
+//! A layer below that keeps what the layer in it took.
+
+ghost use Rattle.std.specs.Prelude.{◌≡◌, ◌↔◌, [], Some, IsTrue};
+ghost use Rattle.amqp_layer.specs.Told.{Told, Takes, planned};
+ghost use Rattle.amqp_recorder.specs.Recording.{IsFresh, RecordsCall, StartsOver, calls_of, inner_of, is_unused, own_of, plan_of};
+
+mod listener_calls;
+mod session_calls;
+mod transactional_calls;
+
+use crate::call_numbers::is_among;
+use crate::keeping::{after_call, before_call, keep_refusal, keep_taken, prepare};
+use amqp_layer::{
+    Exchanges, LayerBelow, Openings, Refusals, SessionInnerError, Tells, on_incoming_frame,
+};
+use amqp_txn_types::{
+    Attach, CallNumbers, Detach, Disposition, Flow, Frame, Frames, Payload, SessionState, Transfer,
+    count_refusal, refuse,
+};
+use std::alloc::Global;
+
+/// A layer, with what it took, opened and refused. It tells all three lists.
+///
+/// Its incoming frame calls are numbered from 1. A call whose number stands in its plan is refused
+/// with `IllegalState` and doesn't reach the layer in it. Room for what is kept is made before the
+/// call; where there is none the answer is `NoMemory`.
+#[derive(Drop)]
+pub struct Recorder<S> {
+    session: S,
+    plan: CallNumbers,
+    calls: u64,
+    unused: bool,
+    exchanges: Exchanges,
+    opened: Openings,
+    refused: Refusals,
+    refusals: u64,
+    alloc: Global,
+}
+
+impl<S: LayerBelow> Recorder<S> {
+    /// A recorder over a layer, with an empty plan.
+    pub fn new(alloc: Global, session: S) -> Self
+        ensures inner { inner_of result ≡ session }
+        ensures plan { plan_of result ≡ [] }
+        ensures calls { calls_of result ≡ 0 }
+        ensures own { own_of result ≡ 0 }
+        ensures unused { IsTrue (is_unused result) }
+        ensures told { StartsOver (S.told session) (⟦<Recorder<S> as Tells>⟧.told result) }
+    {
+        Recorder {
+            session,
+            plan: CallNumbers::new(alloc),
+            calls: 0,
+            unused: true,
+            exchanges: Exchanges::new(alloc),
+            opened: Openings::new(alloc),
+            refused: Refusals::new(alloc),
+            refusals: 0,
+            alloc,
+        }
+    }
+
+    /// The numbers of the incoming frame calls that are refused.
+    pub fn plan(&self) -> &CallNumbers
+        ensures kept { result.now ≡ plan_of self.now }
+        ensures told { result.now ≡ (⟦<Recorder<S> as Tells>⟧.told self.now).fixed.plan }
+    {
+        &self.plan
+    }
+
+    /// Sets the numbers of the incoming frame calls that are refused.
+    ///
+    /// # Requires
+    ///
+    /// That the recorder [`is_fresh`](Recorder::is_fresh).
+    pub fn set_plan(&mut self, plan: CallNumbers)
+        requires { IsFresh (is_unused self.old) (⟦<Recorder<S> as Tells>⟧.told self.old) }
+        ensures plan { plan_of self.new ≡ plan }
+        ensures inner { inner_of self.new ≡ inner_of self.old }
+        ensures calls { calls_of self.new ≡ calls_of self.old }
+        ensures own { own_of self.new ≡ own_of self.old }
+        ensures unused { is_unused self.new ≡ is_unused self.old }
+        ensures told { ⟦<Recorder<S> as Tells>⟧.told self.new
+            ≡ planned plan (⟦<Recorder<S> as Tells>⟧.told self.old) }
+    {
+        self.plan = plan;
+    }
+
+    /// What was taken: each frame with the frames given back for it, in order.
+    pub fn exchanges(&self) -> &Exchanges
+        ensures { Some result.now ≡ (⟦<Recorder<S> as Tells>⟧.told self.now).taken }
+    {
+        &self.exchanges
+    }
+
+    /// The control links that were opened: each attach with the frames given back for it, in order.
+    pub fn opened(&self) -> &Openings
+        ensures { Some result.now ≡ (⟦<Recorder<S> as Tells>⟧.told self.now).opened }
+    {
+        &self.opened
+    }
+
+    /// What was refused: each frame with the error, in order. Want of memory isn't listed.
+    pub fn refused(&self) -> &Refusals
+        ensures { Some result.now ≡ (⟦<Recorder<S> as Tells>⟧.told self.now).refused }
+    {
+        &self.refused
+    }
+
+    /// Whether the layer is Mapped and had no incoming frame call and no attach of a control link.
+    pub fn is_fresh(&self) -> bool
+        ensures { IsTrue result ↔ IsFresh (is_unused self.now) (⟦<Recorder<S> as Tells>⟧.told self.now) }
+    {
+        self.unused
+            && self.session.local_state() == SessionState::Mapped
+            && self.exchanges.len() == 0
+            && self.opened.len() == 0
+            && self.refused.len() == 0
+    }
+
+    /// The frame through the layer in it. Room for what is kept is made first.
+    fn take(&mut self, frame: Frame) -> Result<Frames, SessionInnerError>
+        ensures told { Takes (⟦<Recorder<S> as Tells>⟧.told self.old) (⟦<Recorder<S> as Tells>⟧.told self.new)
+            frame result }
+        ensures gives { RecordsCall S.told S.incoming_gives self.old self.new frame result }
+    {
+        self.unused = false;
+        self.calls = self.calls.saturating_add(1);
+        let is_planned = is_among(&self.plan, self.calls);
+        let exchanges = &mut self.exchanges.items;
+        let refused = &mut self.refused.items;
+        let copy = match before_call(is_planned, &frame, exchanges, refused) {
+            Ok(copy) => copy,
+            Err(error) => {
+                drop(frame);
+                return refuse(&mut self.refusals, error);
+            }
+        };
+        let answer = on_incoming_frame(&mut self.session, frame);
+        after_call(self.alloc, exchanges, refused, &mut self.refusals, copy, answer)
+    }
+}
+
+impl<S: LayerBelow> Tells for Recorder<S> {
+    ghost use Rattle.std.specs.Prelude.{Some, ◌+◌};
+
+    ghost told = { λ r. record {
+      taken = Some r.exchanges;
+      opened = Some r.opened;
+      refused = Some r.refused;
+      refusals = (S.told r.session).refusals + r.refusals;
+      fixed = record { state = (S.told r.session).fixed.state; plan = r.plan };
+    } };
+}
+
+impl<S: LayerBelow> LayerBelow for Recorder<S> {
+    ghost use Rattle.std.specs.Prelude.{◌≡◌};
+    ghost use Rattle.amqp_layer.specs.Told.{Checks};
+    ghost use Rattle.amqp_recorder.specs.Recording.{Passes, RecordsCall, RecordsOpen};
+
+    ghost incoming_gives = { λ old new frame answer.
+        RecordsCall S.told S.incoming_gives old new frame answer };
+
+    ghost opening_gives = { λ old new attach answer.
+        RecordsOpen S.told S.opening_gives old new attach answer };
+
+    ghost check_gives = { λ old new disposition answer.
+        Passes (λ a b. Checks (S.told a) (S.told b) answer)
+        (λ a b. S.check_gives a b disposition answer) old new };
+
+    ghost window_gives = { λ old new flow.
+        Passes (λ a b. S.told b ≡ S.told a) (λ a b. S.window_gives a b flow) old new };
+
+    fn local_state(&self) -> SessionState {
+        self.session.local_state()
+    }
+
+    fn on_incoming_attach(&mut self, attach: Attach) -> Result<Frames, SessionInnerError> {
+        self.take(Frame::Attach(attach))
+    }
+
+    fn on_incoming_flow(&mut self, flow: Flow) -> Result<Frames, SessionInnerError> {
+        self.take(Frame::Flow(flow))
+    }
+
+    fn on_incoming_transfer(
+        &mut self,
+        transfer: Transfer,
+        payload: Payload,
+    ) -> Result<Frames, SessionInnerError> {
+        self.take(Frame::Transfer { transfer, payload })
+    }
+
+    fn on_incoming_disposition(
+        &mut self,
+        disposition: Disposition,
+    ) -> Result<Frames, SessionInnerError> {
+        self.take(Frame::Disposition(disposition))
+    }
+
+    fn on_incoming_detach(&mut self, detach: Detach) -> Result<Frames, SessionInnerError> {
+        self.take(Frame::Detach(detach))
+    }
+
+    fn on_control_attach(&mut self, attach: &Attach) -> Result<Frames, SessionInnerError> {
+        self.unused = false;
+        let Ok(copy) = prepare(attach, &mut self.opened.items, &mut self.refused.items) else {
+            count_refusal(&mut self.refusals);
+            return Err(SessionInnerError::NoMemory);
+        };
+        match self.session.on_control_attach(attach) {
+            Ok(given) => match keep_taken(self.alloc, &mut self.opened.items, copy, given) {
+                Ok(given) => Ok(given),
+                Err(_) => {
+                    count_refusal(&mut self.refusals);
+                    Err(SessionInnerError::NoMemory)
+                }
+            },
+            Err(error) => {
+                let frame = Frame::Attach(copy);
+                Err(keep_refusal(&mut self.refused.items, frame, error))
+            }
+        }
+    }
+
+    fn on_outgoing_disposition(
+        &mut self,
+        disposition: &Disposition,
+    ) -> Result<(), SessionInnerError> {
+        self.session.on_outgoing_disposition(disposition)
+    }
+
+    fn maybe_outgoing_session_flow(&mut self) -> Option<Flow> {
+        self.session.maybe_outgoing_session_flow()
+    }
+}
