@@ -181,9 +181,7 @@ fn has_credits(
         return false;
     };
     match relay.flows.as_slice() {
-        [one, other] => {
-            one.link_credit == Some(first) && other.link_credit == Some(second)
-        }
+        [one, other] => { one.link_credit == Some(first) && other.link_credit == Some(second) }
         _ => false,
     }
 }
