@@ -1,5 +1,5 @@
 -- What is held for each handle, where one entry of the map is written.
-use Rattle.std.proofs.Common.{◌≡◌, ◌∙◌, [], Bool, true, false, cond, Option, None, Some, List, Vec, ap, inl, inr}
+use Rattle.std.proofs.Common.{◌≡◌, ◌∙◌, cond, Option, Vec, ap, inl, inr}
 use Rattle.std.proofs.lemmas.Bool.{cases_Bool}
 use Rattle.std.specs.declared.alloc.Global.{Global}
 use Rattle.amqp_txn_types.specs.declared.small.InputHandle.{InputHandle}
@@ -16,7 +16,7 @@ pub list_in-written : (f g : InputHandle → Option (Vec LinkFlow Global)) (inpu
 list_in-written f g input slot kept writes q =
     elim (cases_Bool (same_input input q)) [
       | inl same ↦
-        ap list_in (writes q) ∙ ap (λ b. list_in (cond b slot (f q))) same
-        ∙ kept ∙ ap (λ h. list_in (f h)) (same_input-eq input q same)
+          ap list_in (writes q) ∙ ap (λ b. list_in (cond b slot (f q))) same
+          ∙ kept ∙ ap (λ h. list_in (f h)) (same_input-eq input q same)
       | inr differs ↦ ap list_in (writes q) ∙ ap (λ b. list_in (cond b slot (f q))) differs
     ]

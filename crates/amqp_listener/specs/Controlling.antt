@@ -18,7 +18,6 @@ use Rattle.amqp_sessions.specs.declared.session_errors.AllocLinkError.{AllocLink
 use Rattle.amqp_sessions.specs.Names.{Names}
 use Rattle.amqp_sessions.specs.Plain.{control_error}
 use Rattle.amqp_sessions.specs.Sessions.{Kept, LeavesOpening}
-use Rattle.amqp_acceptors.specs.declared.control.ControlLinkAcceptor.{ControlLinkAcceptor}
 use Rattle.amqp_acceptors.specs.declared.opening.Opening.{Opening}
 use Rattle.amqp_acceptors.specs.declared.opening.OpenError.{OpenError}
 use Rattle.amqp_acceptors.specs.declared.opening.OpenError.TheVariants as errors
@@ -71,8 +70,8 @@ OpensHeld {S} told allocates flows frees old new held held_now opening (Err (err
     opening.input (Ok output)
     × Replies told flows frees allocated new opening output (Err error)
 
--- a control link is made ready by the acceptor and opened, and answered by that; or there was no room
--- to make it ready
+-- a control link is made ready by the acceptor and opened, and answered by that; or there was no
+-- room to make it ready
 abbrev pub OpensControl : {S : Type 0} → (S → Told)
     → (S → S → Text → Relay → InputHandle → Result OutputHandle AllocLinkError → Type 0)
     → (S → S → LinkFlow → Result Flow SessionInnerError → Type 0)

@@ -1,5 +1,5 @@
 -- What a listener does with the frames that come.
-use Rattle.std.specs.Prelude.{◌≡◌, ◌⊎◌, Bool, true, false, if◌then◌else◌, Option, Result, Ok, Err, List, []}
+use Rattle.std.specs.Prelude.{◌≡◌, ◌⊎◌, Bool, true, false, if◌then◌else◌, Result, Ok, Err, List, []}
 use Rattle.amqp_txn_types.specs.declared.small.InputHandle.{InputHandle}
 use Rattle.amqp_txn_types.specs.declared.performatives.Attach.{Attach}
 use Rattle.amqp_txn_types.specs.declared.performatives.Flow.{Flow}
@@ -13,7 +13,7 @@ use Rattle.amqp_layer.specs.Inner.{Took}
 use Rattle.amqp_layer.specs.Told.{Told}
 use Rattle.amqp_sessions.specs.Names.{Names}
 use Rattle.amqp_sessions.specs.declared.relay.NameState.{NameState}
-use Rattle.amqp_sessions.specs.declared.relay.NameState.TheVariants.{Unknown, Waiting, Taken}
+use Rattle.amqp_sessions.specs.declared.relay.NameState.TheVariants.{Waiting, Taken}
 use Rattle.amqp_endpoints.specs.Queues.{Queue, with_last}
 use Rattle.amqp_listener.specs.declared.listener.ListenerSession.{ListenerSession}
 use Rattle.amqp_listener.specs.Held.{SameHeld, link_flow_in, with_held}
@@ -30,14 +30,16 @@ why_unqueued true state = unqueued_fault state
 why_unqueued false state = faults.NoMemory
 
 -- an attach is queued where the queue is open, with no frames given back
-abbrev pub Queues : NameState → Queue → Queue → Attach → Result (List Frame) SessionInnerError → Type 0
+abbrev pub Queues :
+    NameState → Queue → Queue → Attach → Result (List Frame) SessionInnerError → Type 0
 Queues state before after attach (Ok given) =
     (before.closed ≡ false) × (given ≡ []) × (after ≡ with_last before attach)
 Queues state before after attach (Err error) =
     (error ≡ why_unqueued before.closed state) × (after ≡ before)
 
 -- an attach whose name waits goes to the session, which gives its answer; any other is queued
-abbrev pub HearsAttach : {S : Type 0} → (Result (List Frame) SessionInnerError → Type 0) → NameState
+abbrev pub HearsAttach : {S : Type 0} → (Result (List Frame) SessionInnerError → Type 0)
+    → NameState
     → S → S → Queue → Queue → Attach → Result (List Frame) SessionInnerError → Type 0
 HearsAttach Inner Waiting old new before after attach result = Inner result × (after ≡ before)
 HearsAttach Inner state old new before after attach result =
@@ -49,12 +51,15 @@ lacks_handle (Ok given) = false
 lacks_handle (Err error) = is_unattached error
 
 -- what a listener answers for its session's answer: that a handle isn't attached is no refusal
-abbrev pub let_pass : Result (List Frame) SessionInnerError → Result (List Frame) SessionInnerError
+abbrev pub let_pass :
+    Result (List Frame) SessionInnerError → Result (List Frame) SessionInnerError
 let_pass answer = if lacks_handle answer then Ok [] else answer
 
 -- what is held for a flow: it is held where the session answers that its handle isn't attached
-abbrev pub held_for : Result (List Frame) SessionInnerError → Flow → (InputHandle → List LinkFlow) → InputHandle → List LinkFlow
-held_for answer flow held = if lacks_handle answer then with_held (link_flow_in flow) held else held
+abbrev pub held_for : Result (List Frame) SessionInnerError → Flow
+    → (InputHandle → List LinkFlow) → InputHandle → List LinkFlow
+held_for answer flow held =
+    if lacks_handle answer then with_held (link_flow_in flow) held else held
 
 -- the session answers a flow
 pub record AnswersFlow (Inner : Result (List Frame) SessionInnerError → Type 0)
@@ -69,24 +74,28 @@ abbrev pub HearsFlow : {S : Type 0} → (Result (List Frame) SessionInnerError �
     → (InputHandle → List LinkFlow) → (InputHandle → List LinkFlow) → Flow
     → Result (List Frame) SessionInnerError → Type 0
 HearsFlow Inner old new held held_now flow result =
-    ((answer : Result (List Frame) SessionInnerError) × AnswersFlow Inner held held_now flow answer result)
+    ((answer : Result (List Frame) SessionInnerError)
+    × AnswersFlow Inner held held_now flow answer result)
     ⊎ NoRoom old new held held_now faults.NoMemory result
 
 -- a transfer goes to the session, and is dropped where that answers that its handle isn't attached
-abbrev pub HearsTransfer : (Result (List Frame) SessionInnerError → Type 0) → Result (List Frame) SessionInnerError → Type 0
+abbrev pub HearsTransfer : (Result (List Frame) SessionInnerError → Type 0)
+    → Result (List Frame) SessionInnerError → Type 0
 HearsTransfer Inner result =
-    (answer : Result (List Frame) SessionInnerError) × Inner answer × (result ≡ let_pass answer)
+    (answer : Result (List Frame) SessionInnerError)
+    × Inner answer × (result ≡ let_pass answer)
 
 -- a frame by its kind: what the session was asked, and what was queued or held
-abbrev pub HearsKind : {S : Type 0} → (Frame → Result (List Frame) SessionInnerError → Type 0) → Names
+abbrev pub HearsKind : {S : Type 0} → (Frame → Result (List Frame) SessionInnerError → Type 0)
+    → Names
     → ListenerSession S → ListenerSession S → Frame → Result (List Frame) SessionInnerError → Type 0
 HearsKind Inner names old new (frames.Attach attach) result =
-    HearsAttach (Inner (frames.Attach attach)) (names.known attach.name) (inner_of old) (inner_of new)
-    (queue_of old) (queue_of new) attach result
+    HearsAttach (Inner (frames.Attach attach)) (names.known attach.name) (inner_of old)
+    (inner_of new) (queue_of old) (queue_of new) attach result
     × SameHeld (held_of old) (held_of new)
 HearsKind Inner names old new (frames.Flow flow) result =
-    HearsFlow (Inner (frames.Flow flow)) (inner_of old) (inner_of new) (held_of old) (held_of new) flow
-    result
+    HearsFlow (Inner (frames.Flow flow)) (inner_of old) (inner_of new) (held_of old)
+    (held_of new) flow result
     × (queue_of new ≡ queue_of old)
 HearsKind Inner names old new (frames.Transfer transfer payload) result =
     HearsTransfer (Inner (frames.Transfer transfer payload)) result × Keeps old new

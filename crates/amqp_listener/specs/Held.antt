@@ -31,7 +31,8 @@ FlowsByHandle = HashMap InputHandle (Vec LinkFlow Global) (BuildHasherDefault Fo
 -- for every handle the same flows
 abbrev pub SameLists : FlowsByHandle → FlowsByHandle → Type 0
 SameLists old new =
-    (input : InputHandle) → list_in (entry_of same_input new input) ≡ list_in (entry_of same_input old input)
+    (input : InputHandle)
+    → list_in (entry_of same_input new input) ≡ list_in (entry_of same_input old input)
 
 -- there is room for one more flow
 abbrev pub ListHasRoom : Option (Vec LinkFlow Global) → Type 0
@@ -52,11 +53,13 @@ abbrev pub link_flow_in : Flow → Option LinkFlow
 link_flow_in flow = option_map (λ handle. link_flow handle flow) flow.handle
 
 -- these flows are held for one handle, and for every other what was held
-abbrev pub with_flows : InputHandle → List LinkFlow → (InputHandle → List LinkFlow) → InputHandle → List LinkFlow
+abbrev pub with_flows : InputHandle → List LinkFlow → (InputHandle → List LinkFlow)
+    → InputHandle → List LinkFlow
 with_flows input flows held other = if same_input input other then flows else held other
 
 -- what is held once one more flow, which may name no link, is held for its handle
-abbrev pub with_held : Option LinkFlow → (InputHandle → List LinkFlow) → InputHandle → List LinkFlow
+abbrev pub with_held : Option LinkFlow → (InputHandle → List LinkFlow)
+    → InputHandle → List LinkFlow
 with_held None held = held
 with_held (Some flow) held =
     with_flows (input_of flow.handle) (held (input_of flow.handle) ++ flow ∷ []) held

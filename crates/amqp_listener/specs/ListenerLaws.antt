@@ -1,8 +1,7 @@
 -- What the calls of a listener leave of the session in it: the laws of `Session` for a listener.
-use Rattle.std.specs.Prelude.{◌≡◌, ◌⊎◌, Bool, true, false, Result, Ok, Err, List}
+use Rattle.std.specs.Prelude.{◌≡◌, Bool, true, false, Result, Ok, Err, List}
 use Rattle.std.proofs.Common.{refl, ap, inl, inr, sym, ◌∙◌, subst}
 use Rattle.amqp_txn_types.specs.declared.performatives.Attach.{Attach}
-use Rattle.amqp_txn_types.specs.declared.performatives.Flow.{Flow}
 use Rattle.amqp_txn_types.specs.declared.performatives.Frame.{Frame}
 use Rattle.amqp_txn_types.specs.declared.performatives.Frame.TheVariants as frames
 use Rattle.amqp_txn_types.specs.declared.text.Text.{Text}
@@ -11,7 +10,7 @@ use Rattle.amqp_layer.specs.declared.inner_error.SessionInnerError.{SessionInner
 use Rattle.amqp_layer.specs.declared.inner_error.SessionInnerError.TheVariants as faults
 use Rattle.amqp_layer.specs.Inner.{Took}
 use Rattle.amqp_layer.specs.Told.{Told}
-use Rattle.amqp_sessions.specs.Names.{Attaches, AttachLeaves, FrameLeaves, LeftBy, Names, SameNames, state_attached}
+use Rattle.amqp_sessions.specs.Names.{Attaches, AttachLeaves, LeftBy, Names, SameNames, state_attached}
 use Rattle.amqp_sessions.specs.Sessions.{Kept, LeavesFrame}
 use Rattle.amqp_sessions.specs.declared.relay.NameState.{NameState}
 use Rattle.amqp_sessions.specs.declared.relay.NameState.TheVariants.{Unknown, Waiting, Taken}
@@ -109,7 +108,7 @@ module _ {S : Type 0} (told : S → Told) (kept : S → Kept) (names : S → Nam
         → (kept new ≡ kept old) × LeftBy (SameNames (names old) (names new)) (SameNames (names old) (names new)) result
     passed-leaves old new frame answer result left is =
         let Left : Result (List Frame) SessionInnerError → Type 0 =
-            LeftBy (SameNames (names old) (names new)) (SameNames (names old) (names new)) in
+        LeftBy (SameNames (names old) (names new)) (SameNames (names old) (names new)) in
         (left.0, subst Left (sym is) (left-let_pass _ answer left.1))
 
     -- an incoming frame call
@@ -122,16 +121,16 @@ module _ {S : Type 0} (told : S → Told) (kept : S → Kept) (names : S → Nam
     heard-leaves old new (frames.Flow flow) answer heard =
         elim heard.hears.0 [
           | inl a ↦
-            let left = law (inner_of old) (inner_of new) (frames.Flow flow) a.0 a.1.inner.gave in
-            let now = passed-leaves (inner_of old) (inner_of new) (frames.Flow flow) a.0 answer (left.kept, left.names) a.1.result_is in
-            record { kept = now.0; names = now.1 }
+              let left = law (inner_of old) (inner_of new) (frames.Flow flow) a.0 a.1.inner.gave in
+              let now = passed-leaves (inner_of old) (inner_of new) (frames.Flow flow) a.0 answer (left.kept, left.names) a.1.result_is in
+              record { kept = now.0; names = now.1 }
           | inr none ↦
-            let Left : Result (List Frame) SessionInnerError → Type 0 =
-                LeftBy (SameNames (names (inner_of old)) (names (inner_of new))) (SameNames (names (inner_of old)) (names (inner_of new))) in
-            record {
-              kept = ap kept none.inner;
-              names = subst Left (sym none.result_is) (inr (names-same (inner_of old) (inner_of new) none.inner));
-            }
+              let Left : Result (List Frame) SessionInnerError → Type 0 =
+              LeftBy (SameNames (names (inner_of old)) (names (inner_of new))) (SameNames (names (inner_of old)) (names (inner_of new))) in
+              record {
+                kept = ap kept none.inner;
+                names = subst Left (sym none.result_is) (inr (names-same (inner_of old) (inner_of new) none.inner));
+              }
         ]
     heard-leaves old new (frames.Transfer transfer payload) answer heard =
         let h = heard.hears.0 in

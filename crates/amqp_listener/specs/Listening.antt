@@ -1,5 +1,5 @@
 -- What a listener keeps beside the session in it, and what its calls do to both.
-use Rattle.std.specs.Prelude.{ℕ, ◌≡◌, ◌⊎◌, [], Option, Result, Ok, Err, List}
+use Rattle.std.specs.Prelude.{ℕ, ◌≡◌, ◌⊎◌, [], Result, Ok, Err, List}
 use Rattle.amqp_txn_types.specs.Counts.{one_more}
 use Rattle.amqp_txn_types.specs.declared.small.InputHandle.{InputHandle}
 use Rattle.amqp_txn_types.specs.declared.small.OutputHandle.{OutputHandle}
@@ -75,12 +75,13 @@ pub record ChangesQueue {S : Type 0} (old new : ListenerSession S) (queue : Queu
   pub control : control_of new ≡ control_of old
   pub own : own_of new ≡ own_of old
 
--- what is held once an allocation was answered: of the handle's flows nothing, where it was allocated
-abbrev pub held_after : Result OutputHandle AllocLinkError → InputHandle → (InputHandle → List LinkFlow) → InputHandle → List LinkFlow
+-- what is held once an allocation was answered: nothing for the handle, where it was allocated
+abbrev pub held_after : Result OutputHandle AllocLinkError → InputHandle
+    → (InputHandle → List LinkFlow) → InputHandle → List LinkFlow
 held_after (Ok output) input held = with_flows input [] held
 held_after (Err error) input held = held
 
--- the session allocates the link, with the flows that are held for its handle after those of its relay
+-- the session allocates the link, with the flows that are held for its handle after its relay's own
 pub record Replays {S : Type 0} (told : S → Told)
     (gives : S → S → Text → Relay → InputHandle → Result OutputHandle AllocLinkError → Type 0)
     (old new : S) (held held_now : InputHandle → List LinkFlow) (name : Text) (relay : Relay)

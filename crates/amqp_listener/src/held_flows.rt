@@ -111,11 +111,7 @@ fn grow_list(flows: &mut FlowsByHandle, input: InputHandle) -> Result<(), NoMemo
 }
 
 /// A list with room for one flow, for a handle that has none. The only error is want of memory.
-fn start_list(
-    flows: &mut FlowsByHandle,
-    alloc: Global,
-    input: InputHandle,
-) -> Result<(), NoMemory>
+fn start_list(flows: &mut FlowsByHandle, alloc: Global, input: InputHandle) -> Result<(), NoMemory>
     requires { entry_of same_input flows.old input ≡ None }
     ensures same { SameLists flows.old flows.new }
     ensures room { OnOk result (ListHasRoom (entry_of same_input flows.new input)) }

@@ -2,7 +2,7 @@
 //!
 //! | type | is |
 //! |---|---|
-//! | [`ListenerSession`] | a session with a queue of attaches, and flows that came before their link |
+//! | [`ListenerSession`] | a session with a queue of attaches, and flows that wait for a link |
 //!
 //! An attach takes one of three ways:
 //!
@@ -26,13 +26,13 @@
 //! listener.on_incoming_flow(flow)?; // its link isn't allocated yet: held
 //! let Some(attach) = listener.next_attach() else { .. };
 //! let input = InputHandle(attach.handle.0);
-//! let output = listener.allocate_incoming_link(attach.name, relay, input)?; // the flow is replayed
+//! let output = listener.allocate_incoming_link(attach.name, relay, input)?; // replayed
 //! ```
 //!
-//! Below stand the sessions of `amqp_sessions`, the endpoints of `amqp_endpoints` and the acceptor of
-//! control links of `amqp_acceptors`. The promise that this crate carries: the queue gives attaches in
-//! the order in which they came; held flows are replayed in that order where their handle is allocated,
-//! and stay held where that is refused. 'The standard' is OASIS AMQP 1.0.
+//! Below stand the sessions of `amqp_sessions`, the endpoints of `amqp_endpoints` and the acceptor
+//! of control links of `amqp_acceptors`. The promise that this crate carries: the queue gives
+//! attaches in the order in which they came; held flows are replayed in that order where their
+//! handle is allocated, and stay held where that is refused. 'The standard' is OASIS AMQP 1.0.
 #![tactic(auto)]
 
 mod attach_queue;

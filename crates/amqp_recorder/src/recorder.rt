@@ -137,7 +137,14 @@ impl<S: LayerBelow> Recorder<S> {
             }
         };
         let answer = on_incoming_frame(&mut self.session, frame);
-        after_call(self.alloc, exchanges, refused, &mut self.refusals, copy, answer)
+        after_call(
+            self.alloc,
+            exchanges,
+            refused,
+            &mut self.refusals,
+            copy,
+            answer,
+        )
     }
 }
 

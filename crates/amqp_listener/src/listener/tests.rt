@@ -11,7 +11,6 @@ use amqp_txn_types::{
     ReceiverSettleMode, Role, SenderSettleMode, SessionStopReason, TargetArchetype, Text,
     TransactionError, TransactionId,
 };
-use std::test::Fail;
 
 fn listener(alloc: Global) -> ListenerSession<PlainSession> {
     let begin = Begin {
@@ -28,21 +27,21 @@ fn listener(alloc: Global) -> ListenerSession<PlainSession> {
     ListenerSession::new(alloc, plain, ControlLinkAcceptor::default())
 }
 
-fn attach(alloc: Global, name: &str, handle: u32) -> Result<Attach, Fail> {
-    Ok(Attach {
-        name: Text::from_str(alloc, name)?,
+fn attach(name: Text, handle: u32, target: Option<TargetArchetype>) -> Attach {
+    Attach {
+        name,
         handle: Handle(handle),
         role: Role::Sender,
         snd_settle_mode: SenderSettleMode::Mixed,
         rcv_settle_mode: ReceiverSettleMode::First,
         source: None,
-        target: None,
+        target,
         initial_delivery_count: None,
         max_message_size: None,
         offered_capabilities: None,
         desired_capabilities: None,
         properties: None,
-    })
+    }
 }
 
 /// A flow that grants credit to the link with a handle.
@@ -72,119 +71,196 @@ fn relay(alloc: Global) -> Relay {
     }
 }
 
-/// The name of the next attach that waits.
-fn next_name(listener: &mut ListenerSession<PlainSession>) -> Option<Text> {
-    match listener.next_attach() {
-        None => None,
-        Some(attach) => Some(attach.name),
-    }
-}
-
-#[test]
-fn attaches_wait_in_order(rt: HostRuntime) -> Result<(), Fail> {
-    let alloc = rt.alloc();
-    let mut listener = listener(alloc);
-    let given = listener.on_incoming_attach(attach(alloc, "a", 1)?)?;
-    assert_eq!(rt; given.len(), 0);
-    listener.on_incoming_attach(attach(alloc, "b", 2)?)?;
-    assert!(rt; next_name(&mut listener) == Some(Text::from_str(alloc, "a")?));
-    assert!(rt; next_name(&mut listener) == Some(Text::from_str(alloc, "b")?));
-    assert!(rt; next_name(&mut listener).is_none());
-    assert!(rt; !listener.listener_closed());
-    Ok(())
-}
-
-#[test]
-fn a_closed_queue_refuses_by_the_name(rt: HostRuntime) -> Result<(), Fail> {
-    let alloc = rt.alloc();
-    let mut listener = listener(alloc);
-    let name = Text::from_str(alloc, "a")?;
-    listener.allocate_incoming_link(name, relay(alloc), InputHandle(5))?;
-    listener.close_listener();
-    assert!(rt; listener.listener_closed());
-    let taken = listener.on_incoming_attach(attach(alloc, "a", 1)?);
-    assert!(rt; taken == Err(SessionInnerError::HandleInUse));
-    let unknown = listener.on_incoming_attach(attach(alloc, "b", 2)?);
-    assert!(rt; unknown == Err(SessionInnerError::UnattachedHandle));
-    Ok(())
-}
-
-#[test]
-fn an_attach_that_is_waited_for_passes_the_queue(rt: HostRuntime) -> Result<(), Fail> {
-    let alloc = rt.alloc();
-    let mut listener = listener(alloc);
-    listener.allocate_link(Text::from_str(alloc, "a")?, relay(alloc))?;
-    listener.close_listener();
-    listener.on_incoming_attach(attach(alloc, "a", 1)?)?;
-    assert!(rt; listener.name_state(&Text::from_str(alloc, "a")?) == NameState::Taken);
-    Ok(())
-}
-
-/// The credits of the flows that were passed on to a link.
-fn credits(
-    alloc: Global,
-    listener: &ListenerSession<PlainSession>,
-    output: OutputHandle,
-) -> Result<Vec<Option<u32>>, Fail> {
-    let mut credits = Vec::new(alloc);
-    if let Some(relay) = listener.session.relay(output) {
-        for flow in &relay.flows {
-            credits.push(flow.link_credit)?;
+/// Whether the answer is an Ok with this many frames.
+fn gives(answer: Result<Frames, SessionInnerError>, count: usize) -> bool {
+    match answer {
+        Ok(given) => given.len() == count,
+        Err(error) => {
+            drop(error);
+            false
         }
     }
-    Ok(credits)
+}
+
+/// Whether the answer is this Err.
+fn refuses<T: Drop, E: PartialEq + Drop>(answer: Result<T, E>, wanted: E) -> bool {
+    match answer {
+        Ok(value) => {
+            drop(value);
+            false
+        }
+        Err(error) => error == wanted,
+    }
+}
+
+/// The peer attaches a link.
+fn attach_to(
+    alloc: Global,
+    listener: &mut ListenerSession<PlainSession>,
+    name: &str,
+) -> Result<Frames, SessionInnerError> {
+    match Text::from_str(alloc, name) {
+        Ok(name) => listener.on_incoming_attach(attach(name, 5, None)),
+        Err(_) => Err(SessionInnerError::NoMemory),
+    }
+}
+
+/// The peer attaches the control link "c".
+fn attach_control(
+    alloc: Global,
+    listener: &mut ListenerSession<PlainSession>,
+) -> Result<Frames, SessionInnerError> {
+    let target = TargetArchetype::Coordinator(Coordinator { capabilities: None });
+    match Text::from_str(alloc, "c") {
+        Ok(name) => listener.on_control_attach(&attach(name, 3, Some(target))),
+        Err(_) => Err(SessionInnerError::NoMemory),
+    }
+}
+
+/// Whether the next attach that waits is of this name.
+fn is_next(listener: &mut ListenerSession<PlainSession>, name: &str) -> bool {
+    match listener.next_attach() {
+        None => false,
+        Some(attach) => attach.name.as_str() == name,
+    }
+}
+
+/// Whether no attach waits.
+fn none_waits(listener: &mut ListenerSession<PlainSession>) -> bool {
+    listener.next_attach().is_none()
+}
+
+/// Whether the name is known so.
+fn is_known(
+    alloc: Global,
+    listener: &ListenerSession<PlainSession>,
+    name: &str,
+    state: NameState,
+) -> bool {
+    match Text::from_str(alloc, name) {
+        Ok(name) => listener.name_state(&name) == state,
+        Err(_) => false,
+    }
+}
+
+/// Allocates a link of this side.
+fn allocate(
+    alloc: Global,
+    listener: &mut ListenerSession<PlainSession>,
+    name: &str,
+) -> Result<OutputHandle, AllocLinkError> {
+    match Text::from_str(alloc, name) {
+        Ok(name) => listener.allocate_link(name, relay(alloc)),
+        Err(_) => Err(AllocLinkError::NoMemory),
+    }
+}
+
+/// Allocates a link that the peer attached on handle 5.
+fn allocate_incoming(
+    alloc: Global,
+    listener: &mut ListenerSession<PlainSession>,
+    name: &str,
+) -> Result<OutputHandle, AllocLinkError> {
+    match Text::from_str(alloc, name) {
+        Ok(name) => listener.allocate_incoming_link(name, relay(alloc), InputHandle(5)),
+        Err(_) => Err(AllocLinkError::NoMemory),
+    }
+}
+
+/// Whether two flows were passed on to a link that was allocated, with these credits.
+fn has_credits(
+    listener: &ListenerSession<PlainSession>,
+    allocated: Result<OutputHandle, AllocLinkError>,
+    first: u32,
+    second: u32,
+) -> bool {
+    let Ok(output) = allocated else {
+        return false;
+    };
+    let Some(relay) = listener.session.relay(output) else {
+        return false;
+    };
+    match relay.flows.as_slice() {
+        [one, other] => { one.link_credit == Some(first) && other.link_credit == Some(second) }
+        _ => false,
+    }
 }
 
 #[test]
-fn held_flows_are_replayed_in_order(rt: HostRuntime) -> Result<(), Fail> {
+fn attaches_wait_in_order(rt: HostRuntime) {
     let alloc = rt.alloc();
     let mut listener = listener(alloc);
-    let given = listener.on_incoming_flow(granting(5, 1))?;
-    assert_eq!(rt; given.len(), 0);
-    listener.on_incoming_flow(granting(6, 9))?;
-    listener.on_incoming_flow(granting(5, 2))?;
-    let name = Text::from_str(alloc, "a")?;
-    let output = listener.allocate_incoming_link(name, relay(alloc), InputHandle(5))?;
-    let credits = credits(alloc, &listener, output)?;
-    assert_eq!(rt; credits.as_slice(), [Some(1), Some(2)].as_slice());
-    Ok(())
+    assert!(rt; gives(attach_to(alloc, &mut listener, "a"), 0));
+    assert!(rt; gives(attach_to(alloc, &mut listener, "b"), 0));
+    assert!(rt; is_next(&mut listener, "a"));
+    assert!(rt; is_next(&mut listener, "b"));
+    assert!(rt; none_waits(&mut listener));
+    assert!(rt; !listener.listener_closed());
+    drop(listener);
 }
 
 #[test]
-fn held_flows_stay_where_the_link_is_refused(rt: HostRuntime) -> Result<(), Fail> {
+fn a_closed_queue_refuses_by_the_name(rt: HostRuntime) {
     let alloc = rt.alloc();
     let mut listener = listener(alloc);
-    listener.allocate_link(Text::from_str(alloc, "a")?, relay(alloc))?;
-    listener.on_incoming_flow(granting(5, 1))?;
-    listener.on_incoming_flow(granting(5, 2))?;
-    let again = Text::from_str(alloc, "a")?;
-    let refused = listener.allocate_incoming_link(again, relay(alloc), InputHandle(5));
-    assert!(rt; refused == Err(AllocLinkError::DuplicatedLinkName));
-    let name = Text::from_str(alloc, "b")?;
-    let output = listener.allocate_incoming_link(name, relay(alloc), InputHandle(5))?;
-    let credits = credits(alloc, &listener, output)?;
-    assert_eq!(rt; credits.as_slice(), [Some(1), Some(2)].as_slice());
-    Ok(())
-}
-
-fn control_attach(alloc: Global) -> Result<Attach, Fail> {
-    let mut attach = attach(alloc, "c", 3)?;
-    attach.target = Some(TargetArchetype::Coordinator(Coordinator { capabilities: None }));
-    Ok(attach)
+    assert!(rt; allocate_incoming(alloc, &mut listener, "a") == Ok(OutputHandle(0)));
+    listener.close_listener();
+    assert!(rt; listener.listener_closed());
+    let taken = attach_to(alloc, &mut listener, "a");
+    assert!(rt; refuses(taken, SessionInnerError::HandleInUse));
+    let unknown = attach_to(alloc, &mut listener, "b");
+    assert!(rt; refuses(unknown, SessionInnerError::UnattachedHandle));
+    drop(listener);
 }
 
 #[test]
-fn a_control_link_is_answered(rt: HostRuntime) -> Result<(), Fail> {
+fn an_attach_that_is_waited_for_passes_the_queue(rt: HostRuntime) {
     let alloc = rt.alloc();
     let mut listener = listener(alloc);
-    let given = listener.on_control_attach(&control_attach(alloc)?)?;
-    assert_eq!(rt; given.len(), 2);
-    let again = listener.on_control_attach(&control_attach(alloc)?);
-    assert!(rt; again == Err(SessionInnerError::HandleInUse));
+    assert!(rt; allocate(alloc, &mut listener, "a") == Ok(OutputHandle(0)));
+    assert!(rt; gives(attach_to(alloc, &mut listener, "a"), 0));
+    assert!(rt; is_known(alloc, &listener, "a", NameState::Taken));
+    assert!(rt; none_waits(&mut listener));
+    drop(listener);
+}
+
+#[test]
+fn held_flows_are_replayed_in_order(rt: HostRuntime) {
+    let alloc = rt.alloc();
+    let mut listener = listener(alloc);
+    assert!(rt; gives(listener.on_incoming_flow(granting(5, 1)), 0));
+    assert!(rt; gives(listener.on_incoming_flow(granting(6, 9)), 0));
+    assert!(rt; gives(listener.on_incoming_flow(granting(5, 2)), 0));
+    let allocated = allocate_incoming(alloc, &mut listener, "a");
+    assert!(rt; has_credits(&listener, allocated, 1, 2));
+    drop(listener);
+}
+
+#[test]
+fn held_flows_stay_where_the_link_is_refused(rt: HostRuntime) {
+    let alloc = rt.alloc();
+    let mut listener = listener(alloc);
+    assert!(rt; allocate(alloc, &mut listener, "a") == Ok(OutputHandle(0)));
+    assert!(rt; gives(listener.on_incoming_flow(granting(5, 1)), 0));
+    assert!(rt; gives(listener.on_incoming_flow(granting(5, 2)), 0));
+    let refused = allocate_incoming(alloc, &mut listener, "a");
+    assert!(rt; refuses(refused, AllocLinkError::DuplicatedLinkName));
+    let allocated = allocate_incoming(alloc, &mut listener, "b");
+    assert!(rt; has_credits(&listener, allocated, 1, 2));
+    drop(listener);
+}
+
+#[test]
+fn a_control_link_is_answered(rt: HostRuntime) {
+    let alloc = rt.alloc();
+    let mut listener = listener(alloc);
+    assert!(rt; gives(attach_control(alloc, &mut listener), 2));
+    let again = attach_control(alloc, &mut listener);
+    assert!(rt; refuses(again, SessionInnerError::HandleInUse));
     listener.set_session_stop_reason(SessionStopReason::Ended);
-    let stopped = listener.on_control_attach(&control_attach(alloc)?);
-    assert!(rt; stopped == Err(SessionInnerError::IllegalState));
-    Ok(())
+    let stopped = attach_control(alloc, &mut listener);
+    assert!(rt; refuses(stopped, SessionInnerError::IllegalState));
+    drop(listener);
 }
 
 #[test]
@@ -192,8 +268,9 @@ fn a_listener_does_no_transactions(rt: HostRuntime) {
     let mut listener = listener(rt.alloc());
     let id = TransactionId::from([7; 16]);
     let allocated = listener.allocate_transaction_id(&mut CountIds::new());
-    assert!(rt; allocated == Err(AllocTxnIdError::NotImplemented));
+    assert!(rt; refuses(allocated, AllocTxnIdError::NotImplemented));
     let unknown = TransactionError::UnknownId;
     assert!(rt; listener.commit_transaction(&id) == Ok(Err(unknown)));
     assert!(rt; listener.rollback_transaction(&id) == Err(unknown));
+    drop(listener);
 }
