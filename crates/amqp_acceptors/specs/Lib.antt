@@ -5,3 +5,4 @@ pub mod Replies
 pub mod Opening
 pub mod Accepting
 pub mod Receivers
+pub mod Senders

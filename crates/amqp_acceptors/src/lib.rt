@@ -11,6 +11,7 @@ mod opening;
 mod receiver;
 mod refusals;
 mod reply;
+mod sender;
 mod termini;
 
 pub use builder::{Acceptor, Builder};
@@ -22,4 +23,5 @@ pub use modes::{SupportedReceiverSettleModes, SupportedSenderSettleModes};
 pub use opening::{OpenError, Opening};
 pub use receiver::LocalReceiverLinkAcceptor;
 pub use reply::Reply;
+pub use sender::LocalSenderLinkAcceptor;
 pub use termini::{TargetKind, Terminus};
