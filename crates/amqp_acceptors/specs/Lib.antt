@@ -6,3 +6,5 @@ pub mod Opening
 pub mod Accepting
 pub mod Receivers
 pub mod Senders
+pub mod LinkAcceptors
+pub mod Handles

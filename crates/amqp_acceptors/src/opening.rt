@@ -128,7 +128,6 @@ impl Opening {
     }
 }
 
-
 /// The relay of a link through which nothing came.
 fn new_relay(alloc: Global, name: Text, role: Role, mode: ReceiverSettleMode) -> Relay
     ensures { result ≡ relay_of name role mode }

@@ -9,8 +9,8 @@ use crate::fields::SharedLinkAcceptorFields;
 use amqp_layer::SessionInnerError;
 use amqp_sessions::Session;
 use amqp_txn_types::{
-    Attach, Flow, Frame, Frames, Handle, LinkFlow, NoMemory, OutputHandle, Role,
-    SenderSettleMode, TryClone,
+    Attach, Flow, Frame, Frames, Handle, LinkFlow, NoMemory, OutputHandle, Role, SenderSettleMode,
+    TryClone,
 };
 use std::alloc::Global;
 use std::marker::Model;

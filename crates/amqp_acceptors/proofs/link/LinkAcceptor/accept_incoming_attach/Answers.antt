@@ -1,0 +1,10 @@
+use Rattle.std.proofs.Common.{rules}
+use Rattle.amqp_acceptors.proofs.Stopping.{stop-uncounted}
+use Rattle.amqp_acceptors.proofs.link.LinkAcceptor.accept_incoming_attach.Goals as goal
+
+-- the session had stopped
+pub returns-in-Some-clause-told : goal.returns-in-Some-clause-told
+returns-in-Some-clause-told g c = record {
+  steady = search rules;
+  cause = stop-uncounted _ _ _ _ c.stopped.ensures;
+}
