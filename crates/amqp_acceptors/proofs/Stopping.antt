@@ -7,14 +7,14 @@ use Rattle.amqp_acceptors.specs.declared.endpoint.AcceptorAttachError.{AcceptorA
 use Rattle.amqp_acceptors.specs.LinkAcceptors.{OnLinkRefusal, TellsStop, no_memory_for}
 
 -- want of memory at a local end
-no_memory-uncounted : {A : Type 0} (role : Role) (P : Type 0)
+no_memory-uncounted : (A : Type 0) (role : Role) (P : Type 0)
     → OnLinkRefusal {A = A} (Err (no_memory_for role)) P
-no_memory-uncounted roles.Sender P = tt
-no_memory-uncounted roles.Receiver P = tt
+no_memory-uncounted A roles.Sender P = tt
+no_memory-uncounted A roles.Receiver P = tt
 
 -- a stop that is told, or that memory lacks to tell
-pub stop-uncounted : {A : Type 0} (reason : SessionStopReason) (role : Role)
+pub stop-uncounted : (A : Type 0) (reason : SessionStopReason) (role : Role)
     (error : AcceptorAttachError) (P : Type 0) → TellsStop reason role error
     → OnLinkRefusal {A = A} (Err error) P
-stop-uncounted {A} reason role error P (inl told) = rw told tt
-stop-uncounted {A} reason role error P (inr lacks) = rw lacks (no_memory-uncounted {A = A} role P)
+stop-uncounted A reason role error P (inl told) = rw told tt
+stop-uncounted A reason role error P (inr lacks) = rw lacks (no_memory-uncounted A role P)

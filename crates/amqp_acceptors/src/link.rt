@@ -1,15 +1,19 @@
 //! The acceptor for links of both roles.
 
-ghost use Rattle.std.specs.Prelude.{◌≡◌, Some, codes};
+ghost use Rattle.std.specs.Prelude.{◌≡◌, Some, codes, option_copied};
+ghost use Rattle.amqp_txn_types.specs.declared.small.Role.TheVariants as roles;
+ghost use Rattle.amqp_acceptors.specs.Handles.{stop_or_ended};
 ghost use Rattle.amqp_acceptors.specs.LinkAcceptors.{TellsStop};
 
 use crate::builder::{Acceptor, Builder};
 use crate::dynamic::{OnDynamic, RejectDynamic};
 use crate::endpoint::{AcceptorAttachError, LinkEndpoint};
 use crate::fields::SharedLinkAcceptorFields;
+use crate::handle::ListenerSessionHandle;
 use crate::receiver::LocalReceiverLinkAcceptor;
 use crate::sender::LocalSenderLinkAcceptor;
-use amqp_endpoints::{ReceiverAttachError, SenderAttachError};
+use amqp_endpoints::{ListenerSessionEndpoint, ReceiverAttachError, SenderAttachError};
+use amqp_links::Poll;
 use amqp_sessions::Session;
 use amqp_txn_types::{
     Attach, Frames, NoMemory, Role, SessionStopReason, Source, Target, TryClone, is_coordinator,
@@ -135,6 +139,7 @@ impl<FS, FT> LinkAcceptor<FS, FT> {
 
 impl<FS: OnDynamic<Source>, FT: OnDynamic<Target>> LinkAcceptor<FS, FT> {
     ghost use Rattle.amqp_acceptors.specs.Accepting.{AcceptLeaves};
+    ghost use Rattle.amqp_acceptors.specs.Handles.{AcceptsNext, NextTold};
     ghost use Rattle.amqp_acceptors.specs.LinkAcceptors.{AcceptsEnd, AcceptsLink, LinkTold};
     ghost use Rattle.amqp_acceptors.specs.Opening.{OpensThrough};
 
@@ -178,6 +183,49 @@ impl<FS: OnDynamic<Source>, FT: OnDynamic<Target>> LinkAcceptor<FS, FT> {
         self.accept_by_role(alloc, remote, session)
     }
 
+    /// Takes the attach that came first out of the session's queue, and accepts it. It is `Pending`
+    /// exactly where the queue is empty and not closed.
+    ///
+    /// Errors: `SessionStopped` where the queue is closed and empty, with the reason that the session
+    /// keeps, or `Ended` where it keeps none; else those of
+    /// [`LinkAcceptor::accept_incoming_attach`], and the attach is then out of the queue. Want of
+    /// memory to tell why the session stopped is that of a local receiver.
+    ///
+    /// # Requires
+    ///
+    /// The rules for dynamic sources and targets may be asked.
+    pub fn accept<E: ListenerSessionEndpoint>(
+        &self,
+        alloc: Global,
+        handle: &mut ListenerSessionHandle<'_, E>,
+    ) -> Poll<Result<(LinkEndpoint, Frames), AcceptorAttachError>>
+        requires source { FS.can_decide self.now.local_sender_acceptor.on_dynamic_source }
+        requires target { FT.can_decide self.now.local_receiver_acceptor.on_dynamic_target }
+        ensures same { handle.new.session.ghost_name ≡ handle.old.session.ghost_name }
+        ensures told { NextTold (E.told handle.old.session.now) (E.told handle.new.session.now)
+            result }
+        ensures kept { E.kept handle.new.session.now ≡ E.kept handle.old.session.now }
+        ensures accepts { AcceptsNext E.next_attach_gives (E.queue handle.old.session.now)
+            (E.kept handle.old.session.now).stop (λ remote. AcceptsLink
+            (FS.decides self.now.local_sender_acceptor.on_dynamic_source)
+            (FT.decides self.now.local_receiver_acceptor.on_dynamic_target)
+            self.now (E.kept handle.old.session.now).stop remote (OpensThrough
+            E.allocate_incoming_link_gives E.outgoing_flow_gives E.deallocate_link_gives))
+            handle.old.session.now handle.new.session.now result }
+    {
+        match handle.next_incoming_attach() {
+            Poll::Pending => Poll::Pending,
+            Poll::Ready(None) => {
+                let reason = handle.session.session_stop_reason();
+                Poll::Ready(Err(stopped_or_ended(reason)))
+            }
+            Poll::Ready(Some(remote)) => {
+                let answer = self.accept_incoming_attach(alloc, remote, &mut *handle.session);
+                Poll::Ready(answer)
+            }
+        }
+    }
+
     /// Accepts a link by the peer's role.
     fn accept_by_role<S: Session>(
         &self,
@@ -214,8 +262,19 @@ impl<FS: OnDynamic<Source>, FT: OnDynamic<Target>> LinkAcceptor<FS, FT> {
     }
 }
 
+/// That the session had stopped, for the reason that is kept or because it ended; or want of memory
+/// at a local receiver.
+fn stopped_or_ended(reason: Option<&SessionStopReason>) -> AcceptorAttachError
+    ensures { TellsStop (stop_or_ended (option_copied reason.entry)) roles.Sender result }
+{
+    match reason {
+        Some(reason) => stopped(reason, Role::Sender),
+        None => AcceptorAttachError::SessionStopped(SessionStopReason::Ended),
+    }
+}
+
 /// That the session had stopped; or want of memory at the local end, by the peer's role.
-pub(crate) fn stopped(reason: &SessionStopReason, role: Role) -> AcceptorAttachError
+fn stopped(reason: &SessionStopReason, role: Role) -> AcceptorAttachError
     ensures { TellsStop reason.now role result }
 {
     match (reason.try_clone(), role) {
