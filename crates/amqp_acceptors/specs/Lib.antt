@@ -5,3 +5,6 @@ pub mod Replies
 pub mod Opening
 pub mod Accepting
 pub mod Receivers
+pub mod Senders
+pub mod LinkAcceptors
+pub mod Handles

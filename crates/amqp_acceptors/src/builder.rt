@@ -1,12 +1,16 @@
 //! Acceptors are built field by field.
 
 ghost use Rattle.std.specs.Prelude.{◌≡◌, Some};
+ghost use Rattle.amqp_acceptors.specs.LinkAcceptors.{with_source_rule, with_target_rule};
 
 use crate::control::ControlLinkAcceptor;
 use crate::credit::CreditMode;
 use crate::fields::SharedLinkAcceptorFields;
+use crate::link::{LinkAcceptor, LocalEnds};
 use crate::modes::{SupportedReceiverSettleModes, SupportedSenderSettleModes};
-use amqp_txn_types::{Fields, ReceiverSettleMode, SenderSettleMode, Symbols};
+use crate::receiver::LocalReceiverLinkAcceptor;
+use crate::sender::LocalSenderLinkAcceptor;
+use amqp_txn_types::{Fields, ReceiverSettleMode, SenderSettleMode, Symbols, Target};
 
 /// An acceptor as two parts: what its links have in common, and what it gives the local ends.
 pub trait Acceptor {
@@ -209,5 +213,163 @@ impl Builder<ControlLinkAcceptor> {
     {
         self.ends.verify_incoming_target = verify;
         self
+    }
+}
+
+impl<FS, FT> Builder<LinkAcceptor<FS, FT>> {
+    /// The delivery count that local senders begin with.
+    pub fn initial_delivery_count(mut self, count: u32) -> Self
+        ensures { result ≡ record self {
+          ends = record self.ends {
+            sender = record self.ends.sender { initial_delivery_count = count };
+          };
+        } }
+    {
+        self.ends.sender.initial_delivery_count = count;
+        self
+    }
+
+    /// What their source can do.
+    pub fn source_capabilities(mut self, capabilities: Symbols) -> Self
+        ensures { result ≡ record self {
+          ends = record self.ends {
+            sender = record self.ends.sender { source_capabilities = Some capabilities };
+          };
+        } }
+    {
+        self.ends.sender.source_capabilities = Some(capabilities);
+        self
+    }
+
+    /// How local receivers grant credit.
+    pub fn credit_mode(mut self, mode: CreditMode) -> Self
+        ensures { result ≡ record self {
+          ends = record self.ends {
+            receiver = record self.ends.receiver { credit_mode = mode };
+          };
+        } }
+    {
+        self.ends.receiver.credit_mode = mode;
+        self
+    }
+
+    /// What their target can do.
+    pub fn target_capabilities(mut self, capabilities: Symbols) -> Self
+        ensures { result ≡ record self {
+          ends = record self.ends {
+            receiver = record self.ends.receiver { target_capabilities = Some capabilities };
+          };
+        } }
+    {
+        self.ends.receiver.target_capabilities = Some(capabilities);
+        self
+    }
+
+    /// Whether link bodies accept all deliveries by themselves.
+    pub fn auto_accept(mut self, accept: bool) -> Self
+        ensures { result ≡ record self {
+          ends = record self.ends {
+            receiver = record self.ends.receiver { auto_accept = accept };
+          };
+        } }
+    {
+        self.ends.receiver.auto_accept = accept;
+        self
+    }
+
+    /// Whether link bodies of both roles verify the peer's source.
+    pub fn verify_incoming_source(mut self, verify: bool) -> Self
+        ensures { result ≡ record self {
+          ends = record {
+            sender = record self.ends.sender { verify_incoming_source = verify };
+            receiver = record self.ends.receiver { verify_incoming_source = verify };
+          };
+        } }
+    {
+        self.ends.sender.verify_incoming_source = verify;
+        self.ends.receiver.verify_incoming_source = verify;
+        self
+    }
+
+    /// Whether link bodies of both roles verify the peer's target.
+    pub fn verify_incoming_target(mut self, verify: bool) -> Self
+        ensures { result ≡ record self {
+          ends = record {
+            sender = record self.ends.sender { verify_incoming_target = verify };
+            receiver = record self.ends.receiver { verify_incoming_target = verify };
+          };
+        } }
+    {
+        self.ends.sender.verify_incoming_target = verify;
+        self.ends.receiver.verify_incoming_target = verify;
+        self
+    }
+
+    /// The rule of local senders for a source that the peer wants to be made.
+    pub fn on_dynamic_source<F>(self, rule: F) -> Builder<LinkAcceptor<F, FT>>
+    where
+        FS: Drop,
+        ensures shared { result.shared ≡ self.shared }
+        ensures sender { result.ends.sender ≡ with_source_rule self.ends.sender rule }
+        ensures receiver { result.ends.receiver ≡ self.ends.receiver }
+    {
+        let Builder { shared, ends } = self;
+        let LocalEnds { sender, receiver } = ends;
+        let sender = with_source_rule(sender, rule);
+        Builder {
+            shared,
+            ends: LocalEnds { sender, receiver },
+        }
+    }
+
+    /// The rule of local receivers for a target that the peer wants to be made.
+    pub fn on_dynamic_target<F>(self, rule: F) -> Builder<LinkAcceptor<FS, F>>
+    where
+        FT: Drop,
+        ensures shared { result.shared ≡ self.shared }
+        ensures sender { result.ends.sender ≡ self.ends.sender }
+        ensures receiver { result.ends.receiver ≡ with_target_rule self.ends.receiver rule }
+    {
+        let Builder { shared, ends } = self;
+        let LocalEnds { sender, receiver } = ends;
+        let receiver = with_target_rule(receiver, rule);
+        Builder {
+            shared,
+            ends: LocalEnds { sender, receiver },
+        }
+    }
+}
+
+/// The sender with another rule for dynamic sources.
+fn with_source_rule<F: Drop, G>(
+    sender: LocalSenderLinkAcceptor<F>,
+    rule: G,
+) -> LocalSenderLinkAcceptor<G>
+    ensures { result ≡ with_source_rule sender rule }
+{
+    LocalSenderLinkAcceptor {
+        initial_delivery_count: sender.initial_delivery_count,
+        source_capabilities: sender.source_capabilities,
+        on_dynamic_source: rule,
+        verify_incoming_source: sender.verify_incoming_source,
+        verify_incoming_target: sender.verify_incoming_target,
+    }
+}
+
+/// The receiver with another rule for dynamic targets.
+fn with_target_rule<F: Drop, G>(
+    receiver: LocalReceiverLinkAcceptor<Target, F>,
+    rule: G,
+) -> LocalReceiverLinkAcceptor<Target, G>
+    ensures { result ≡ with_target_rule receiver rule }
+{
+    LocalReceiverLinkAcceptor {
+        credit_mode: receiver.credit_mode,
+        target_capabilities: receiver.target_capabilities,
+        auto_accept: receiver.auto_accept,
+        on_dynamic_target: rule,
+        verify_incoming_source: receiver.verify_incoming_source,
+        verify_incoming_target: receiver.verify_incoming_target,
+        target: receiver.target,
     }
 }

@@ -10,10 +10,11 @@ use crate::builder::{Acceptor, Builder};
 use crate::dynamic::RejectDynamic;
 use crate::fields::SharedLinkAcceptorFields;
 use crate::opening::Opening;
-use crate::receiver::{LocalReceiverLinkAcceptor, receiver_opening};
+use crate::receiver::LocalReceiverLinkAcceptor;
+use crate::reply::credit_flow;
 use amqp_endpoints::ReceiverAttachError;
 use amqp_sessions::Session;
-use amqp_txn_types::{Attach, Coordinator, Frames, NoMemory, TargetArchetype, TryClone};
+use amqp_txn_types::{Attach, Coordinator, Frames, NoMemory, Role, TargetArchetype, TryClone};
 use std::alloc::Global;
 
 /// The acceptor for control links: those on which a peer declares and discharges transactions.
@@ -83,13 +84,10 @@ impl ControlLinkAcceptor {
         let coordinator = Coordinator {
             capabilities: self.receiver.target_capabilities.try_clone()?,
         };
-        receiver_opening(
-            alloc,
-            &self.shared,
-            self.receiver.credit_mode,
-            remote.try_clone()?,
-            Some(TargetArchetype::Coordinator(coordinator)),
-        )
+        let mut local = remote.try_clone()?;
+        local.target = Some(TargetArchetype::Coordinator(coordinator));
+        let credit = credit_flow(self.receiver.credit_mode, remote);
+        Opening::new(alloc, &self.shared, local, Role::Receiver, None, credit)
     }
 
     /// Accepts a control link: its frames are the attach that answers the peer's and, where credit

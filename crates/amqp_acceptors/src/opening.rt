@@ -5,11 +5,13 @@ ghost use Rattle.amqp_layer.specs.Told.{Checks};
 ghost use Rattle.amqp_sessions.specs.Sessions.{StoppedBy};
 ghost use Rattle.amqp_acceptors.specs.Opening.{OpenLeaves, OpensThrough, relay_of};
 
-use crate::reply::Reply;
+use crate::fields::SharedLinkAcceptorFields;
+use crate::reply::{Reply, reply_to};
 use amqp_layer::SessionInnerError;
 use amqp_sessions::{AllocLinkError, Relay, Session};
 use amqp_txn_types::{
-    Frames, InputHandle, LinkFlows, NoMemory, OutputHandle, ReceiverSettleMode, Role, Text,
+    Attach, Frames, InputHandle, LinkEnd, LinkFlow, LinkFlows, NoMemory, OutputHandle,
+    ReceiverSettleMode, Role, Text, TryClone,
 };
 use std::alloc::Global;
 
@@ -59,6 +61,49 @@ impl From<SessionInnerError> for OpenError {
 }
 
 impl Opening {
+    ghost use Rattle.amqp_acceptors.specs.Opening.{end_of, opening_of};
+
+    /// The peer's link with this side's terminus in its place, ready to be opened. The only error
+    /// is want of memory.
+    pub(crate) fn new(
+        alloc: Global,
+        shared: &SharedLinkAcceptorFields,
+        remote: Attach,
+        role: Role,
+        initial_delivery_count: Option<u32>,
+        credit: Option<LinkFlow>,
+    ) -> Result<Self, NoMemory>
+        ensures { IfOk result (λ opening. opening ≡ opening_of shared.now remote role
+            initial_delivery_count credit) }
+    {
+        let mode = shared.receiver_mode_for(remote.rcv_settle_mode);
+        let relay = new_relay(alloc, remote.name.try_clone()?, role, mode);
+        let name = remote.name.try_clone()?;
+        let input = InputHandle(remote.handle.0);
+        let attach = reply_to(shared, remote, role, initial_delivery_count)?;
+        let reply = Reply::new(alloc, attach, credit)?;
+        Ok(Opening {
+            name,
+            relay,
+            input,
+            reply,
+        })
+    }
+
+    /// What the link's end will know of itself under an output handle. The only error is want of
+    /// memory.
+    pub(crate) fn end(&self, output: OutputHandle) -> Result<LinkEnd, NoMemory>
+        ensures { IfOk result (λ end. end ≡ end_of self.now output) }
+    {
+        Ok(LinkEnd {
+            name: self.name.try_clone()?,
+            role: self.relay.role,
+            output,
+            snd_settle_mode: self.reply.sender_mode(),
+            rcv_settle_mode: self.relay.rcv_settle_mode,
+        })
+    }
+
     /// Opens the link: the session allocates it, and then its reply is sent. It gives the link's
     /// output handle and the frames of the reply.
     ///
@@ -84,7 +129,7 @@ impl Opening {
 }
 
 /// The relay of a link through which nothing came.
-pub(crate) fn new_relay(alloc: Global, name: Text, role: Role, mode: ReceiverSettleMode) -> Relay
+fn new_relay(alloc: Global, name: Text, role: Role, mode: ReceiverSettleMode) -> Relay
     ensures { result ≡ relay_of name role mode }
 {
     Relay {

@@ -1,14 +1,22 @@
 //! The acceptor for local receivers.
 
-ghost use Rattle.std.specs.Prelude.{◌≡◌, IfOk};
-ghost use Rattle.amqp_acceptors.specs.Receivers.{receiver_opening};
+ghost use Rattle.std.specs.Prelude.{◌≡◌};
+ghost use Rattle.amqp_acceptors.specs.Accepting.{AcceptLeaves, ReceiverTold};
+ghost use Rattle.amqp_acceptors.specs.Opening.{OpensThrough};
+ghost use Rattle.amqp_acceptors.specs.Receivers.{receiver_wire};
 
 use crate::credit::CreditMode;
-use crate::dynamic::RejectDynamic;
+use crate::dynamic::{OnDynamic, RejectDynamic};
 use crate::fields::SharedLinkAcceptorFields;
-use crate::opening::{Opening, new_relay};
-use crate::reply::{Reply, credit_flow, reply_to};
-use amqp_txn_types::{Attach, InputHandle, NoMemory, Role, Symbols, TargetArchetype, TryClone};
+use crate::opening::Opening;
+use crate::reply::credit_flow;
+use crate::termini::{TargetKind, kind_of_target, local_terminus};
+use amqp_endpoints::ReceiverAttachError;
+use amqp_links::WireReceiver;
+use amqp_sessions::Session;
+use amqp_txn_types::{
+    Attach, Frames, LinkEnd, NoMemory, OutputHandle, Role, Symbols, Target, TryClone,
+};
 use std::alloc::Global;
 use std::marker::PhantomData;
 
@@ -64,30 +72,134 @@ impl<T> TryClone for LocalReceiverLinkAcceptor<T, RejectDynamic> {
     }
 }
 
-/// The receiving end of the peer's link with this target, ready to be opened. The only error is
-/// want of memory.
-pub(crate) fn receiver_opening(
-    alloc: Global,
-    shared: &SharedLinkAcceptorFields,
-    credit_mode: CreditMode,
-    remote: Attach,
-    target: Option<TargetArchetype>,
-) -> Result<Opening, NoMemory>
-    ensures { IfOk result (λ opening. opening ≡
-        receiver_opening shared.now credit_mode remote target) }
+impl<F: OnDynamic<Target>> LocalReceiverLinkAcceptor<Target, F> {
+    ghost use Rattle.amqp_acceptors.specs.Receivers.{AcceptsTarget};
+
+    /// Accepts the link of a peer's sender whose target takes messages.
+    ///
+    /// It is [`LocalReceiverLinkAcceptor::accept_incoming_attach_inner`] for such a target.
+    ///
+    /// # Requires
+    ///
+    /// The rule for dynamic targets may be asked.
+    pub fn accept_incoming_attach<S: Session>(
+        &self,
+        alloc: Global,
+        shared: &SharedLinkAcceptorFields,
+        remote: Attach,
+        session: &mut S,
+    ) -> Result<(WireReceiver, Frames), ReceiverAttachError>
+        requires { F.can_decide self.now.on_dynamic_target }
+        ensures told { ReceiverTold (S.told session.old) (S.told session.new) result }
+        ensures kept { S.kept session.new ≡ S.kept session.old }
+        ensures names { AcceptLeaves (S.names session.old) (S.names session.new) remote.name
+            result }
+        ensures accepts { AcceptsTarget (F.decides self.now.on_dynamic_target)
+            self.now.target_capabilities shared.now self.now.credit_mode remote
+            (OpensThrough S.allocate_incoming_link_gives S.outgoing_flow_gives
+            S.deallocate_link_gives) session.old session.new result }
+    {
+        self.accept_incoming_attach_inner(alloc, shared, remote, session)
+    }
+}
+
+impl<T: TargetKind, F: OnDynamic<T>> LocalReceiverLinkAcceptor<T, F> {
+    ghost use Rattle.std.specs.Prelude.{IfOk};
+    ghost use Rattle.amqp_endpoints.specs.declared.attach_errors.ReceiverAttachError.TheVariants as refusals;
+    ghost use Rattle.amqp_acceptors.specs.Accepting.{AcceptsBy};
+    ghost use Rattle.amqp_acceptors.specs.Receivers.{AcceptsReceiver, ReceiverReady, receiver_answer};
+    ghost use Rattle.amqp_acceptors.specs.Termini.{LocalTerminus};
+
+    /// The link, ready to be opened. The only error is want of memory.
+    fn prepare(
+        &self,
+        alloc: Global,
+        shared: &SharedLinkAcceptorFields,
+        mut remote: Attach,
+        target: Option<T>,
+    ) -> Result<Opening, NoMemory>
+        requires { F.can_decide self.now.on_dynamic_target }
+        ensures { IfOk result (ReceiverReady (LocalTerminus (F.decides self.now.on_dynamic_target)
+            T.is_dynamic (T.with_capabilities self.now.target_capabilities) target)
+            T.archetype shared.now self.now.credit_mode remote) }
+    {
+        let local = local_terminus(&self.on_dynamic_target, target, &self.target_capabilities)?;
+        let credit = credit_flow(self.credit_mode, &remote);
+        remote.target = local.map(T::into_archetype);
+        Opening::new(alloc, shared, remote, Role::Receiver, None, credit)
+    }
+
+    /// Accepts the link of a peer's sender whose target is of this acceptor's kind: its frames are
+    /// the attach that answers the peer's and, where credit is granted, the flow that grants it.
+    /// Part 2 of the standard, section 2.6.3 (establishing a link).
+    ///
+    /// Errors: `CoordinatorIsNotImplemented` exactly where there is a target and it is of another
+    /// kind; else `Alloc` where the session doesn't allocate the link; `Session` where the session
+    /// refuses the flow, and the output handle that it allocated is then freed; `NoMemory` for want
+    /// of memory, of the session too.
+    ///
+    /// # Requires
+    ///
+    /// The rule for dynamic targets may be asked.
+    pub fn accept_incoming_attach_inner<S: Session>(
+        &self,
+        alloc: Global,
+        shared: &SharedLinkAcceptorFields,
+        mut remote: Attach,
+        session: &mut S,
+    ) -> Result<(WireReceiver, Frames), ReceiverAttachError>
+        requires { F.can_decide self.now.on_dynamic_target }
+        ensures told { ReceiverTold (S.told session.old) (S.told session.new) result }
+        ensures kept { S.kept session.new ≡ S.kept session.old }
+        ensures names { AcceptLeaves (S.names session.old) (S.names session.new) remote.name
+            result }
+        ensures accepts { AcceptsReceiver (F.decides self.now.on_dynamic_target) T.is_dynamic
+            (T.with_capabilities self.now.target_capabilities) T.of_archetype T.archetype
+            shared.now self.now.credit_mode remote (OpensThrough S.allocate_incoming_link_gives
+            S.outgoing_flow_gives S.deallocate_link_gives) session.old session.new result }
+    {
+        let Some(target) = kind_of_target(remote.target.take()) else {
+            return Err(ReceiverAttachError::CoordinatorIsNotImplemented);
+        };
+        self.accept_of_kind(alloc, shared, remote, target, session)
+    }
+
+    /// Accepts the link of a peer's sender with this target, which is of the acceptor's kind.
+    fn accept_of_kind<S: Session>(
+        &self,
+        alloc: Global,
+        shared: &SharedLinkAcceptorFields,
+        remote: Attach,
+        target: Option<T>,
+        session: &mut S,
+    ) -> Result<(WireReceiver, Frames), ReceiverAttachError>
+        requires { F.can_decide self.now.on_dynamic_target }
+        ensures told { ReceiverTold (S.told session.old) (S.told session.new) result }
+        ensures kept { S.kept session.new ≡ S.kept session.old }
+        ensures names { AcceptLeaves (S.names session.old) (S.names session.new) remote.name
+            result }
+        ensures accepts { AcceptsBy (ReceiverReady (LocalTerminus
+            (F.decides self.now.on_dynamic_target) T.is_dynamic
+            (T.with_capabilities self.now.target_capabilities) target) T.archetype shared.now
+            self.now.credit_mode remote) (OpensThrough S.allocate_incoming_link_gives
+            S.outgoing_flow_gives S.deallocate_link_gives) receiver_answer refusals.NoMemory
+            session.old session.new result }
+    {
+        let Ok(opening) = self.prepare(alloc, shared, remote, target) else {
+            return Err(ReceiverAttachError::NoMemory);
+        };
+        let Ok(mut end) = opening.end(OutputHandle(0)) else {
+            return Err(ReceiverAttachError::NoMemory);
+        };
+        let (output, frames) = opening.open(session)?;
+        end.output = output;
+        Ok((new_wire(alloc, end), frames))
+    }
+}
+
+/// A receiving end on which nothing was put and nothing waits.
+fn new_wire(alloc: Global, end: LinkEnd) -> WireReceiver
+    ensures { result ≡ receiver_wire end }
 {
-    let mode = shared.receiver_mode_for(remote.rcv_settle_mode);
-    let relay = new_relay(alloc, remote.name.try_clone()?, Role::Receiver, mode);
-    let name = remote.name.try_clone()?;
-    let input = InputHandle(remote.handle.0);
-    let credit = credit_flow(credit_mode, &remote);
-    let mut attach = reply_to(shared, remote, Role::Receiver, None)?;
-    attach.target = target;
-    let reply = Reply::new(alloc, attach, credit)?;
-    Ok(Opening {
-        name,
-        relay,
-        input,
-        reply,
-    })
+    WireReceiver::new(alloc, end)
 }

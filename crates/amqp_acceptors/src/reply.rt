@@ -9,7 +9,8 @@ use crate::fields::SharedLinkAcceptorFields;
 use amqp_layer::SessionInnerError;
 use amqp_sessions::Session;
 use amqp_txn_types::{
-    Attach, Flow, Frame, Frames, Handle, LinkFlow, NoMemory, OutputHandle, Role, TryClone,
+    Attach, Flow, Frame, Frames, Handle, LinkFlow, NoMemory, OutputHandle, Role, SenderSettleMode,
+    TryClone,
 };
 use std::alloc::Global;
 use std::marker::Model;
@@ -49,6 +50,13 @@ impl Reply {
             attach,
             credit,
         })
+    }
+
+    /// The settle mode of the link's sender that the link settled on.
+    pub(crate) fn sender_mode(&self) -> SenderSettleMode
+        ensures { result ≡ self.now.attach.snd_settle_mode }
+    {
+        self.attach.snd_settle_mode
     }
 
     /// The frames of a reply, with the link's output handle. The flow is sent by the session.
