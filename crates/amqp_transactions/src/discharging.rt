@@ -1,0 +1,59 @@
+//! A transaction whose discharge is awaited.
+
+ghost use Rattle.std.specs.Prelude.{◌≡◌};
+ghost use Rattle.amqp_transactions.specs.Begun.{PollsToEnd};
+
+use crate::discharge::TransactionDischarge;
+use amqp_endpoints::Progress;
+use std::marker::Model;
+use std::sync::Wait;
+
+/// A transaction with a discharge of it that was put. A contract sees the transaction.
+pub struct Discharging<T: TransactionDischarge> {
+    value: T,
+    waiting: T::Waiting,
+}
+
+impl<T: TransactionDischarge> Model for Discharging<T> {
+    ghost Value = { T };
+
+    ghost view = { λ d. d.value };
+}
+
+impl<T: TransactionDischarge> Discharging<T> {
+    pub(crate) fn new(value: T, waiting: T::Waiting) -> Self
+        ensures { result ≡ value }
+    {
+        Discharging { value, waiting }
+    }
+
+    /// The transaction.
+    pub fn value(&self) -> &T
+        ensures { result.now ≡ self.now }
+    {
+        &self.value
+    }
+
+    /// Gives the transaction back as it stands, so that it can be given up. The discharge that was
+    /// put is no longer awaited.
+    pub fn into_value(self) -> T
+        ensures { result ≡ self }
+    {
+        let Discharging { value, waiting: _ } = self;
+        value
+    }
+
+    /// Looks once for the outcome, and lets the transaction go once it was discharged.
+    ///
+    /// An error hands the transaction back: discharged, where it couldn't be let go, else as it was.
+    pub fn poll<R: Wait>(self, rt: &R) -> Progress<Discharging<T>, Result<(), (T, T::Error)>>
+        ensures { PollsToEnd T.begun (λ wait. wait) T.of_spend (T.begun self) result }
+    {
+        let Discharging { mut value, waiting } = self;
+        match value.poll_discharge(rt, waiting) {
+            Progress::Pending(waiting) => Progress::Pending(Discharging { value, waiting }),
+            Progress::Ready(Ok(())) => Progress::Ready(value.spend(rt)),
+            Progress::Ready(Err(error)) => Progress::Ready(Err((value, error))),
+        }
+    }
+}

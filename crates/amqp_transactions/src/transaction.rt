@@ -1,0 +1,162 @@
+//! Transactions that borrow their controller.
+
+ghost use Rattle.std.specs.Prelude.{◌≡◌, false};
+ghost use Rattle.amqp_transactions.specs.Begun.{with_trials};
+ghost use Rattle.amqp_transactions.specs.Declaring.{PollsToBegin};
+
+use crate::begun::Begun;
+use crate::controller::Controller;
+use crate::discharge::TransactionDischarge;
+use amqp_control_calls::{
+    Abandoned, ControllerSendError, DeclareOnLink, DischargeOnLink, TransactionBase,
+};
+use amqp_endpoints::Progress;
+use amqp_links::SenderLink;
+use amqp_txn_types::TransactionId;
+use std::marker::Model;
+use std::sync::Wait;
+
+/// A transaction over a controller that others may use too. A contract sees its id, whether it was
+/// discharged, and its trials. Part 4 of the standard, section 4.1.
+///
+/// It must be spent: it ends by a commit or a rollback that was accepted, or by
+/// [`abandon`](TransactionDischarge::abandon).
+pub struct Transaction<'t, L: SenderLink> {
+    controller: &'t Controller<L>,
+    begun: Begun,
+}
+
+impl<'t, L: SenderLink> Model for Transaction<'t, L> {
+    ghost use Rattle.amqp_transactions.specs.declared.begun.Begun.{Begun as Seen};
+
+    ghost Value = { Seen };
+
+    ghost view = { λ t. t.begun };
+}
+
+impl<'t, L: SenderLink> Transaction<'t, L> {
+    /// Asks the coordinator for a transaction: puts one declare. Part 4 of the standard, section 4.2
+    /// (declaring a transaction).
+    ///
+    /// Errors are those of [`declare_on_link`](amqp_control_calls::declare_on_link).
+    pub fn declare<R: Wait>(
+        controller: &'t Controller<L>,
+        rt: &R,
+        global_id: Option<TransactionId>,
+    ) -> Result<Declaring<'t, L>, ControllerSendError> {
+        let declare = controller.declare(rt, global_id)?;
+        Ok(Declaring {
+            controller,
+            declare,
+        })
+    }
+
+    /// How often an abandon looks for the outcome of its rollback.
+    pub fn rollback_on_drop_trials(&self) -> u32
+        ensures { result ≡ self.now.rollback_on_drop_trials }
+    {
+        self.begun.rollback_on_drop_trials
+    }
+
+    /// Sets how often an abandon looks for the outcome of its rollback. With 0 it puts none.
+    pub fn set_rollback_on_drop_trials(&mut self, trials: u32)
+        ensures { self.new ≡ with_trials self.old trials }
+    {
+        self.begun.rollback_on_drop_trials = trials;
+    }
+}
+
+impl<L: SenderLink> TransactionBase for Transaction<'_, L> {
+    ghost id = { λ t. t.txn_id };
+
+    fn txn_id(&self) -> &TransactionId {
+        &self.begun.txn_id
+    }
+}
+
+impl<L: SenderLink> TransactionDischarge for Transaction<'_, L> {
+    type Error = ControllerSendError;
+
+    type Waiting = DischargeOnLink;
+
+    ghost begun = { λ t. t };
+
+    ghost of_spend = { λ _. false };
+
+    fn is_discharged(&self) -> bool {
+        self.begun.is_discharged
+    }
+
+    fn discharge<R: Wait>(
+        &mut self,
+        rt: &R,
+        fail: bool,
+    ) -> Result<DischargeOnLink, ControllerSendError> {
+        self.begun.discharge(rt, self.controller, fail)
+    }
+
+    fn poll_discharge<R: Wait>(
+        &mut self,
+        rt: &R,
+        waiting: DischargeOnLink,
+    ) -> Progress<DischargeOnLink, Result<(), ControllerSendError>> {
+        self.begun.poll_discharge(rt, self.controller, waiting)
+    }
+
+    fn spend<R: Wait>(self, _rt: &R) -> Result<(), (Self, ControllerSendError)> {
+        let Transaction {
+            controller: _,
+            begun: _,
+        } = self;
+        Ok(())
+    }
+
+    fn abandon<R: Wait>(self, rt: &R) -> Abandoned {
+        let Transaction { controller, begun } = self;
+        begun.abandon(rt, controller)
+    }
+}
+
+/// A transaction whose declare was put. A contract sees how that was sent.
+#[derive(Drop)]
+pub struct Declaring<'t, L: SenderLink> {
+    controller: &'t Controller<L>,
+    declare: DeclareOnLink,
+}
+
+impl<'t, L: SenderLink> Model for Declaring<'t, L> {
+    ghost use Rattle.amqp_links.specs.declared.sendable.Sent.{Sent as HowSent};
+
+    ghost Value = { HowSent };
+
+    ghost view = { λ d. d.declare };
+}
+
+impl<'t, L: SenderLink> Declaring<'t, L> {
+    /// Looks once for the outcome of the declare. The transaction isn't discharged, and its trials
+    /// are [`DEFAULT_ROLLBACK_ON_DROP_TRIALS`](crate::DEFAULT_ROLLBACK_ON_DROP_TRIALS).
+    ///
+    /// Errors are those of [`DeclareOnLink::poll`].
+    pub fn poll<R: Wait>(
+        self,
+        rt: &R,
+    ) -> Progress<Declaring<'t, L>, Result<Transaction<'t, L>, ControllerSendError>>
+        ensures { PollsToBegin self.entry result }
+    {
+        let Declaring {
+            controller,
+            declare,
+        } = self;
+        match controller.poll_declare(rt, declare) {
+            Progress::Pending(declare) => Progress::Pending(Declaring {
+                controller,
+                declare,
+            }),
+            Progress::Ready(Ok(declared)) => {
+                let begun = Begun::new(declared.txn_id);
+                Progress::Ready(Ok(Transaction { controller, begun }))
+            }
+            Progress::Ready(Err(error)) => Progress::Ready(Err(error)),
+        }
+    }
+}
