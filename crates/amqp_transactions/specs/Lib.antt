@@ -1,2 +1,3 @@
 pub mod Begun
 pub mod Declaring
+pub mod Attaching
