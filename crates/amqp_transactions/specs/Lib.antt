@@ -1,3 +1,4 @@
 pub mod Begun
 pub mod Declaring
 pub mod Attaching
+pub mod Owned

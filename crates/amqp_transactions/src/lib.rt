@@ -7,6 +7,9 @@ mod builder;
 mod controller;
 mod discharge;
 mod discharging;
+mod owned_declaring;
+mod owned_errors;
+mod owned_transaction;
 mod transaction;
 
 pub use attaching::Attaching;
@@ -15,4 +18,7 @@ pub use builder::ControllerBuilder;
 pub use controller::Controller;
 pub use discharge::TransactionDischarge;
 pub use discharging::Discharging;
+pub use owned_declaring::OwnedDeclaring;
+pub use owned_errors::{OwnedDeclareError, OwnedDischargeError};
+pub use owned_transaction::{OwnedDeclaringOn, OwnedTransaction};
 pub use transaction::{Declaring, Transaction};
