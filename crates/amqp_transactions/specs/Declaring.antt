@@ -7,7 +7,8 @@ use Rattle.amqp_transactions.specs.Begun.{begun_as}
 
 -- a poll of a declare: a wait that goes on is the one that was polled, and a transaction was just
 -- declared, under the id that the coordinator gave
-abbrev pub PollsToBegin : {W E : Type 0} → W → Progress W (Result Begun E) → Type 0
-PollsToBegin wait (waits.Pending waiting) = waiting ≡ wait
-PollsToBegin wait (waits.Ready (Ok begun)) = begun ≡ begun_as begun.txn_id
-PollsToBegin wait (waits.Ready (Err error)) = Unit {0}
+abbrev pub PollsToBegin : {W T E : Type 0} → (T → Begun) → W → Progress W (Result T E) → Type 0
+PollsToBegin begun_of wait (waits.Pending waiting) = waiting ≡ wait
+PollsToBegin begun_of wait (waits.Ready (Ok transaction)) =
+    begun_of transaction ≡ begun_as (begun_of transaction).txn_id
+PollsToBegin begun_of wait (waits.Ready (Err error)) = Unit {0}

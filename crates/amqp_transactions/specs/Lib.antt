@@ -2,3 +2,4 @@ pub mod Begun
 pub mod Declaring
 pub mod Attaching
 pub mod Owned
+pub mod Transactions

@@ -174,7 +174,7 @@ impl<L: SenderLink> OwnedDeclaringOn<L> {
         OwnedDeclaringOn<L>,
         Result<OwnedTransaction<L>, (Controller<L>, ControllerSendError)>,
     >
-        ensures { PollsToBegin self result }
+        ensures { PollsToBegin (λ begun. begun) self result }
     {
         let OwnedDeclaringOn {
             controller,

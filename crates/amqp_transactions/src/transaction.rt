@@ -3,6 +3,7 @@
 ghost use Rattle.std.specs.Prelude.{◌≡◌, false};
 ghost use Rattle.amqp_transactions.specs.Begun.{with_trials};
 ghost use Rattle.amqp_transactions.specs.Declaring.{PollsToBegin};
+ghost use Rattle.amqp_transactions.specs.Transactions.{begun_of};
 
 use crate::begun::Begun;
 use crate::controller::Controller;
@@ -13,7 +14,6 @@ use amqp_control_calls::{
 use amqp_endpoints::Progress;
 use amqp_links::SenderLink;
 use amqp_txn_types::TransactionId;
-use std::marker::Model;
 use std::sync::Wait;
 
 /// A transaction over a controller that others may use too. A contract sees its id, whether it was
@@ -24,14 +24,6 @@ use std::sync::Wait;
 pub struct Transaction<'t, L: SenderLink> {
     controller: &'t Controller<L>,
     begun: Begun,
-}
-
-impl<'t, L: SenderLink> Model for Transaction<'t, L> {
-    ghost use Rattle.amqp_transactions.specs.declared.begun.Begun.{Begun as Seen};
-
-    ghost Value = { Seen };
-
-    ghost view = { λ t. t.begun };
 }
 
 impl<'t, L: SenderLink> Transaction<'t, L> {
@@ -51,23 +43,28 @@ impl<'t, L: SenderLink> Transaction<'t, L> {
         })
     }
 
+    #[cfg(test)]
+    pub(crate) fn controller(&self) -> &Controller<L> {
+        self.controller
+    }
+
     /// How often an abandon looks for the outcome of its rollback.
     pub fn rollback_on_drop_trials(&self) -> u32
-        ensures { result ≡ self.now.rollback_on_drop_trials }
+        ensures { result ≡ (begun_of self.now).rollback_on_drop_trials }
     {
         self.begun.rollback_on_drop_trials
     }
 
     /// Sets how often an abandon looks for the outcome of its rollback. With 0 it puts none.
     pub fn set_rollback_on_drop_trials(&mut self, trials: u32)
-        ensures { self.new ≡ with_trials self.old trials }
+        ensures { begun_of self.new ≡ with_trials (begun_of self.old) trials }
     {
         self.begun.rollback_on_drop_trials = trials;
     }
 }
 
 impl<L: SenderLink> TransactionBase for Transaction<'_, L> {
-    ghost id = { λ t. t.txn_id };
+    ghost id = { λ t. (begun_of t).txn_id };
 
     fn txn_id(&self) -> &TransactionId {
         &self.begun.txn_id
@@ -79,7 +76,7 @@ impl<L: SenderLink> TransactionDischarge for Transaction<'_, L> {
 
     type Waiting = DischargeOnLink;
 
-    ghost begun = { λ t. t };
+    ghost begun = { begun_of };
 
     ghost of_spend = { λ _. false };
 
@@ -117,19 +114,11 @@ impl<L: SenderLink> TransactionDischarge for Transaction<'_, L> {
     }
 }
 
-/// A transaction whose declare was put. A contract sees how that was sent.
+/// A transaction whose declare was put.
 #[derive(Drop)]
 pub struct Declaring<'t, L: SenderLink> {
     controller: &'t Controller<L>,
     declare: DeclareOnLink,
-}
-
-impl<'t, L: SenderLink> Model for Declaring<'t, L> {
-    ghost use Rattle.amqp_links.specs.declared.sendable.Sent.{Sent as HowSent};
-
-    ghost Value = { HowSent };
-
-    ghost view = { λ d. d.declare };
 }
 
 impl<'t, L: SenderLink> Declaring<'t, L> {
@@ -141,7 +130,7 @@ impl<'t, L: SenderLink> Declaring<'t, L> {
         self,
         rt: &R,
     ) -> Progress<Declaring<'t, L>, Result<Transaction<'t, L>, ControllerSendError>>
-        ensures { PollsToBegin self.entry result }
+        ensures { PollsToBegin begun_of self.entry result }
     {
         let Declaring {
             controller,

@@ -1,0 +1,1 @@
+//! Control links that are attached over a plain session.
