@@ -3,3 +3,4 @@ pub mod Declaring
 pub mod Attaching
 pub mod Owned
 pub mod Transactions
+pub mod Discharging

@@ -1,6 +1,7 @@
 //! How transactions of this side end.
 
 ghost use Rattle.std.specs.Prelude.{◌≡◌, true, false, IfErr, IfOk, OnErr};
+ghost use Rattle.amqp_transactions.specs.Discharging.{value_of};
 ghost use Rattle.amqp_transactions.specs.Begun.{AsksToDischarge, GivesUp, OnPolledErr, PollsDischarge};
 
 use crate::discharging::Discharging;
@@ -70,7 +71,7 @@ pub trait TransactionDischarge: Sized {
     /// Asks for a commit: puts one discharge, whose `fail` is false. An error hands the value back
     /// as it was.
     final fn commit<R: Wait>(self, rt: &R) -> Result<Discharging<Self>, (Self, Self::Error)>
-        ensures wait { IfOk result (λ wait. begun wait ≡ begun self) }
+        ensures wait { IfOk result (λ wait. begun (value_of wait) ≡ begun self) }
         ensures back { IfErr result (λ refused. begun refused.0 ≡ begun self) }
         ensures cause { OnErr result ((begun self).is_discharged ≡ false) }
     {
@@ -80,7 +81,7 @@ pub trait TransactionDischarge: Sized {
     /// Asks for a rollback: puts one discharge, whose `fail` is true. An error hands the value back
     /// as it was.
     final fn rollback<R: Wait>(self, rt: &R) -> Result<Discharging<Self>, (Self, Self::Error)>
-        ensures wait { IfOk result (λ wait. begun wait ≡ begun self) }
+        ensures wait { IfOk result (λ wait. begun (value_of wait) ≡ begun self) }
         ensures back { IfErr result (λ refused. begun refused.0 ≡ begun self) }
         ensures cause { OnErr result ((begun self).is_discharged ≡ false) }
     {
@@ -94,7 +95,7 @@ fn begin_discharge<T: TransactionDischarge, R: Wait>(
     rt: &R,
     fail: bool,
 ) -> Result<Discharging<T>, (T, T::Error)>
-    ensures wait { IfOk result (λ wait. T.begun wait ≡ T.begun value) }
+    ensures wait { IfOk result (λ wait. T.begun (value_of wait) ≡ T.begun value) }
     ensures back { IfErr result (λ refused. T.begun refused.0 ≡ T.begun value) }
     ensures cause { OnErr result ((T.begun value).is_discharged ≡ false) }
 {
