@@ -38,4 +38,54 @@ pub trait TransactionRetirement: TransactionBase {
             Err(fault) => Err(Self::RetireError::from(fault)),
         }
     }
+
+    /// Retires a delivery as accepted. Part 3 of the standard, section 3.4.2.
+    fn accept<R: ReceiverLink>(
+        &self,
+        recver: &mut R,
+        delivery: &DeliveryInfo,
+    ) -> Result<(), Self::RetireError>
+        ensures { Retires Self.RetireError.from_gives (R.told recver.old) (R.told recver.new)
+            (Self.id self.now) delivery.now outcomes.Accepted result }
+    {
+        self.retire(recver, delivery, Outcome::Accepted)
+    }
+
+    /// Retires a delivery as rejected, for the error. Part 3 of the standard, section 3.4.3.
+    fn reject<R: ReceiverLink>(
+        &self,
+        recver: &mut R,
+        delivery: &DeliveryInfo,
+        error: Option<Error>,
+    ) -> Result<(), Self::RetireError>
+        ensures { Retires Self.RetireError.from_gives (R.told recver.old) (R.told recver.new)
+            (Self.id self.now) delivery.now (outcomes.Rejected (record { error = error })) result }
+    {
+        self.retire(recver, delivery, Outcome::Rejected(Rejected { error }))
+    }
+
+    /// Retires a delivery as released. Part 3 of the standard, section 3.4.4.
+    fn release<R: ReceiverLink>(
+        &self,
+        recver: &mut R,
+        delivery: &DeliveryInfo,
+    ) -> Result<(), Self::RetireError>
+        ensures { Retires Self.RetireError.from_gives (R.told recver.old) (R.told recver.new)
+            (Self.id self.now) delivery.now outcomes.Released result }
+    {
+        self.retire(recver, delivery, Outcome::Released)
+    }
+
+    /// Retires a delivery as modified. Part 3 of the standard, section 3.4.5.
+    fn modify<R: ReceiverLink>(
+        &self,
+        recver: &mut R,
+        delivery: &DeliveryInfo,
+        modified: Modified,
+    ) -> Result<(), Self::RetireError>
+        ensures { Retires Self.RetireError.from_gives (R.told recver.old) (R.told recver.new)
+            (Self.id self.now) delivery.now (outcomes.Modified modified) result }
+    {
+        self.retire(recver, delivery, Outcome::Modified(modified))
+    }
 }

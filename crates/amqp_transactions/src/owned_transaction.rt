@@ -13,7 +13,8 @@ use amqp_control_calls::{
     Abandoned, ControllerSendError, DeclareOnLink, DischargeOnLink, TransactionBase,
 };
 use amqp_endpoints::Progress;
-use amqp_links::SenderLink;
+use amqp_links::{DispositionError, SenderLink};
+use amqp_posting::{TransactionPosting, TransactionRetirement};
 use amqp_txn_types::TransactionId;
 use std::marker::Model;
 use std::sync::Wait;
@@ -84,6 +85,12 @@ impl<L: SenderLink> TransactionBase for OwnedTransaction<L> {
     fn txn_id(&self) -> &TransactionId {
         &self.begun.txn_id
     }
+}
+
+impl<L: SenderLink> TransactionPosting for OwnedTransaction<L> {}
+
+impl<L: SenderLink> TransactionRetirement for OwnedTransaction<L> {
+    type RetireError = DispositionError;
 }
 
 /// A `spend` closes the link. Where that fails the value handed back is discharged.

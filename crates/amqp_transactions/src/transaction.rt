@@ -12,7 +12,8 @@ use amqp_control_calls::{
     Abandoned, ControllerSendError, DeclareOnLink, DischargeOnLink, TransactionBase,
 };
 use amqp_endpoints::Progress;
-use amqp_links::SenderLink;
+use amqp_links::{DispositionError, SenderLink};
+use amqp_posting::{TransactionPosting, TransactionRetirement};
 use amqp_txn_types::TransactionId;
 use std::sync::Wait;
 
@@ -69,6 +70,12 @@ impl<L: SenderLink> TransactionBase for Transaction<'_, L> {
     fn txn_id(&self) -> &TransactionId {
         &self.begun.txn_id
     }
+}
+
+impl<L: SenderLink> TransactionPosting for Transaction<'_, L> {}
+
+impl<L: SenderLink> TransactionRetirement for Transaction<'_, L> {
+    type RetireError = DispositionError;
 }
 
 impl<L: SenderLink> TransactionDischarge for Transaction<'_, L> {

@@ -20,10 +20,10 @@ fn begun<'t, R: Wait>(
     rt: &R,
     controller: &'t Controller<CountingLink>,
 ) -> Option<Transaction<'t, CountingLink>> {
-    match Transaction::declare(controller, rt, None) {
-        Ok(declaring) => declared(rt, controller, declaring),
-        Err(_) => None,
-    }
+    let Ok(declaring) = Transaction::declare(controller, rt, None) else {
+        return None;
+    };
+    declared(rt, controller, declaring)
 }
 
 /// The transaction of a declare that is pending first, and then answered.
