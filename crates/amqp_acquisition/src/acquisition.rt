@@ -1,0 +1,79 @@
+//! A transaction that acquires deliveries.
+
+ghost use Rattle.std.specs.Prelude.{◌≡◌, codes};
+ghost use Rattle.amqp_links.specs.Receiving.{Receives, SetsCredit};
+ghost use Rattle.amqp_acquisition.specs.Acquiring.{CleansUp};
+
+use crate::receiving::clean_up;
+use amqp_control_calls::TransactionBase;
+use amqp_links::{Delivery, FlowError, Poll, ReceiverLink, RecvError};
+use amqp_txn_types::{Symbol, TransactionId};
+
+/// A transaction with a receiver whose deliveries it acquires: the receiver's properties name the
+/// transaction. Part 4 of the standard, section 4.4.3 (transactional acquisition).
+///
+/// It must be spent: it ends by a commit or a rollback that was accepted, or by `abandon`.
+pub struct TxnAcquisition<'r, Txn, R> {
+    txn: Txn,
+    recver: &'r mut R,
+    key: Symbol,
+    ghost named: { key ≡ codes "txn-id" },
+}
+
+impl<'r, Txn: TransactionBase, R: ReceiverLink> TxnAcquisition<'r, Txn, R> {
+    ghost use Rattle.amqp_acquisition.specs.Acquisitions.{recver_of, txn_of};
+
+    /// The transaction.
+    pub fn txn(&self) -> &Txn
+        ensures { result.now ≡ txn_of self.now }
+    {
+        &self.txn
+    }
+
+    /// The transaction's id.
+    pub fn txn_id(&self) -> &TransactionId
+        ensures { result.now ≡ Txn.id (txn_of self.now) }
+    {
+        self.txn.txn_id()
+    }
+
+    /// Gives the receiver's next delivery: see [`ReceiverLink::recv`].
+    pub fn recv(&mut self) -> Poll<Result<Delivery, RecvError>>
+        ensures recver { Receives (R.told (recver_of self.old)) (R.told (recver_of self.new)) result }
+        ensures txn { txn_of self.new ≡ txn_of self.old }
+    {
+        self.recver.recv()
+    }
+
+    /// Sets how many deliveries the receiver wants: see [`ReceiverLink::set_credit`].
+    pub fn set_credit(&mut self, credit: u32) -> Result<(), FlowError>
+        ensures recver { SetsCredit (R.told (recver_of self.old)) (R.told (recver_of self.new))
+            result }
+        ensures txn { txn_of self.new ≡ txn_of self.old }
+    {
+        self.recver.set_credit(credit)
+    }
+
+    /// Takes the transaction out of the receiver's properties, and tells the peer so: without
+    /// credit, to be drained, to be answered. After an error, which is that of the receiver's
+    /// `send_flow`, it is taken out all the same.
+    pub fn cleanup(&mut self) -> Result<(), FlowError>
+        ensures recver { CleansUp (R.told (recver_of self.old)) (R.told (recver_of self.new)) result }
+        ensures txn { txn_of self.new ≡ txn_of self.old }
+    {
+        clean_up(self.recver, &self.key)
+    }
+}
+
+impl<'r, Txn, R> TxnAcquisition<'r, Txn, R> {
+    ghost use Rattle.amqp_acquisition.specs.Acquiring.{txn_id_key};
+    ghost use Rattle.amqp_acquisition.specs.Acquisitions.{lent_to, txn_of};
+
+    pub(crate) fn new(txn: Txn, recver: &'r mut R, key: Symbol) -> Self
+        requires { key ≡ txn_id_key }
+        ensures txn { txn_of result ≡ txn }
+        ensures lent { lent_to result ≡ recver.entry }
+    {
+        TxnAcquisition { txn, recver, key }
+    }
+}

@@ -1,0 +1,9 @@
+//! Acquiring deliveries under a transaction.
+#![tactic(auto)]
+
+mod acquiring;
+mod acquisition;
+mod receiving;
+
+pub use acquiring::{TransactionAcquisition, TransactionExt};
+pub use acquisition::TxnAcquisition;
