@@ -6,8 +6,11 @@ ghost use Rattle.amqp_acquisition.specs.Acquiring.{CleansUp};
 
 use crate::receiving::clean_up;
 use amqp_control_calls::TransactionBase;
+use amqp_endpoints::Progress;
 use amqp_links::{Delivery, FlowError, Poll, ReceiverLink, RecvError};
+use amqp_transactions::TransactionDischarge;
 use amqp_txn_types::{Symbol, TransactionId};
+use std::sync::Wait;
 
 /// A transaction with a receiver whose deliveries it acquires: the receiver's properties name the
 /// transaction. Part 4 of the standard, section 4.4.3 (transactional acquisition).
@@ -28,6 +31,13 @@ impl<'r, Txn: TransactionBase, R: ReceiverLink> TxnAcquisition<'r, Txn, R> {
         ensures { result.now ≡ txn_of self.now }
     {
         &self.txn
+    }
+
+    /// The transaction, to be changed.
+    pub fn txn_mut(&mut self) -> &mut Txn
+        ensures value { result.now ≡ txn_of self.old }
+    {
+        &mut self.txn
     }
 
     /// The transaction's id.
@@ -75,5 +85,65 @@ impl<'r, Txn, R> TxnAcquisition<'r, Txn, R> {
         ensures lent { lent_to result ≡ recver.entry }
     {
         TxnAcquisition { txn, recver, key }
+    }
+}
+
+impl<'r, Txn: TransactionDischarge, R> TxnAcquisition<'r, Txn, R> {
+    ghost use Rattle.std.specs.Prelude.{IfErr, true, false};
+    ghost use Rattle.amqp_transactions.specs.Begun.{AsksToDischarge, OnPolledErr, PollsDischarge};
+    ghost use Rattle.amqp_acquisition.specs.Acquisitions.{lent_to, txn_of};
+
+    /// Puts a discharge of the transaction.
+    pub(crate) fn discharge<W: Wait>(
+        &mut self,
+        rt: &W,
+        fail: bool,
+    ) -> Result<Txn::Waiting, Txn::Error>
+        ensures asks { AsksToDischarge (Txn.begun (txn_of self.old)) (Txn.begun (txn_of self.new))
+            result }
+        ensures lent { lent_to self.new ≡ lent_to self.old }
+    {
+        self.txn.discharge(rt, fail)
+    }
+
+    /// Polls a discharge of the transaction.
+    pub(crate) fn poll_discharge<W: Wait>(
+        &mut self,
+        rt: &W,
+        waiting: Txn::Waiting,
+    ) -> Progress<Txn::Waiting, Result<(), Txn::Error>>
+        ensures polls { PollsDischarge (Txn.begun (txn_of self.old)) (Txn.begun (txn_of self.new))
+            waiting result }
+        ensures cause { OnPolledErr result (λ error. Txn.of_spend error ≡ false) }
+        ensures lent { lent_to self.new ≡ lent_to self.old }
+    {
+        self.txn.poll_discharge(rt, waiting)
+    }
+
+    /// Lets the discharged transaction go, and the receiver with it.
+    pub(crate) fn spend<W: Wait>(self, rt: &W) -> Result<(), (Self, Txn::Error)>
+        requires { (Txn.begun (txn_of self)).is_discharged ≡ true }
+        ensures back { IfErr result (λ refused. Txn.begun (txn_of refused.0)
+            ≡ Txn.begun (txn_of self.entry)) }
+        ensures cause { IfErr result (λ refused. Txn.of_spend refused.1 ≡ true) }
+        ensures lent { IfErr result (λ refused. lent_to refused.0 ≡ lent_to self.entry) }
+    {
+        let TxnAcquisition { txn, recver, key } = self;
+        match txn.spend(rt) {
+            Ok(()) => Ok(()),
+            Err((txn, error)) => Err((TxnAcquisition { txn, recver, key }, error)),
+        }
+    }
+
+    /// The transaction without its receiver.
+    pub(crate) fn into_txn(self) -> Txn
+        ensures { result ≡ txn_of self.entry }
+    {
+        let TxnAcquisition {
+            txn,
+            recver: _,
+            key: _,
+        } = self;
+        txn
     }
 }

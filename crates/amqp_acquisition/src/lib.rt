@@ -3,7 +3,9 @@
 
 mod acquiring;
 mod acquisition;
+mod discharging;
 mod receiving;
 
 pub use acquiring::{TransactionAcquisition, TransactionExt};
 pub use acquisition::TxnAcquisition;
+pub use discharging::AcquisitionDischarging;
