@@ -5,11 +5,11 @@ ghost use Rattle.amqp_acquisition.specs.Acquiring.{Acquires, NamedBefore, names_
 ghost use Rattle.amqp_acquisition.specs.Acquisitions.{lent_to, recver_of, txn_of};
 
 use crate::acquisition::TxnAcquisition;
-use crate::receiving::{acquire_on, txn_id_symbol};
+use crate::receiving::{TxnIdKey, acquire_on};
 use amqp_control_calls::TransactionBase;
-use amqp_links::{FlowError, ReceiverLink};
+use amqp_links::{FlowError, ReceiverLink, SenderLink};
 use amqp_posting::{TransactionPosting, TransactionRetirement};
-use amqp_transactions::TransactionDischarge;
+use amqp_transactions::{OwnedTransaction, Transaction, TransactionDischarge};
 use std::alloc::Global;
 
 /// Acquiring deliveries under a transaction: what the receiver is sent is the transaction's, and is
@@ -44,6 +44,14 @@ pub trait TransactionAcquisition: TransactionBase + TransactionDischarge + Trans
 /// All that a transaction does.
 pub trait TransactionExt: TransactionAcquisition + TransactionPosting {}
 
+impl<L: SenderLink> TransactionAcquisition for Transaction<'_, L> {}
+
+impl<L: SenderLink> TransactionExt for Transaction<'_, L> {}
+
+impl<L: SenderLink + Drop> TransactionAcquisition for OwnedTransaction<L> {}
+
+impl<L: SenderLink + Drop> TransactionExt for OwnedTransaction<L> {}
+
 /// Names the transaction in the receiver's properties, and keeps the two together.
 fn acquire<'r, T: TransactionBase, R: ReceiverLink>(
     txn: T,
@@ -60,7 +68,7 @@ fn acquire<'r, T: TransactionBase, R: ReceiverLink>(
     ensures named { IfErr result (λ refused. NamedBefore
         (names_transaction (R.told recver.old)) refused.1) }
 {
-    let Ok(key) = txn_id_symbol(alloc) else {
+    let Ok(key) = TxnIdKey::new(alloc) else {
         return Err((txn, FlowError::NoMemory));
     };
     match acquire_on(alloc, recver, &key, txn.txn_id(), credit) {

@@ -1,15 +1,16 @@
 //! A transaction that acquires deliveries.
 
-ghost use Rattle.std.specs.Prelude.{◌≡◌, codes};
+ghost use Rattle.std.specs.Prelude.{◌≡◌};
 ghost use Rattle.amqp_links.specs.Receiving.{Receives, SetsCredit};
 ghost use Rattle.amqp_acquisition.specs.Acquiring.{CleansUp};
 
-use crate::receiving::clean_up;
+use crate::receiving::{TxnIdKey, clean_up};
 use amqp_control_calls::TransactionBase;
 use amqp_endpoints::Progress;
-use amqp_links::{Delivery, FlowError, Poll, ReceiverLink, RecvError};
+use amqp_links::{Delivery, DeliveryInfo, FlowError, Poll, ReceiverLink, RecvError};
+use amqp_posting::TransactionRetirement;
 use amqp_transactions::TransactionDischarge;
-use amqp_txn_types::{Symbol, TransactionId};
+use amqp_txn_types::{Error, Modified, TransactionId};
 use std::sync::Wait;
 
 /// A transaction with a receiver whose deliveries it acquires: the receiver's properties name the
@@ -19,12 +20,15 @@ use std::sync::Wait;
 pub struct TxnAcquisition<'r, Txn, R> {
     txn: Txn,
     recver: &'r mut R,
-    key: Symbol,
-    ghost named: { key ≡ codes "txn-id" },
+    key: TxnIdKey,
 }
 
 impl<'r, Txn: TransactionBase, R: ReceiverLink> TxnAcquisition<'r, Txn, R> {
+    ghost use Rattle.std.specs.Prelude.{[]};
+    ghost use Rattle.std.specs.Borrow.{Lends, sem};
+    ghost use mir.Syntax.{named};
     ghost use Rattle.amqp_acquisition.specs.Acquisitions.{recver_of, txn_of};
+    ghost use Rattle.amqp_acquisition.specs.contracts.acquisition.TxnAcquisition.{the_row};
 
     /// The transaction.
     pub fn txn(&self) -> &Txn
@@ -35,6 +39,8 @@ impl<'r, Txn: TransactionBase, R: ReceiverLink> TxnAcquisition<'r, Txn, R> {
 
     /// The transaction, to be changed.
     pub fn txn_mut(&mut self) -> &mut Txn
+        ensures* writes_back { sem 𝓛 (Lends (the_row (record { mir = named 1; lft = [] }) Txn.row
+            R.row) Txn.row self.entry result (λ w. record self.old { txn = w })) }
         ensures value { result.now ≡ txn_of self.old }
     {
         &mut self.txn
@@ -76,11 +82,9 @@ impl<'r, Txn: TransactionBase, R: ReceiverLink> TxnAcquisition<'r, Txn, R> {
 }
 
 impl<'r, Txn, R> TxnAcquisition<'r, Txn, R> {
-    ghost use Rattle.amqp_acquisition.specs.Acquiring.{txn_id_key};
     ghost use Rattle.amqp_acquisition.specs.Acquisitions.{lent_to, txn_of};
 
-    pub(crate) fn new(txn: Txn, recver: &'r mut R, key: Symbol) -> Self
-        requires { key ≡ txn_id_key }
+    pub(crate) fn new(txn: Txn, recver: &'r mut R, key: TxnIdKey) -> Self
         ensures txn { txn_of result ≡ txn }
         ensures lent { lent_to result ≡ recver.entry }
     {
@@ -145,5 +149,60 @@ impl<'r, Txn: TransactionDischarge, R> TxnAcquisition<'r, Txn, R> {
             key: _,
         } = self;
         txn
+    }
+}
+
+/// The outcomes of deliveries that this receiver received, under the transaction.
+impl<'r, Txn: TransactionRetirement, R: ReceiverLink> TxnAcquisition<'r, Txn, R> {
+    ghost use Rattle.amqp_txn_types.specs.declared.delivery.Outcome.TheVariants as outcomes;
+    ghost use Rattle.amqp_posting.specs.Retiring.{Retires};
+    ghost use Rattle.amqp_acquisition.specs.Acquisitions.{recver_of, txn_of};
+
+    /// Retires a delivery as accepted. See [`TransactionRetirement::accept`].
+    pub fn accept(&mut self, delivery: &DeliveryInfo) -> Result<(), Txn::RetireError>
+        ensures recver { Retires Txn.RetireError.from_gives (R.told (recver_of self.old))
+            (R.told (recver_of self.new)) (Txn.id (txn_of self.old)) delivery.now
+            outcomes.Accepted result }
+        ensures txn { txn_of self.new ≡ txn_of self.old }
+    {
+        self.txn.accept(self.recver, delivery)
+    }
+
+    /// Retires a delivery as rejected, for the error. See [`TransactionRetirement::reject`].
+    pub fn reject(
+        &mut self,
+        delivery: &DeliveryInfo,
+        error: Option<Error>,
+    ) -> Result<(), Txn::RetireError>
+        ensures recver { Retires Txn.RetireError.from_gives (R.told (recver_of self.old))
+            (R.told (recver_of self.new)) (Txn.id (txn_of self.old)) delivery.now
+            (outcomes.Rejected (record { error = error })) result }
+        ensures txn { txn_of self.new ≡ txn_of self.old }
+    {
+        self.txn.reject(self.recver, delivery, error)
+    }
+
+    /// Retires a delivery as released. See [`TransactionRetirement::release`].
+    pub fn release(&mut self, delivery: &DeliveryInfo) -> Result<(), Txn::RetireError>
+        ensures recver { Retires Txn.RetireError.from_gives (R.told (recver_of self.old))
+            (R.told (recver_of self.new)) (Txn.id (txn_of self.old)) delivery.now
+            outcomes.Released result }
+        ensures txn { txn_of self.new ≡ txn_of self.old }
+    {
+        self.txn.release(self.recver, delivery)
+    }
+
+    /// Retires a delivery as modified. See [`TransactionRetirement::modify`].
+    pub fn modify(
+        &mut self,
+        delivery: &DeliveryInfo,
+        modified: Modified,
+    ) -> Result<(), Txn::RetireError>
+        ensures recver { Retires Txn.RetireError.from_gives (R.told (recver_of self.old))
+            (R.told (recver_of self.new)) (Txn.id (txn_of self.old)) delivery.now
+            (outcomes.Modified modified) result }
+        ensures txn { txn_of self.new ≡ txn_of self.old }
+    {
+        self.txn.modify(self.recver, delivery, modified)
     }
 }

@@ -1,6 +1,6 @@
 //! What an acquisition does to its receiver.
 
-ghost use Rattle.std.specs.Prelude.{◌≡◌, IfOk};
+ghost use Rattle.std.specs.Prelude.{◌≡◌, codes};
 ghost use Rattle.amqp_txn_types.specs.declared.fields.Value.TheVariants as values;
 ghost use Rattle.amqp_links.specs.Receiving.{Inserts};
 ghost use Rattle.amqp_acquisition.specs.Acquiring.{Acquires, CleansUp, has_key, names_transaction, txn_id_key};
@@ -13,10 +13,17 @@ use std::alloc::Global;
 const TXN_ID: &str = "txn-id";
 
 /// The key, as a symbol.
-pub(crate) fn txn_id_symbol(alloc: Global) -> Result<Symbol, NoMemory>
-    ensures { IfOk result (λ key. key ≡ txn_id_key) }
-{
-    Symbol::from_str(alloc, TXN_ID)
+#[derive(Drop)]
+pub(crate) struct TxnIdKey {
+    symbol: Symbol,
+    ghost named: { symbol ≡ codes "txn-id" },
+}
+
+impl TxnIdKey {
+    pub(crate) fn new(alloc: Global) -> Result<TxnIdKey, NoMemory> {
+        let symbol = Symbol::from_str(alloc, TXN_ID)?;
+        Ok(TxnIdKey { symbol })
+    }
 }
 
 /// Whether the pairs have the key.
@@ -33,13 +40,12 @@ fn has_key(fields: &Fields, key: &Symbol) -> bool
 }
 
 /// Whether the receiver's properties name a transaction.
-fn names_transaction<R: ReceiverLink>(recver: &R, key: &Symbol) -> bool
-    requires { key.now ≡ txn_id_key }
+fn names_transaction<R: ReceiverLink>(recver: &R, key: &TxnIdKey) -> bool
     ensures { result ≡ names_transaction (R.told recver.now) }
 {
     match recver.properties() {
         None => false,
-        Some(fields) => has_key(fields, key),
+        Some(fields) => has_key(fields, &key.symbol),
     }
 }
 
@@ -51,11 +57,10 @@ fn names_transaction<R: ReceiverLink>(recver: &R, key: &Symbol) -> bool
 pub(crate) fn acquire_on<R: ReceiverLink>(
     alloc: Global,
     recver: &mut R,
-    key: &Symbol,
+    key: &TxnIdKey,
     txn_id: &TransactionId,
     credit: u32,
 ) -> Result<(), FlowError>
-    requires { key.now ≡ txn_id_key }
     ensures { Acquires (R.told recver.old) (R.told recver.new) txn_id.now credit result }
 {
     if names_transaction(recver, key) {
@@ -63,7 +68,7 @@ pub(crate) fn acquire_on<R: ReceiverLink>(
     }
     name_transaction(alloc, recver, txn_id)?;
     if let Err(fault) = recver.send_flow(Some(credit), None, false, true) {
-        recver.remove_property(key);
+        recver.remove_property(&key.symbol);
         return Err(fault);
     }
     Ok(())
@@ -78,17 +83,16 @@ fn name_transaction<R: ReceiverLink>(
     ensures { Inserts (R.told recver.old) (R.told recver.new) txn_id_key
         (values.Binary txn_id.now) result }
 {
-    let key = txn_id_symbol(alloc)?;
+    let TxnIdKey { symbol } = TxnIdKey::new(alloc)?;
     let octets = Binary::from_slice(alloc, txn_id.as_ref())?;
-    recver.insert_property(key, Value::Binary(octets))
+    recver.insert_property(symbol, Value::Binary(octets))
 }
 
 /// Takes the key out of the receiver's properties, and tells the peer so: without credit, to be
 /// drained, to be answered. The key is gone after an error too.
-pub(crate) fn clean_up<R: ReceiverLink>(recver: &mut R, key: &Symbol) -> Result<(), FlowError>
-    requires { key.now ≡ txn_id_key }
+pub(crate) fn clean_up<R: ReceiverLink>(recver: &mut R, key: &TxnIdKey) -> Result<(), FlowError>
     ensures { CleansUp (R.told recver.old) (R.told recver.new) result }
 {
-    recver.remove_property(key);
+    recver.remove_property(&key.symbol);
     recver.send_flow(Some(0), Some(true), true, true)
 }

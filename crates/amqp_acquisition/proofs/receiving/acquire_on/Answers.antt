@@ -11,7 +11,7 @@ returns-in-Err g c =
     let none : names_transaction (told c.args.recver.now) ≡ false = cc in
     let named = c.in_ok-name_transaction.ensures in
     let flow = c.in-Err.ensures in
-    let taken = rw c.requires at c.remove_property.ensures.properties in
+    let taken = rw c.args.key.now.named at c.remove_property.ensures.properties in
     rw none (record {
       properties = pairs-removed (told c.args.recver.now).properties (told c.send_flow.new.self).properties
           (told c.remove_property.new.self).properties c.args.txn_id.now none (flow.properties ∙ named.properties) taken;
