@@ -6,4 +6,3 @@ mod borrowed;
 mod links;
 mod owned;
 mod rows;
-mod texts;

@@ -155,7 +155,7 @@ fn giving_up_looks_as_often_as_it_may(rt: HostRuntime) -> Result<(), Fail> {
 
 /// The transaction of a declare over a late link, which is answered by a state that isn't Declared.
 fn not_declared<R: Wait>(rt: &R, alloc: Global) -> Result<bool, NoMemory> {
-    let controller = late(alloc, 0)?;
+    let controller = late(alloc, None, 0)?;
     let Ok(declaring) = Transaction::declare(&controller, rt, None) else {
         return Ok(false);
     };
@@ -209,5 +209,28 @@ fn a_controller_is_closed(rt: HostRuntime) -> Result<(), Fail> {
     let controller = counting(rt.alloc(), &[])?;
     let closed = controller.close(&rt).is_ok();
     assert!(rt; closed);
+    Ok(())
+}
+
+/// The end of a transaction that is given up with three trials, over a link that is pending at two
+/// looks.
+fn answered_late<R: Wait>(rt: &R, alloc: Global) -> Result<bool, NoMemory> {
+    let controller = late(alloc, Some(Declared { txn_id: id() }), 2)?;
+    let Ok(declaring) = Transaction::declare(&controller, rt, None) else {
+        return Ok(false);
+    };
+    match declaring.poll(rt) {
+        Progress::Ready(Ok(mut transaction)) => {
+            transaction.set_rollback_on_drop_trials(3);
+            let want = Abandoned::Answered(Some(DeliveryState::Accepted));
+            Ok(same(transaction.abandon(rt), want))
+        }
+        Progress::Ready(Err(_)) | Progress::Pending(_) => Ok(false),
+    }
+}
+
+#[test]
+fn giving_up_is_answered_at_the_third_look(rt: HostRuntime) -> Result<(), Fail> {
+    assert!(rt; answered_late(&rt, rt.alloc())?);
     Ok(())
 }

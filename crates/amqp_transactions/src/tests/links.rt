@@ -5,7 +5,7 @@ use amqp_links::{
     DetachError, LinkStateError, Poll, SendError, Sendable, SenderLink, Sent, WireSender,
 };
 use amqp_txn_types::{
-    CallNumbers, DeliveryState, Error, LinkEnd, NoMemory, OutputHandle, Payload,
+    CallNumbers, Declared, DeliveryState, Error, LinkEnd, NoMemory, OutputHandle, Payload,
     ReceiverSettleMode, Role, SenderSettleMode, Text, Token, TransactionId,
 };
 use std::alloc::Global;
@@ -44,20 +44,24 @@ impl SenderLink for CountingLink {
     }
 }
 
-/// A link on which every message is accepted, once it was looked for so many times in vain.
+/// A link on which the first look finds a declared transaction, where there is one, and then every
+/// message is accepted, once it was looked for so many times in vain.
 #[derive(Drop)]
 pub struct LateLink {
     wire: WireSender,
+    declared: Option<Declared>,
     pending: u32,
 }
 
 impl SenderLink for LateLink {
-    ghost use Rattle.std.specs.Prelude.{nat_eq, if◌then◌else◌, Some, None, Ok, ◌==◌};
+    ghost use Rattle.std.specs.Prelude.{if◌then◌else◌, Some, None, Ok, ◌==◌};
+    ghost use Rattle.std.specs.Option.{option_map_or};
     ghost use Rattle.amqp_txn_types.specs.declared.delivery.DeliveryState.TheVariants as states;
 
     ghost told = { λ link. record {
       put = link.wire.put;
-      ready = λ _. if link.pending == 0 then Some (Ok (Some states.Accepted)) else None;
+      ready = λ _. option_map_or (λ declared. Some (Ok (Some (states.Declared declared))))
+          (if link.pending == 0 then Some (Ok (Some states.Accepted)) else None) link.declared;
       faults = link.wire.calls.faults;
     } };
 
@@ -71,6 +75,9 @@ impl SenderLink for LateLink {
     }
 
     fn outcome(&mut self, _token: &Token) -> Poll<Result<Option<DeliveryState>, LinkStateError>> {
+        if let Some(declared) = self.declared.take() {
+            return Poll::Ready(Ok(Some(DeliveryState::Declared(declared))));
+        }
         if self.pending == 0 {
             return Poll::Ready(Ok(Some(DeliveryState::Accepted)));
         }
@@ -109,9 +116,18 @@ pub fn counting(alloc: Global, failing: &[u64]) -> Result<Controller<CountingLin
 }
 
 /// A controller over a late link.
-pub fn late(alloc: Global, pending: u32) -> Result<Controller<LateLink>, NoMemory> {
+pub fn late(
+    alloc: Global,
+    declared: Option<Declared>,
+    pending: u32,
+) -> Result<Controller<LateLink>, NoMemory> {
     let wire = wire(alloc)?;
-    Ok(Controller::new(alloc, LateLink { wire, pending }))
+    let link = LateLink {
+        wire,
+        declared,
+        pending,
+    };
+    Ok(Controller::new(alloc, link))
 }
 
 /// How often was put, looked and closed.

@@ -4,10 +4,9 @@ use super::links::{CountingLink, counting, counts, fills, id, late, same};
 use super::rows::{
     OverCounting, accepted_row, gives_up, refused_close_row, rejected_row, rollback_row,
 };
-use crate::{Controller, OwnedDeclaringOn, OwnedTransaction, TransactionDischarge};
-use amqp_control_calls::{Abandoned, TransactionBase};
+use crate::{OwnedDeclaringOn, OwnedTransaction, TransactionDischarge};
+use amqp_control_calls::Abandoned;
 use amqp_endpoints::Progress;
-use amqp_links::SenderLink;
 use amqp_txn_types::{Declared, DeliveryState, NoMemory};
 use std::alloc::Global;
 use std::sync::Wait;
@@ -124,5 +123,28 @@ fn unanswered<R: Wait>(rt: &R, alloc: Global) -> Result<bool, NoMemory> {
 #[test]
 fn giving_up_is_unanswered(rt: HostRuntime) -> Result<(), Fail> {
     assert!(rt; unanswered(&rt, rt.alloc())?);
+    Ok(())
+}
+
+/// The end of a transaction that is given up with three trials, over a link that is pending at two
+/// looks.
+fn answered_late<R: Wait>(rt: &R, alloc: Global) -> Result<bool, NoMemory> {
+    let controller = late(alloc, Some(Declared { txn_id: id() }), 2)?;
+    let Ok(declaring) = OwnedTransaction::declare_with_controller(controller, rt, None) else {
+        return Ok(false);
+    };
+    match declaring.poll(rt) {
+        Progress::Ready(Ok(mut transaction)) => {
+            transaction.set_rollback_on_drop_trials(3);
+            let want = Abandoned::Answered(Some(DeliveryState::Accepted));
+            Ok(same(transaction.abandon(rt), want))
+        }
+        Progress::Ready(Err(_)) | Progress::Pending(_) => Ok(false),
+    }
+}
+
+#[test]
+fn giving_up_is_answered_at_the_third_look(rt: HostRuntime) -> Result<(), Fail> {
+    assert!(rt; answered_late(&rt, rt.alloc())?);
     Ok(())
 }
