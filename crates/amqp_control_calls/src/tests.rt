@@ -3,11 +3,11 @@
 use crate::*;
 use amqp_endpoints::Progress;
 use amqp_links::{
-    DetachError, LinkStateError, MessageSizeExceeded, SendError, WireSender, IllegalLinkStateError,
+    DetachError, IllegalLinkStateError, LinkStateError, MessageSizeExceeded, SendError, WireSender,
 };
 use amqp_txn_types::{
-    Accepted, Declared, DeliveryState, LinkEnd, NoMemory, OutputHandle, ReceiverSettleMode, Rejected,
-    Role, SenderSettleMode, Text, Token, TransactionId,
+    Accepted, Declared, DeliveryState, LinkEnd, NoMemory, OutputHandle, ReceiverSettleMode,
+    Rejected, Role, SenderSettleMode, Text, Token, TransactionId,
 };
 use std::alloc::Global;
 use std::fmt::Display;
