@@ -1,0 +1,36 @@
+-- How an acquisition ends.
+use Rattle.std.specs.Prelude.{◌≡◌, ◌⊎◌, false, Result, Ok, Err}
+use Rattle.std.specs.Borrow.{MutBor}
+use Rattle.amqp_endpoints.specs.declared.progress.Progress.{Progress}
+use Rattle.amqp_endpoints.specs.declared.progress.Progress.TheVariants as waits
+use Rattle.amqp_links.specs.declared.errors.IllegalLinkStateError.{IllegalLinkStateError}
+use Rattle.amqp_links.specs.Receiving.{ReceiverTold}
+use Rattle.amqp_transactions.specs.declared.begun.Begun.{Begun}
+use Rattle.amqp_acquisition.specs.declared.acquisition.TxnAcquisition.{TxnAcquisition}
+use Rattle.amqp_acquisition.specs.declared.discharging.AcquisitionDischarging.{AcquisitionDischarging}
+use Rattle.amqp_acquisition.specs.Acquiring.{CleansUp}
+use Rattle.amqp_acquisition.specs.Acquisitions.{lent_to}
+
+-- the acquisition whose discharge is awaited
+abbrev pub acquisition_of : {Txn R E W : Type 0} → AcquisitionDischarging Txn R E W → TxnAcquisition Txn R
+acquisition_of discharging = discharging.acquisition
+
+-- the flow of the cleanup was refused, and so is the end
+abbrev pub CleanupRefused : {E : Type 0} → (IllegalLinkStateError → E → Type 0) → ReceiverTold
+    → ReceiverTold → E → Type 0
+CleanupRefused from old new error =
+    (fault : IllegalLinkStateError) × CleansUp old new (Err fault) × from fault error
+
+-- the end of an acquisition is refused: by its receiver, or its discharge isn't put
+abbrev pub EndRefused : {E : Type 0} → (IllegalLinkStateError → E → Type 0) → ReceiverTold
+    → ReceiverTold → Begun → E → Type 0
+EndRefused from old new begun error =
+    CleanupRefused from old new error
+    ⊎ (CleansUp old new (Ok tt) × (begun.is_discharged ≡ false))
+
+-- a poll leaves the receiver, which is let go with the transaction
+abbrev pub KeepsReceiver : {Txn R W E : Type 0} → (W → TxnAcquisition Txn R) → MutBor R
+    → Progress W (Result Unit (TxnAcquisition Txn R × E)) → Type 0
+KeepsReceiver acquisition_of lent (waits.Pending wait) = lent_to (acquisition_of wait) ≡ lent
+KeepsReceiver acquisition_of lent (waits.Ready (Ok done)) = Unit {0}
+KeepsReceiver acquisition_of lent (waits.Ready (Err refused)) = lent_to refused.0 ≡ lent

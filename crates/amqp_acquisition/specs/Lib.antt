@@ -1,0 +1,3 @@
+pub mod Acquiring
+pub mod Acquisitions
+pub mod Ending

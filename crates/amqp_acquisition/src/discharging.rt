@@ -1,0 +1,150 @@
+//! How an acquisition ends.
+
+ghost use Rattle.std.specs.Prelude.{◌≡◌, Ok, IfErr, IfOk};
+ghost use Rattle.amqp_transactions.specs.Begun.{GivesUp, PollsToEnd};
+ghost use Rattle.amqp_acquisition.specs.Acquiring.{CleansUp};
+ghost use Rattle.amqp_acquisition.specs.Acquisitions.{lent_to, recver_of, txn_of};
+ghost use Rattle.amqp_acquisition.specs.Ending.{EndRefused, KeepsReceiver, acquisition_of};
+
+use crate::acquisition::TxnAcquisition;
+use amqp_control_calls::{Abandoned, TransactionBase};
+use amqp_endpoints::Progress;
+use amqp_links::{FlowError, ReceiverLink};
+use amqp_transactions::TransactionDischarge;
+use std::sync::Wait;
+
+/// An acquisition with a discharge of its transaction that was put.
+pub struct AcquisitionDischarging<'r, Txn: TransactionDischarge, R> {
+    acquisition: TxnAcquisition<'r, Txn, R>,
+    waiting: Txn::Waiting,
+}
+
+impl<'r, Txn: TransactionBase + TransactionDischarge, R: ReceiverLink> TxnAcquisition<'r, Txn, R> {
+    /// Cleans up, and asks for a commit: puts one discharge, whose `fail` is false. An error hands
+    /// the acquisition back; its receiver is cleaned up all the same.
+    pub fn commit<W: Wait>(
+        self,
+        rt: &W,
+    ) -> Result<AcquisitionDischarging<'r, Txn, R>, (Self, Txn::Error)>
+    where
+        Txn::Error: From<FlowError>,
+        ensures wait { IfOk result (λ wait. Txn.begun (txn_of (acquisition_of wait))
+            ≡ Txn.begun (txn_of self.entry)) }
+        ensures back { IfErr result (λ refused. Txn.begun (txn_of refused.0)
+            ≡ Txn.begun (txn_of self.entry)) }
+        ensures cleaned { IfOk result (λ wait. CleansUp (R.told (recver_of self.entry))
+            (R.told (recver_of (acquisition_of wait))) (Ok tt)) }
+        ensures refused { IfErr result (λ refused. EndRefused Txn.Error.from_gives
+            (R.told (recver_of self.entry)) (R.told (recver_of refused.0))
+            (Txn.begun (txn_of self.entry)) refused.1) }
+    {
+        discharge(self, rt, false)
+    }
+
+    /// Cleans up, and asks for a rollback: puts one discharge, whose `fail` is true. An error hands
+    /// the acquisition back; its receiver is cleaned up all the same.
+    pub fn rollback<W: Wait>(
+        self,
+        rt: &W,
+    ) -> Result<AcquisitionDischarging<'r, Txn, R>, (Self, Txn::Error)>
+    where
+        Txn::Error: From<FlowError>,
+        ensures wait { IfOk result (λ wait. Txn.begun (txn_of (acquisition_of wait))
+            ≡ Txn.begun (txn_of self.entry)) }
+        ensures back { IfErr result (λ refused. Txn.begun (txn_of refused.0)
+            ≡ Txn.begun (txn_of self.entry)) }
+        ensures cleaned { IfOk result (λ wait. CleansUp (R.told (recver_of self.entry))
+            (R.told (recver_of (acquisition_of wait))) (Ok tt)) }
+        ensures refused { IfErr result (λ refused. EndRefused Txn.Error.from_gives
+            (R.told (recver_of self.entry)) (R.told (recver_of refused.0))
+            (Txn.begun (txn_of self.entry)) refused.1) }
+    {
+        discharge(self, rt, true)
+    }
+
+    /// Gives the transaction up, after a cleanup where it isn't discharged, whether that succeeds
+    /// or not: see [`TransactionDischarge::abandon`].
+    pub fn abandon<W: Wait>(self, rt: &W) -> Abandoned
+        ensures { GivesUp (Txn.begun (txn_of self.entry)) result }
+    {
+        let mut acquisition = self;
+        if !acquisition.txn().is_discharged() {
+            let _ = acquisition.cleanup();
+        }
+        acquisition.into_txn().abandon(rt)
+    }
+}
+
+/// Cleans up, and puts a discharge.
+fn discharge<'r, Txn: TransactionBase + TransactionDischarge, R: ReceiverLink, W: Wait>(
+    mut acquisition: TxnAcquisition<'r, Txn, R>,
+    rt: &W,
+    fail: bool,
+) -> Result<AcquisitionDischarging<'r, Txn, R>, (TxnAcquisition<'r, Txn, R>, Txn::Error)>
+where
+    Txn::Error: From<FlowError>,
+    ensures wait { IfOk result (λ wait. Txn.begun (txn_of (acquisition_of wait))
+        ≡ Txn.begun (txn_of acquisition.entry)) }
+    ensures back { IfErr result (λ refused. Txn.begun (txn_of refused.0)
+        ≡ Txn.begun (txn_of acquisition.entry)) }
+    ensures cleaned { IfOk result (λ wait. CleansUp (R.told (recver_of acquisition.entry))
+        (R.told (recver_of (acquisition_of wait))) (Ok tt)) }
+    ensures refused { IfErr result (λ refused. EndRefused Txn.Error.from_gives
+        (R.told (recver_of acquisition.entry)) (R.told (recver_of refused.0))
+        (Txn.begun (txn_of acquisition.entry)) refused.1) }
+{
+    if let Err(fault) = acquisition.cleanup() {
+        return Err((acquisition, Txn::Error::from(fault)));
+    }
+    match acquisition.discharge(rt, fail) {
+        Ok(waiting) => Ok(AcquisitionDischarging {
+            acquisition,
+            waiting,
+        }),
+        Err(error) => Err((acquisition, error)),
+    }
+}
+
+impl<'r, Txn: TransactionBase + TransactionDischarge, R: ReceiverLink> AcquisitionDischarging<
+    'r,
+    Txn,
+    R,
+> {
+    /// The acquisition as it stands, so that it can be given up. The discharge that was put is no
+    /// longer awaited.
+    pub fn into_value(self) -> TxnAcquisition<'r, Txn, R>
+        ensures { result ≡ acquisition_of self.entry }
+    {
+        let AcquisitionDischarging {
+            acquisition,
+            waiting: _,
+        } = self;
+        acquisition
+    }
+
+    /// Looks once for the outcome, and lets the transaction go once it was discharged.
+    ///
+    /// An error hands the acquisition back: with its transaction discharged, where that couldn't be
+    /// let go, else as it was.
+    pub fn poll<W: Wait>(
+        self,
+        rt: &W,
+    ) -> Progress<Self, Result<(), (TxnAcquisition<'r, Txn, R>, Txn::Error)>>
+        ensures polls { PollsToEnd (λ acquisition. Txn.begun (txn_of acquisition)) acquisition_of
+            Txn.of_spend (Txn.begun (txn_of (acquisition_of self.entry))) result }
+        ensures lent { KeepsReceiver acquisition_of (lent_to (acquisition_of self.entry)) result }
+    {
+        let AcquisitionDischarging {
+            mut acquisition,
+            waiting,
+        } = self;
+        match acquisition.poll_discharge(rt, waiting) {
+            Progress::Pending(waiting) => Progress::Pending(AcquisitionDischarging {
+                acquisition,
+                waiting,
+            }),
+            Progress::Ready(Ok(())) => Progress::Ready(acquisition.spend(rt)),
+            Progress::Ready(Err(error)) => Progress::Ready(Err((acquisition, error))),
+        }
+    }
+}

@@ -1,0 +1,37 @@
+//! Acquiring deliveries under a transaction, on this side.
+//!
+//! | item | is |
+//! |---|---|
+//! | [`TransactionAcquisition`] | a transaction that may acquire deliveries of a receiver |
+//! | [`TxnAcquisition`] | it with that receiver, whose properties name it |
+//! | [`AcquisitionDischarging`] | an acquisition whose end is awaited |
+//! | [`TransactionExt`] | all that a transaction does |
+//!
+//! A client that passes messages on, each under a transaction of its own:
+//!
+//! ```text
+//! let Ok(mut acquisition) = transaction.acquire(alloc, &mut receiver, 1) else { .. };
+//! let Poll::Ready(Ok(delivery)) = acquisition.recv() else { .. };
+//! let post = acquisition.txn().post(&mut sender, sendable_of(&delivery))?;
+//! acquisition.accept(&delivery.info)?;
+//! let Progress::Ready(Ok(Outcome::Accepted)) = post.poll(&mut sender) else { .. };
+//! let Ok(commit) = acquisition.commit(&rt) else { .. };
+//! let Progress::Ready(Ok(())) = commit.poll(&rt) else { .. };
+//! ```
+//!
+//! Below stand the transactions of `amqp_transactions` and the work under them of `amqp_posting`.
+//! The promise that this crate carries: an acquisition adds the one property `txn-id` and puts one
+//! flow, a cleanup takes that property alone out, whatever the flow is answered, and puts one flow;
+//! each refusal hands back the transaction or the acquisition. 'The standard' is OASIS AMQP 1.0.
+#![tactic(auto)]
+
+mod acquiring;
+mod acquisition;
+mod discharging;
+mod receiving;
+#[cfg(test)]
+mod tests;
+
+pub use acquiring::{TransactionAcquisition, TransactionExt};
+pub use acquisition::TxnAcquisition;
+pub use discharging::AcquisitionDischarging;

@@ -1,0 +1,98 @@
+//! What an acquisition does to its receiver.
+
+ghost use Rattle.std.specs.Prelude.{◌≡◌, codes};
+ghost use Rattle.amqp_txn_types.specs.declared.fields.Value.TheVariants as values;
+ghost use Rattle.amqp_links.specs.Receiving.{Inserts};
+ghost use Rattle.amqp_acquisition.specs.Acquiring.{Acquires, CleansUp, has_key, names_transaction, txn_id_key};
+
+use amqp_links::{FlowError, ReceiverLink};
+use amqp_txn_types::{Binary, Fields, NoMemory, Symbol, TransactionId, Value};
+use std::alloc::Global;
+
+/// The key of the property that names the transaction.
+const TXN_ID: &str = "txn-id";
+
+/// The key, as a symbol.
+#[derive(Drop)]
+pub(crate) struct TxnIdKey {
+    symbol: Symbol,
+    ghost named: { symbol ≡ codes "txn-id" },
+}
+
+impl TxnIdKey {
+    pub(crate) fn new(alloc: Global) -> Result<TxnIdKey, NoMemory> {
+        let symbol = Symbol::from_str(alloc, TXN_ID)?;
+        Ok(TxnIdKey { symbol })
+    }
+}
+
+/// Whether the pairs have the key.
+fn has_key(fields: &Fields, key: &Symbol) -> bool
+    ensures { result ≡ has_key key.now fields.now }
+{
+    for index in 0..fields.len() {
+        let (other, _) = fields.get(index).unwrap();
+        if *key == *other {
+            return true;
+        }
+    }
+    false
+}
+
+/// Whether the receiver's properties name a transaction.
+fn names_transaction<R: ReceiverLink>(recver: &R, key: &TxnIdKey) -> bool
+    ensures { result ≡ names_transaction (R.told recver.now) }
+{
+    match recver.properties() {
+        None => false,
+        Some(fields) => has_key(fields, &key.symbol),
+    }
+}
+
+/// Names the transaction in the receiver's properties, and tells the peer so with the credit.
+///
+/// Errors: `IllegalState` where the properties named a transaction, or what the link's `send_flow`
+/// answered, or `NoMemory`; the properties are as before then, and no map of them is as an empty
+/// one.
+pub(crate) fn acquire_on<R: ReceiverLink>(
+    alloc: Global,
+    recver: &mut R,
+    key: &TxnIdKey,
+    txn_id: &TransactionId,
+    credit: u32,
+) -> Result<(), FlowError>
+    ensures { Acquires (R.told recver.old) (R.told recver.new) txn_id.now credit result }
+{
+    if names_transaction(recver, key) {
+        return Err(FlowError::IllegalState);
+    }
+    name_transaction(alloc, recver, txn_id)?;
+    if let Err(fault) = recver.send_flow(Some(credit), None, false, true) {
+        recver.remove_property(&key.symbol);
+        return Err(fault);
+    }
+    Ok(())
+}
+
+/// Puts the key with the binary id.
+fn name_transaction<R: ReceiverLink>(
+    alloc: Global,
+    recver: &mut R,
+    txn_id: &TransactionId,
+) -> Result<(), NoMemory>
+    ensures { Inserts (R.told recver.old) (R.told recver.new) txn_id_key
+        (values.Binary txn_id.now) result }
+{
+    let TxnIdKey { symbol } = TxnIdKey::new(alloc)?;
+    let octets = Binary::from_slice(alloc, txn_id.as_ref())?;
+    recver.insert_property(symbol, Value::Binary(octets))
+}
+
+/// Takes the key out of the receiver's properties, and tells the peer so: without credit, to be
+/// drained, to be answered. The key is gone after an error too.
+pub(crate) fn clean_up<R: ReceiverLink>(recver: &mut R, key: &TxnIdKey) -> Result<(), FlowError>
+    ensures { CleansUp (R.told recver.old) (R.told recver.new) result }
+{
+    recver.remove_property(&key.symbol);
+    recver.send_flow(Some(0), Some(true), true, true)
+}

@@ -1,0 +1,4 @@
+pub mod Errors
+pub mod Sending
+pub mod Polling
+pub mod Abandoning

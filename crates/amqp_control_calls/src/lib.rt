@@ -1,0 +1,40 @@
+//! Control messages on a link that is lent: what declares, discharges and gives up a transaction.
+//!
+//! | call | puts | answers |
+//! |---|---|---|
+//! | [`declare_on_link`] | a declare | [`DeclareOnLink`], polled for the transaction's id |
+//! | [`discharge_on_link`] | a commit or a rollback | [`DischargeOnLink`], polled for its outcome |
+//! | [`abandon_on_link`] | a rollback | [`Abandoned`], after a number of looks |
+//!
+//! No call waits, and none takes a lock: a control link is any [`SenderLink`] that the caller lends.
+//!
+//! ```text
+//! let declare = declare_on_link(alloc, &mut link, None)?;
+//! let Progress::Ready(Ok(declared)) = declare.poll(&mut link) else { .. };
+//! let commit = discharge_on_link(alloc, &mut link, &declared.txn_id, Some(false))?;
+//! let Progress::Ready(Ok(Accepted)) = commit.poll(&mut link) else { .. };
+//! ```
+//!
+//! Below stand the messages of `amqp_txn_codec` and the links of `amqp_links`. The promise that this
+//! crate carries: each call puts its one message, in its canonical spelling, unsettled, without a
+//! state and not batchable, and nothing else; a poll makes one look, is pending exactly where the
+//! link has no answer for its message, and answers by what the link has; every fault is one that the
+//! link answered. 'The standard' is OASIS AMQP 1.0.
+//!
+//! [`SenderLink`]: amqp_links::SenderLink
+#![tactic(auto)]
+
+mod abandoning;
+mod declaring;
+mod discharging;
+mod errors;
+mod sending;
+#[cfg(test)]
+mod tests;
+mod transaction_base;
+
+pub use abandoning::{Abandoned, abandon_on_link};
+pub use declaring::{DeclareOnLink, declare_on_link};
+pub use discharging::{DischargeOnLink, discharge_on_link};
+pub use errors::{ControllerSendError, link_state_of};
+pub use transaction_base::TransactionBase;

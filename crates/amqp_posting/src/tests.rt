@@ -1,0 +1,272 @@
+//! What no clause says: that the calls succeed where there is memory, and printed texts.
+
+use crate::*;
+use amqp_control_calls::TransactionBase;
+use amqp_endpoints::Progress;
+use amqp_links::{
+    DeliveryInfo, DetachError, DispositionError, IllegalLinkStateError, LinkStateError,
+    MessageSizeExceeded, SendError, Sendable, WireReceiver, WireSender,
+};
+use amqp_txn_types::{
+    Binary, DeliveryState, LinkEnd, Modified, NoMemory, Outcome, OutputHandle, Payload,
+    ReceiverSettleMode, Role, SenderSettleMode, SessionStopReason, Text, Token, TransactionId,
+    TransactionalState,
+};
+use std::alloc::Global;
+use std::fmt::Display;
+use std::test::Fail;
+
+/// A transaction that is only an id.
+#[derive(Drop)]
+struct Named(TransactionId);
+
+impl TransactionBase for Named {
+    ghost id = { λ t. t.0 };
+
+    fn txn_id(&self) -> &TransactionId {
+        &self.0
+    }
+}
+
+impl TransactionPosting for Named {}
+
+impl TransactionRetirement for Named {
+    type RetireError = DispositionError;
+}
+
+/// The transaction 010203.
+fn transaction() -> Named {
+    match TransactionId::new(&[1, 2, 3]) {
+        Ok(id) => Named(id),
+        Err(_) => Named(TransactionId::from([0; 16])),
+    }
+}
+
+/// Whether the two are equal.
+fn same<T: PartialEq + Drop>(found: T, want: T) -> bool {
+    let equal = found == want;
+    drop(found);
+    drop(want);
+    equal
+}
+
+fn end(alloc: Global, role: Role) -> Result<LinkEnd, NoMemory> {
+    let name = Text::from_str(alloc, "q")?;
+    Ok(LinkEnd {
+        name,
+        role,
+        output: OutputHandle(0),
+        snd_settle_mode: SenderSettleMode::Mixed,
+        rcv_settle_mode: ReceiverSettleMode::First,
+    })
+}
+
+fn sendable(settled: Option<bool>) -> Sendable {
+    Sendable {
+        payload: Payload::new(),
+        message_format: 0,
+        settled,
+    }
+}
+
+/// How many posts of each kind were put.
+fn posts(sender: &mut WireSender) -> [bool; 4] {
+    let message = sendable(None);
+    let put = [
+        transaction().post(sender, sendable(None)).is_ok(),
+        transaction().post_batchable(sender, sendable(None)).is_ok(),
+        transaction().post_ref(sender, &message).is_ok(),
+        transaction().post_batchable_ref(sender, &message).is_ok(),
+    ];
+    drop(message);
+    put
+}
+
+#[test]
+fn messages_are_posted(rt: HostRuntime) -> Result<(), Fail> {
+    let end = end(rt.alloc(), Role::Sender)?;
+    let mut sender = WireSender::new(rt.alloc(), end);
+    let put = posts(&mut sender) == [true; 4] && sender.put().len() == 4;
+    drop(sender);
+    assert!(rt; put);
+    Ok(())
+}
+
+/// The answer to a post under another transaction.
+fn released() -> DeliveryState {
+    DeliveryState::TransactionalState(TransactionalState {
+        txn_id: TransactionId::from([7; 16]),
+        outcome: Some(Outcome::Released),
+    })
+}
+
+/// Whether a post is pending, and then released.
+fn is_released(sender: &mut WireSender, post: DeliveryFut) -> bool {
+    let Progress::Pending(post) = post.poll(sender) else {
+        return false;
+    };
+    let awaited = sender.answer(Token(0), Ok(Some(released())));
+    awaited && same(post.poll(sender), Progress::Ready(Ok(Outcome::Released)))
+}
+
+#[test]
+fn a_post_is_answered(rt: HostRuntime) -> Result<(), Fail> {
+    let end = end(rt.alloc(), Role::Sender)?;
+    let mut sender = WireSender::new(rt.alloc(), end);
+    let done = match transaction().post(&mut sender, sendable(None)) {
+        Ok(post) => is_released(&mut sender, post),
+        Err(_) => false,
+    };
+    drop(sender);
+    assert!(rt; done);
+    Ok(())
+}
+
+#[test]
+fn a_post_that_was_settled_is_accepted(rt: HostRuntime) -> Result<(), Fail> {
+    let end = end(rt.alloc(), Role::Sender)?;
+    let mut sender = WireSender::new(rt.alloc(), end);
+    let done = match transaction().post(&mut sender, sendable(Some(true))) {
+        Ok(post) => same(
+            post.poll(&mut sender),
+            Progress::Ready(Ok(Outcome::Accepted)),
+        ),
+        Err(_) => false,
+    };
+    drop(sender);
+    assert!(rt; done);
+    Ok(())
+}
+
+/// How many outcomes of each kind were put.
+fn retires(recver: &mut WireReceiver, info: &DeliveryInfo) -> [bool; 4] {
+    let modified = Modified {
+        delivery_failed: None,
+        undeliverable_here: None,
+        message_annotations: None,
+    };
+    [
+        transaction().accept(recver, info).is_ok(),
+        transaction().reject(recver, info, None).is_ok(),
+        transaction().release(recver, info).is_ok(),
+        transaction().modify(recver, info, modified).is_ok(),
+    ]
+}
+
+#[test]
+fn deliveries_are_retired(rt: HostRuntime) -> Result<(), Fail> {
+    let end = end(rt.alloc(), Role::Receiver)?;
+    let delivery_tag = Binary::from_slice(rt.alloc(), b"\x07")?;
+    let info = DeliveryInfo {
+        delivery_id: 7,
+        delivery_tag,
+        rcv_settle_mode: None,
+    };
+    let mut recver = WireReceiver::new(rt.alloc(), end);
+    let put = retires(&mut recver, &info) == [true; 4] && recver.put().len() == 4;
+    drop(recver);
+    drop(info);
+    assert!(rt; put);
+    Ok(())
+}
+
+/// Whether each failure makes the result that it must.
+fn failures() -> [bool; 4] {
+    let stopped = LinkStateError::SessionStopped(SessionStopReason::Ended);
+    [
+        same(
+            PostResult::from_lost_answer(),
+            Err(PostError::LinkStateError(LinkStateError::IllegalState)),
+        ),
+        same(
+            PostResult::from_session_stop_reason(SessionStopReason::Ended),
+            Err(PostError::LinkStateError(stopped)),
+        ),
+        same(
+            PostResult::from_none(),
+            Err(PostError::IllegalDeliveryState),
+        ),
+        same(
+            PostResult::from_delivery_state(DeliveryState::Accepted),
+            Err(PostError::IllegalDeliveryState),
+        ),
+    ]
+}
+
+#[test]
+fn results_that_are_no_outcome(rt: HostRuntime) {
+    assert!(rt; failures() == [true; 4]);
+}
+
+/// Whether each error of a link is named as it must be.
+fn names() -> [bool; 3] {
+    [
+        same(
+            PostError::from(SendError::MessageEncodeError),
+            PostError::MessageEncodeError,
+        ),
+        same(
+            PostError::from(DetachError::ClosedByRemote),
+            PostError::Detached(DetachError::ClosedByRemote),
+        ),
+        same(
+            PostError::from(IllegalLinkStateError::IllegalState),
+            PostError::LinkStateError(LinkStateError::IllegalState),
+        ),
+    ]
+}
+
+#[test]
+fn faults_of_a_link_by_name(rt: HostRuntime) {
+    assert!(rt; names() == [true; 3]);
+}
+
+/// The place of the first error of the table that reads otherwise.
+fn other_text<E: Display>(alloc: Global, table: &[(E, &str)]) -> Result<Option<usize>, Fail> {
+    for (place, (error, want)) in table.iter().enumerate() {
+        let text = format!(in alloc; "{error}")?;
+        if text.as_str() != *want {
+            return Ok(Some(place));
+        }
+    }
+    Ok(None)
+}
+
+#[test]
+fn texts_of_errors(rt: HostRuntime) -> Result<(), Fail> {
+    let size = MessageSizeExceeded {
+        size: 2,
+        max_size: 1,
+    };
+    let table = [
+        (
+            PostError::LinkStateError(LinkStateError::RemoteClosed),
+            "the remote link closed",
+        ),
+        (
+            PostError::Detached(DetachError::DetachedByRemote),
+            "the link was detached: the remote link detached",
+        ),
+        (
+            PostError::NonTerminalDeliveryState,
+            "a delivery state that is not terminal came in place of an outcome",
+        ),
+        (
+            PostError::IllegalDeliveryState,
+            "a delivery state came that the post cannot have",
+        ),
+        (
+            PostError::MessageSizeExceeded(size),
+            "the message has 2 octets, and the link takes at most 1",
+        ),
+        (
+            PostError::MessageEncodeError,
+            "the message cannot be encoded",
+        ),
+        (PostError::NoMemory, "out of memory"),
+    ];
+    let other = other_text(rt.alloc(), table.as_slice());
+    drop(table);
+    assert!(rt; other? == None);
+    Ok(())
+}

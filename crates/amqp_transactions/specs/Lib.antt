@@ -1,0 +1,6 @@
+pub mod Begun
+pub mod Declaring
+pub mod Attaching
+pub mod Owned
+pub mod Transactions
+pub mod Discharging

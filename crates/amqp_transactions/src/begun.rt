@@ -1,0 +1,92 @@
+//! A transaction that was declared, as its owner sees it.
+
+ghost use Rattle.std.specs.Prelude.{◌≡◌};
+ghost use Rattle.amqp_transactions.specs.Begun.{AsksToDischarge, GivesUp, PollsDischarge, begun_as};
+
+use crate::controller::Controller;
+use amqp_control_calls::{Abandoned, ControllerSendError, DischargeOnLink};
+use amqp_endpoints::Progress;
+use amqp_links::SenderLink;
+use amqp_txn_types::{Accepted, TransactionId};
+use std::sync::Wait;
+
+/// How often an abandon looks for the outcome of its rollback, where nothing else was set.
+pub const DEFAULT_ROLLBACK_ON_DROP_TRIALS: u32 = 20;
+
+/// What the owner of a declared transaction sees of it.
+#[derive(Clone, Copy, Debug, PartialEq)]
+pub struct Begun {
+    /// The id that the coordinator gave.
+    pub txn_id: TransactionId,
+    /// Whether a discharge was accepted.
+    pub is_discharged: bool,
+    /// How often an abandon looks for the outcome of its rollback.
+    pub rollback_on_drop_trials: u32,
+}
+
+impl Begun {
+    /// A transaction that was just declared.
+    pub(crate) fn new(txn_id: TransactionId) -> Begun
+        ensures { result ≡ begun_as txn_id }
+    {
+        Begun {
+            txn_id,
+            is_discharged: false,
+            rollback_on_drop_trials: DEFAULT_ROLLBACK_ON_DROP_TRIALS,
+        }
+    }
+
+    /// Asks for a discharge, or for nothing where it was discharged before.
+    pub(crate) fn discharge<L: SenderLink, R: Wait>(
+        &mut self,
+        rt: &R,
+        controller: &Controller<L>,
+        fail: bool,
+    ) -> Result<DischargeOnLink, ControllerSendError>
+        ensures { AsksToDischarge self.old self.new result }
+    {
+        if self.is_discharged {
+            return Ok(DischargeOnLink::unsent());
+        }
+        controller.discharge(rt, &self.txn_id, fail)
+    }
+
+    /// Polls a discharge, and marks the value where it was accepted.
+    pub(crate) fn poll_discharge<L: SenderLink, R: Wait>(
+        &mut self,
+        rt: &R,
+        controller: &Controller<L>,
+        waiting: DischargeOnLink,
+    ) -> Progress<DischargeOnLink, Result<(), ControllerSendError>>
+        ensures { PollsDischarge self.old self.new waiting result }
+    {
+        if self.is_discharged {
+            return Progress::Ready(Ok(()));
+        }
+        match controller.poll_discharge(rt, waiting) {
+            Progress::Pending(waiting) => Progress::Pending(waiting),
+            Progress::Ready(Ok(Accepted)) => {
+                self.is_discharged = true;
+                Progress::Ready(Ok(()))
+            }
+            Progress::Ready(Err(error)) => Progress::Ready(Err(error)),
+        }
+    }
+
+    /// Rolls back, unless it was discharged or there are no trials.
+    pub(crate) fn abandon<L: SenderLink, R: Wait>(
+        &self,
+        rt: &R,
+        controller: &Controller<L>,
+    ) -> Abandoned
+        ensures { GivesUp self.now result }
+    {
+        if self.is_discharged {
+            return Abandoned::Discharged;
+        }
+        if self.rollback_on_drop_trials == 0 {
+            return Abandoned::Skipped;
+        }
+        controller.abandon(rt, &self.txn_id, self.rollback_on_drop_trials)
+    }
+}

@@ -1,0 +1,67 @@
+//! Transactions of the controlling side, over one control link under a lock.
+//!
+//! | item | is |
+//! |---|---|
+//! | [`Controller`] | a control link under a lock, over which transactions are declared |
+//! | [`ControllerBuilder`], [`Attaching`] | how such a link is attached |
+//! | [`Transaction`] | a transaction that borrows its controller; several may share one |
+//! | [`OwnedTransaction`] | a transaction with a controller of its own, closed at its end |
+//! | [`TransactionDischarge`], [`Discharging`] | how both end |
+//!
+//! Calls of this crate that take the runtime take the lock; each makes one call of
+//! `amqp_control_calls` under it, and lets the lock go. A poll takes it anew, so two transactions
+//! over one controller are polled in any order.
+//!
+//! ```text
+//! let controller = Controller::new(alloc, link);
+//! let declaring = Transaction::declare(&controller, &rt, None)?;
+//! let Progress::Ready(Ok(transaction)) = declaring.poll(&rt) else { .. };
+//! let Ok(commit) = transaction.commit(&rt) else { .. };
+//! let Progress::Ready(Ok(())) = commit.poll(&rt) else { .. };
+//! ```
+//!
+//! The life of a transaction on this side:
+//!
+//! ```text
+//!              declare            poll: Declared
+//!  controller ─────────▶ waiting ───────────────▶ transaction ─── abandon ──▶ gone
+//!      ▲                    │                       │      ▲
+//!      └── poll: an error ──┘      commit, rollback │      │ poll: an error
+//!                                                   ▼      │
+//!                                                 waiting ─┘
+//!                                                   │ poll: Accepted
+//!                                                   ▼
+//!                                               discharged ─── spend ──▶ gone
+//! ```
+//!
+//! A transaction must be spent: no value of it is let go but at the end of this diagram. Below stand
+//! the calls on a lent link, of `amqp_control_calls`. The promise that this crate carries is what
+//! values show: a transaction is marked discharged exactly where a poll found its discharge
+//! accepted, a discharged one puts and looks at nothing more, and each refusal hands back the value
+//! or the controller. No contract can say what a link under a lock holds: that the calls under the
+//! lock are those that are named here is tested. 'The standard' is OASIS AMQP 1.0.
+#![tactic(auto)]
+
+mod attaching;
+mod begun;
+mod builder;
+mod controller;
+mod discharge;
+mod discharging;
+mod owned_declaring;
+mod owned_errors;
+mod owned_transaction;
+#[cfg(test)]
+mod tests;
+mod transaction;
+
+pub use attaching::Attaching;
+pub use begun::{Begun, DEFAULT_ROLLBACK_ON_DROP_TRIALS};
+pub use builder::ControllerBuilder;
+pub use controller::Controller;
+pub use discharge::TransactionDischarge;
+pub use discharging::Discharging;
+pub use owned_declaring::OwnedDeclaring;
+pub use owned_errors::{OwnedDeclareError, OwnedDischargeError};
+pub use owned_transaction::{OwnedDeclaringOn, OwnedTransaction};
+pub use transaction::{Declaring, Transaction};

@@ -1,0 +1,87 @@
+//! Why an owned transaction isn't declared or discharged.
+
+use amqp_control_calls::ControllerSendError;
+use amqp_endpoints::SenderAttachError;
+use amqp_links::{DetachError, IllegalLinkStateError};
+use thiserror::Error as ThisError;
+
+/// Why an owned transaction isn't declared.
+#[derive(Debug, Drop, PartialEq, ThisError)]
+pub enum OwnedDeclareError {
+    /// Its control link isn't attached.
+    #[error("the control link is not attached: {0}")]
+    AttachError(SenderAttachError),
+    /// The declare isn't sent, or something else was answered than the transaction's id.
+    #[error("the transaction is not declared: {0}")]
+    ControllerSendError(ControllerSendError),
+}
+
+impl From<SenderAttachError> for OwnedDeclareError {
+    ghost use Rattle.std.specs.Prelude.{◌≡◌};
+    ghost use Rattle.amqp_transactions.specs.declared.owned_errors.OwnedDeclareError.TheVariants as errors;
+
+    ghost from_gives = { λ fault error. error ≡ errors.AttachError fault };
+
+    fn from(error: SenderAttachError) -> Self {
+        OwnedDeclareError::AttachError(error)
+    }
+}
+
+impl From<ControllerSendError> for OwnedDeclareError {
+    ghost use Rattle.std.specs.Prelude.{◌≡◌};
+    ghost use Rattle.amqp_transactions.specs.declared.owned_errors.OwnedDeclareError.TheVariants as errors;
+
+    ghost from_gives = { λ fault error. error ≡ errors.ControllerSendError fault };
+
+    fn from(error: ControllerSendError) -> Self {
+        OwnedDeclareError::ControllerSendError(error)
+    }
+}
+
+/// Why an owned transaction isn't discharged, or not let go.
+#[derive(Debug, Drop, PartialEq, ThisError)]
+pub enum OwnedDischargeError {
+    /// The discharge isn't sent, or something else was answered than that it is done.
+    #[error("the transaction is not discharged: {0}")]
+    ControllerSendError(ControllerSendError),
+    /// The transaction was discharged, and its control link isn't closed.
+    #[error("the control link is not closed: {0}")]
+    DetachError(DetachError),
+}
+
+impl From<ControllerSendError> for OwnedDischargeError {
+    ghost use Rattle.std.specs.Prelude.{◌≡◌};
+    ghost use Rattle.amqp_transactions.specs.declared.owned_errors.OwnedDischargeError.TheVariants as errors;
+
+    ghost from_gives = { λ fault error. error ≡ errors.ControllerSendError fault };
+
+    fn from(error: ControllerSendError) -> Self {
+        OwnedDischargeError::ControllerSendError(error)
+    }
+}
+
+impl From<DetachError> for OwnedDischargeError {
+    ghost use Rattle.std.specs.Prelude.{◌≡◌};
+    ghost use Rattle.amqp_transactions.specs.declared.owned_errors.OwnedDischargeError.TheVariants as errors;
+
+    ghost from_gives = { λ fault error. error ≡ errors.DetachError fault };
+
+    fn from(error: DetachError) -> Self {
+        OwnedDischargeError::DetachError(error)
+    }
+}
+
+/// Each error is the state of the control link of its name.
+impl From<IllegalLinkStateError> for OwnedDischargeError {
+    ghost use Rattle.std.specs.Prelude.{◌≡◌};
+    ghost use Rattle.amqp_control_calls.specs.Errors.{link_state};
+    ghost use Rattle.amqp_control_calls.specs.declared.errors.ControllerSendError.TheVariants as sends;
+    ghost use Rattle.amqp_transactions.specs.declared.owned_errors.OwnedDischargeError.TheVariants as errors;
+
+    ghost from_gives = { λ fault error. error ≡ errors.ControllerSendError
+        (sends.LinkStateError (link_state fault)) };
+
+    fn from(error: IllegalLinkStateError) -> Self {
+        OwnedDischargeError::ControllerSendError(ControllerSendError::from(error))
+    }
+}

@@ -1,0 +1,202 @@
+//! Transactions that own their controller.
+
+ghost use Rattle.std.specs.Prelude.{◌≡◌, IfErr};
+ghost use Rattle.amqp_transactions.specs.Begun.{with_trials};
+ghost use Rattle.amqp_transactions.specs.Declaring.{PollsToBegin};
+ghost use Rattle.amqp_transactions.specs.Owned.{is_close_error};
+
+use crate::begun::Begun;
+use crate::controller::Controller;
+use crate::discharge::TransactionDischarge;
+use crate::owned_errors::OwnedDischargeError;
+use amqp_control_calls::{
+    Abandoned, ControllerSendError, DeclareOnLink, DischargeOnLink, TransactionBase,
+};
+use amqp_endpoints::Progress;
+use amqp_links::{DispositionError, SenderLink};
+use amqp_posting::{TransactionPosting, TransactionRetirement};
+use amqp_txn_types::TransactionId;
+use std::marker::Model;
+use std::sync::Wait;
+
+/// A transaction with a control link of its own, which is closed once it was discharged. A contract
+/// sees its id, whether it was discharged, and its trials. Part 4 of the standard, section 4.1.
+///
+/// It must be spent: it ends by a commit or a rollback that was accepted, or by
+/// [`abandon`](TransactionDischarge::abandon), which doesn't close the link.
+pub struct OwnedTransaction<L: SenderLink> {
+    controller: Controller<L>,
+    begun: Begun,
+}
+
+impl<L: SenderLink> Model for OwnedTransaction<L> {
+    ghost use Rattle.amqp_transactions.specs.declared.begun.Begun.{Begun as Seen};
+
+    ghost Value = { Seen };
+
+    ghost view = { λ t. t.begun };
+}
+
+impl<L: SenderLink> OwnedTransaction<L> {
+    /// Asks the coordinator of the link for a transaction: puts one declare. Part 4 of the standard,
+    /// section 4.2 (declaring a transaction).
+    ///
+    /// An error is that of [`declare_on_link`](amqp_control_calls::declare_on_link), with the
+    /// controller handed back as it was.
+    pub fn declare_with_controller<R: Wait>(
+        controller: Controller<L>,
+        rt: &R,
+        global_id: Option<TransactionId>,
+    ) -> Result<OwnedDeclaringOn<L>, (Controller<L>, ControllerSendError)>
+        ensures { IfErr result (λ refused. refused.0 ≡ controller) }
+    {
+        match controller.declare(rt, global_id) {
+            Ok(declare) => Ok(OwnedDeclaringOn {
+                controller,
+                declare,
+            }),
+            Err(error) => Err((controller, error)),
+        }
+    }
+
+    /// The controller of the transaction's link.
+    pub fn controller(&self) -> &Controller<L> {
+        &self.controller
+    }
+
+    /// How often an abandon looks for the outcome of its rollback.
+    pub fn rollback_on_drop_trials(&self) -> u32
+        ensures { result ≡ self.now.rollback_on_drop_trials }
+    {
+        self.begun.rollback_on_drop_trials
+    }
+
+    /// Sets how often an abandon looks for the outcome of its rollback. With 0 it puts none.
+    pub fn set_rollback_on_drop_trials(&mut self, trials: u32)
+        ensures { self.new ≡ with_trials self.old trials }
+    {
+        self.begun.rollback_on_drop_trials = trials;
+    }
+}
+
+impl<L: SenderLink> TransactionBase for OwnedTransaction<L> {
+    ghost id = { λ t. t.txn_id };
+
+    fn txn_id(&self) -> &TransactionId {
+        &self.begun.txn_id
+    }
+}
+
+impl<L: SenderLink> TransactionPosting for OwnedTransaction<L> {}
+
+impl<L: SenderLink> TransactionRetirement for OwnedTransaction<L> {
+    type RetireError = DispositionError;
+}
+
+/// A `spend` closes the link. Where that fails the value handed back is discharged.
+impl<L: SenderLink + Drop> TransactionDischarge for OwnedTransaction<L> {
+    type Error = OwnedDischargeError;
+
+    type Waiting = DischargeOnLink;
+
+    ghost begun = { λ t. t };
+
+    ghost of_spend = { is_close_error };
+
+    fn is_discharged(&self) -> bool {
+        self.begun.is_discharged
+    }
+
+    fn discharge<R: Wait>(
+        &mut self,
+        rt: &R,
+        fail: bool,
+    ) -> Result<DischargeOnLink, OwnedDischargeError> {
+        match self.begun.discharge(rt, &self.controller, fail) {
+            Ok(waiting) => Ok(waiting),
+            Err(error) => Err(OwnedDischargeError::ControllerSendError(error)),
+        }
+    }
+
+    fn poll_discharge<R: Wait>(
+        &mut self,
+        rt: &R,
+        waiting: DischargeOnLink,
+    ) -> Progress<DischargeOnLink, Result<(), OwnedDischargeError>> {
+        match self.begun.poll_discharge(rt, &self.controller, waiting) {
+            Progress::Pending(waiting) => Progress::Pending(waiting),
+            Progress::Ready(Ok(())) => Progress::Ready(Ok(())),
+            Progress::Ready(Err(error)) => {
+                Progress::Ready(Err(OwnedDischargeError::ControllerSendError(error)))
+            }
+        }
+    }
+
+    fn spend<R: Wait>(self, rt: &R) -> Result<(), (Self, OwnedDischargeError)> {
+        if let Err(fault) = self.controller.close_link(rt, None) {
+            return Err((self, OwnedDischargeError::DetachError(fault)));
+        }
+        let OwnedTransaction {
+            controller: _,
+            begun: _,
+        } = self;
+        Ok(())
+    }
+
+    fn abandon<R: Wait>(self, rt: &R) -> Abandoned {
+        let OwnedTransaction { controller, begun } = self;
+        begun.abandon(rt, &controller)
+    }
+}
+
+/// An owned transaction whose declare was put. A contract sees how that was sent.
+#[derive(Drop)]
+pub struct OwnedDeclaringOn<L: SenderLink> {
+    controller: Controller<L>,
+    declare: DeclareOnLink,
+}
+
+impl<L: SenderLink> Model for OwnedDeclaringOn<L> {
+    ghost use Rattle.amqp_links.specs.declared.sendable.Sent.{Sent as HowSent};
+
+    ghost Value = { HowSent };
+
+    ghost view = { λ d. d.declare };
+}
+
+impl<L: SenderLink> OwnedDeclaringOn<L> {
+    /// The controller of the link on which the declare was put.
+    pub fn controller(&self) -> &Controller<L> {
+        &self.controller
+    }
+
+    /// Looks once for the outcome of the declare. The transaction isn't discharged, and its trials
+    /// are [`DEFAULT_ROLLBACK_ON_DROP_TRIALS`](crate::DEFAULT_ROLLBACK_ON_DROP_TRIALS).
+    ///
+    /// An error is that of [`DeclareOnLink::poll`], with the controller handed back.
+    pub fn poll<R: Wait>(
+        self,
+        rt: &R,
+    ) -> Progress<
+        OwnedDeclaringOn<L>,
+        Result<OwnedTransaction<L>, (Controller<L>, ControllerSendError)>,
+    >
+        ensures { PollsToBegin (λ begun. begun) self result }
+    {
+        let OwnedDeclaringOn {
+            controller,
+            declare,
+        } = self;
+        match controller.poll_declare(rt, declare) {
+            Progress::Pending(declare) => Progress::Pending(OwnedDeclaringOn {
+                controller,
+                declare,
+            }),
+            Progress::Ready(Ok(declared)) => {
+                let begun = Begun::new(declared.txn_id);
+                Progress::Ready(Ok(OwnedTransaction { controller, begun }))
+            }
+            Progress::Ready(Err(error)) => Progress::Ready(Err((controller, error))),
+        }
+    }
+}

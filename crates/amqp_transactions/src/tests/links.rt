@@ -1,0 +1,193 @@
+//! Links that count what is done to them.
+
+use crate::Controller;
+use amqp_links::{
+    DetachError, LinkStateError, Poll, SendError, Sendable, SenderLink, Sent, WireSender,
+};
+use amqp_txn_types::{
+    CallNumbers, Declared, DeliveryState, Error, LinkEnd, NoMemory, OutputHandle, Payload,
+    ReceiverSettleMode, Role, SenderSettleMode, Text, Token, TransactionId,
+};
+use std::alloc::Global;
+use std::sync::Wait;
+
+/// A link that counts its looks and closes, beside what its wire lists.
+#[derive(Drop)]
+pub struct CountingLink {
+    wire: WireSender,
+    looks: u32,
+    closes: u32,
+}
+
+impl SenderLink for CountingLink {
+    ghost use Rattle.amqp_links.specs.SenderWire.{sender_tells};
+
+    ghost told = { λ link. sender_tells link.wire };
+
+    fn send(
+        &mut self,
+        sendable: Sendable,
+        state: Option<DeliveryState>,
+        batchable: bool,
+    ) -> Result<Sent, SendError> {
+        self.wire.send(sendable, state, batchable)
+    }
+
+    fn outcome(&mut self, token: &Token) -> Poll<Result<Option<DeliveryState>, LinkStateError>> {
+        self.looks = self.looks.saturating_add(1);
+        self.wire.outcome(token)
+    }
+
+    fn close(&mut self, error: Option<Error>) -> Result<(), DetachError> {
+        self.closes = self.closes.saturating_add(1);
+        self.wire.close(error)
+    }
+}
+
+/// A link on which the first look finds a declared transaction, where there is one, and then every
+/// message is accepted, once it was looked for so many times in vain.
+#[derive(Drop)]
+pub struct LateLink {
+    wire: WireSender,
+    declared: Option<Declared>,
+    pending: u32,
+}
+
+impl SenderLink for LateLink {
+    ghost use Rattle.std.specs.Prelude.{if◌then◌else◌, Some, None, Ok, ◌==◌};
+    ghost use Rattle.std.specs.Option.{option_map_or};
+    ghost use Rattle.amqp_txn_types.specs.declared.delivery.DeliveryState.TheVariants as states;
+
+    ghost told = { λ link. record {
+      put = link.wire.put;
+      ready = λ _. option_map_or (λ declared. Some (Ok (Some (states.Declared declared))))
+          (if link.pending == 0 then Some (Ok (Some states.Accepted)) else None) link.declared;
+      faults = link.wire.calls.faults;
+    } };
+
+    fn send(
+        &mut self,
+        sendable: Sendable,
+        state: Option<DeliveryState>,
+        batchable: bool,
+    ) -> Result<Sent, SendError> {
+        self.wire.send(sendable, state, batchable)
+    }
+
+    fn outcome(&mut self, _token: &Token) -> Poll<Result<Option<DeliveryState>, LinkStateError>> {
+        if let Some(declared) = self.declared.take() {
+            return Poll::Ready(Ok(Some(DeliveryState::Declared(declared))));
+        }
+        if self.pending == 0 {
+            return Poll::Ready(Ok(Some(DeliveryState::Accepted)));
+        }
+        self.pending -= 1;
+        Poll::Pending
+    }
+
+    fn close(&mut self, error: Option<Error>) -> Result<(), DetachError> {
+        self.wire.close(error)
+    }
+}
+
+fn wire(alloc: Global) -> Result<WireSender, NoMemory> {
+    let name = Text::from_str(alloc, "c")?;
+    let end = LinkEnd {
+        name,
+        role: Role::Sender,
+        output: OutputHandle(0),
+        snd_settle_mode: SenderSettleMode::Unsettled,
+        rcv_settle_mode: ReceiverSettleMode::First,
+    };
+    Ok(WireSender::new(alloc, end))
+}
+
+/// A controller over a counting link, of whose calls those of the numbers are to fail.
+pub fn counting(alloc: Global, failing: &[u64]) -> Result<Controller<CountingLink>, NoMemory> {
+    let mut wire = wire(alloc)?;
+    let failing = Vec::from_slice(alloc, failing)?;
+    wire.set_failing(CallNumbers::from_vec(failing));
+    let link = CountingLink {
+        wire,
+        looks: 0,
+        closes: 0,
+    };
+    Ok(Controller::new(alloc, link))
+}
+
+/// A controller over a late link.
+pub fn late(
+    alloc: Global,
+    declared: Option<Declared>,
+    pending: u32,
+) -> Result<Controller<LateLink>, NoMemory> {
+    let wire = wire(alloc)?;
+    let link = LateLink {
+        wire,
+        declared,
+        pending,
+    };
+    Ok(Controller::new(alloc, link))
+}
+
+/// How often was put, looked and closed.
+pub fn counts<R: Wait>(rt: &R, controller: &Controller<CountingLink>) -> (usize, u32, u32) {
+    let link = controller.link(rt);
+    (link.wire.put().len(), link.looks, link.closes)
+}
+
+/// Fills in the answer to the message of that number, and says whether it was awaited.
+pub fn fills<R: Wait>(
+    rt: &R,
+    controller: &Controller<CountingLink>,
+    number: u64,
+    state: DeliveryState,
+) -> bool {
+    let mut link = controller.link(rt);
+    link.wire.answer(Token(number), Ok(Some(state)))
+}
+
+/// Whether the last message that was put is that, unsettled, without a state, not batchable.
+pub fn last_is<R: Wait>(
+    rt: &R,
+    alloc: Global,
+    controller: &Controller<CountingLink>,
+    octets: &[u8],
+) -> bool {
+    let Ok(payload) = Payload::from_slice(alloc, octets) else {
+        return false;
+    };
+    let want = Sendable {
+        payload,
+        message_format: 0,
+        settled: Some(false),
+    };
+    let link = controller.link(rt);
+    let equal = match link.wire.put().as_slice().last() {
+        None => false,
+        Some(message) => {
+            message.sendable == want
+                && message.state.is_none()
+                && !message.batchable
+                && message.sent != Sent::Settled
+        }
+    };
+    drop(want);
+    equal
+}
+
+/// The id 010203.
+pub fn id() -> TransactionId {
+    match TransactionId::new(&[1, 2, 3]) {
+        Ok(id) => id,
+        Err(_) => TransactionId::from([0; 16]),
+    }
+}
+
+/// Whether the two are equal.
+pub fn same<T: PartialEq + Drop>(found: T, want: T) -> bool {
+    let equal = found == want;
+    drop(found);
+    drop(want);
+    equal
+}
