@@ -1,0 +1,5 @@
+pub mod States
+pub mod Turns
+pub mod Asking
+pub mod Reasons
+pub mod Ending

@@ -1,0 +1,10 @@
+//! The session engine.
+#![tactic(auto)]
+
+mod controls;
+mod ending;
+mod reasons;
+mod turn;
+
+pub use controls::{ConnectionControl, ControlReply, SessionControl};
+pub use turn::{Running, SessionFrame, SessionFrameBody, Turn};
