@@ -7,7 +7,7 @@ ghost use Rattle.amqp_session_engine.specs.Asking.{OrNoMemory};
 ghost use Rattle.amqp_session_engine.specs.Reasons.{KeepsStop, remote_stop, stop_of_outcome};
 ghost use Rattle.amqp_session_engine.specs.States.{awaits_end, owes_end, running_once_ended, takes_end};
 
-use crate::reasons::{local_stop, remote_stop};
+use crate::reasons::{connection_stop_for, local_stop, remote_stop};
 use crate::turn::{Running, Turn, quiet, sending_end};
 use amqp_layer::SessionInnerError;
 use amqp_sessions::Session;
@@ -84,24 +84,8 @@ fn answer_end<S: Session>(
     send_end(alloc, session, None, Running::Stop)
 }
 
-/// The peer ends a session in which frames pass, and gives no error. What is kept of the connection
-/// is copied before anything is changed.
-fn peer_ends_plainly<S: Session>(
-    alloc: Global,
-    session: &mut S,
-    channel: IncomingChannel,
-    end: End,
-) -> Result<Turn, SessionInnerError>
-    requires { end.error ≡ None }
-    ensures { PeerEnds S.told S.kept S.names S.end_received_gives S.stop_gives S.end_sent_gives
-        session.old session.new channel end result }
-{
-    let reason = remote_stop(session)?;
-    session.on_incoming_end(channel, &end)?;
-    answer_end(alloc, session, reason)
-}
-
-/// The peer ends a session in which frames pass.
+/// The peer ends a session in which frames pass. What is kept of the connection is copied before
+/// anything is changed.
 pub(crate) fn peer_ends<S: Session>(
     alloc: Global,
     session: &mut S,
@@ -111,15 +95,9 @@ pub(crate) fn peer_ends<S: Session>(
     ensures { PeerEnds S.told S.kept S.names S.end_received_gives S.stop_gives S.end_sent_gives
         session.old session.new channel end result }
 {
-    if end.error.is_none() {
-        return peer_ends_plainly(alloc, session, channel, end);
-    }
+    let connection = connection_stop_for(session, &end)?;
     session.on_incoming_end(channel, &end)?;
-    let reason = match end.error {
-        Some(error) => SessionStopReason::RemoteEndedWithError(error),
-        None => SessionStopReason::RemoteEnded,
-    };
-    answer_end(alloc, session, reason)
+    answer_end(alloc, session, remote_stop(end.error, connection))
 }
 
 /// The end that was awaited has come.

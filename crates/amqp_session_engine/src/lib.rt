@@ -3,6 +3,9 @@
 
 mod controls;
 mod ending;
+mod faults;
+mod incoming;
+mod outgoing;
 mod reasons;
 mod turn;
 

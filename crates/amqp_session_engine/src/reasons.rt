@@ -4,7 +4,7 @@ ghost use Rattle.std.specs.Prelude.{◌≡◌, IfOk, true};
 ghost use Rattle.amqp_session_engine.specs.Reasons.{KeepsStop, local_stop, reason_or_closed, remote_stop};
 
 use amqp_sessions::Session;
-use amqp_txn_types::{ConnectionStopReason, Error, NoMemory, SessionStopReason, TryClone};
+use amqp_txn_types::{ConnectionStopReason, End, Error, NoMemory, SessionStopReason, TryClone};
 
 /// A copy of the reason why the connection stopped, where it did.
 pub(crate) fn connection_stop<S: Session>(
@@ -47,13 +47,31 @@ pub(crate) fn local_stop<S: Session>(
     }
 }
 
-/// Why a session stops that the peer ends, where it gives no error.
-pub(crate) fn remote_stop<S: Session>(session: &S) -> Result<SessionStopReason, NoMemory>
-    ensures { IfOk result (λ reason.
-        reason ≡ remote_stop None (S.kept session.now).connection) }
+/// What a session's stop by the peer's end takes from the connection's: nothing where the end has an
+/// error.
+pub(crate) fn connection_stop_for<S: Session>(
+    session: &S,
+    end: &End,
+) -> Result<Option<ConnectionStopReason>, NoMemory>
+    ensures { IfOk result (λ copy. remote_stop end.now.error copy
+        ≡ remote_stop end.now.error (S.kept session.now).connection) }
 {
-    match connection_stop(session)? {
-        Some(reason) => Ok(SessionStopReason::ConnectionStopped(reason)),
-        None => Ok(SessionStopReason::RemoteEnded),
+    if end.error.is_some() {
+        return Ok(None);
+    }
+    connection_stop(session)
+}
+
+/// Why a session stops that the peer ends: its error, else why the connection stopped.
+pub(crate) fn remote_stop(
+    error: Option<Error>,
+    connection: Option<ConnectionStopReason>,
+) -> SessionStopReason
+    ensures { result ≡ remote_stop error connection }
+{
+    match (error, connection) {
+        (Some(error), _) => SessionStopReason::RemoteEndedWithError(error),
+        (None, Some(reason)) => SessionStopReason::ConnectionStopped(reason),
+        (None, None) => SessionStopReason::RemoteEnded,
     }
 }
