@@ -1,5 +1,5 @@
 -- What an engine does with a control.
-use Rattle.std.specs.Prelude.{ℕ, ◌≡◌, Bool, true, false, not, Option, Some, None, Result, Ok, Err, List, is_some}
+use Rattle.std.specs.Prelude.{ℕ, ◌≡◌, ◌||◌, Bool, true, false, Option, Some, None, Result, Ok, Err, List, is_some}
 use Rattle.amqp_txn_types.specs.Counts.{Rose}
 use Rattle.amqp_txn_types.specs.declared.delivery.Error.{Error}
 use Rattle.amqp_txn_types.specs.declared.delivery.ErrorCondition.TheVariants as conditions
@@ -10,6 +10,7 @@ use Rattle.amqp_txn_types.specs.declared.small.Accepted.{Accepted}
 use Rattle.amqp_txn_types.specs.declared.small.ConnectionError.{ConnectionError}
 use Rattle.amqp_txn_types.specs.declared.small.InputHandle.{InputHandle}
 use Rattle.amqp_txn_types.specs.declared.small.OutputHandle.{OutputHandle}
+use Rattle.amqp_txn_types.specs.declared.small.SessionState.{SessionState}
 use Rattle.amqp_txn_types.specs.declared.small.TransactionError.{TransactionError}
 use Rattle.amqp_txn_types.specs.declared.text.Text.{Text}
 use Rattle.amqp_ids.specs.Drawn.{DrawnIds}
@@ -34,6 +35,7 @@ use Rattle.amqp_session_engine.specs.declared.turn.Running.TheVariants.{Continue
 use Rattle.amqp_session_engine.specs.declared.turn.Turn.{Turn}
 use Rattle.amqp_session_engine.specs.Asking.{OrNoMemory}
 use Rattle.amqp_session_engine.specs.Outgoing.{Passes}
+use Rattle.amqp_session_engine.specs.States.{is_mapped}
 use Rattle.amqp_session_engine.specs.Turns.{Unasked, quiet, replying}
 
 -- the control is that the session end
@@ -76,20 +78,27 @@ Links told kept names Gives old new name state result =
     × (result ≡ Ok (replying (replies.Linked answer)))
     × LinkAsked told kept names Gives old new name state answer
 
+-- a link is let go
+abbrev pub Frees : {S : Type 0} → (S → Told) → (S → Kept) → (S → Names)
+    → (S → S → OutputHandle → Bool → Type 0)
+    → S → S → OutputHandle → Result Turn SessionInnerError → Type 0
+Frees told kept names Gives old new output result =
+    (result ≡ Ok (quiet Continue)) × FreeAsked told kept names Gives old new output
+
 -- the controls of links
 abbrev pub ControlsLinks : {S : Type 0} → (S → Told) → (S → Kept) → (S → Names)
     → (S → S → Text → Relay → Result OutputHandle AllocLinkError → Type 0)
     → (S → S → Text → Relay → InputHandle → Result OutputHandle AllocLinkError → Type 0)
     → (S → S → OutputHandle → Bool → Type 0)
     → S → S → SessionControl → Result Turn SessionInnerError → Type 0
-ControlsLinks told kept names Makes Incoming Frees old new (controls.AllocateLink name relay) result =
+ControlsLinks told kept names Makes Incoming Drops old new (controls.AllocateLink name relay) result =
     Links told kept names (Makes old new name relay) old new name Waiting result
-ControlsLinks told kept names Makes Incoming Frees old new
+ControlsLinks told kept names Makes Incoming Drops old new
     (controls.AllocateIncomingLink name relay input) result =
     Links told kept names (Incoming old new name relay input) old new name Taken result
-ControlsLinks told kept names Makes Incoming Frees old new (controls.DeallocateLink output) result =
-    (result ≡ Ok (quiet Continue)) × FreeAsked told kept names Frees old new output
-ControlsLinks told kept names Makes Incoming Frees old new _ result = Unit {0}
+ControlsLinks told kept names Makes Incoming Drops old new (controls.DeallocateLink output) result =
+    Frees told kept names Drops old new output result
+ControlsLinks told kept names Makes Incoming Drops old new _ result = Unit {0}
 
 -- ---- the calls on transactions
 
@@ -123,31 +132,61 @@ committed (Ok answer) = Ok (replying (replies.Committed answer))
 committed (Err commits.NoMemory) = Err faults.NoMemory
 committed (Err (commits.Refused error handed)) = Err error
 
+-- an id is asked for, and what the session answered is the reply
+abbrev pub Declares : {S : Type 0} → (S → Told)
+    → (S → S → (ℕ → TransactionId) → (ℕ → TransactionId) → Result DrawnIds AllocTxnIdError
+    → Type 0)
+    → S → S → (ℕ → TransactionId) → (ℕ → TransactionId) → Result Turn SessionInnerError → Type 0
+Declares told Gives old new before after result =
+    (answer : Result DrawnIds AllocTxnIdError)
+    × (result ≡ Ok (replying (replies.Allocated answer)))
+    × IdAsked told (Gives old new before after) old new before after answer
+
+-- a commit is asked for, and what the session answered is the reply
+abbrev pub Commits : {S : Type 0} → (S → Told)
+    → (S → S → TransactionId → Result (Result (List Answers) TransactionError) CommitFault → Type 0)
+    → S → S → TransactionId → Result Turn SessionInnerError → Type 0
+Commits told Gives old new id result =
+    (answer : Result (Result (List Answers) TransactionError) CommitFault)
+    × (result ≡ committed answer) × CommitAsked told (Gives old new id) old new answer
+
+-- a rollback is asked for; this is the reply to what the session answered
+abbrev pub RollsBack : {S : Type 0} → (S → Told)
+    → (S → S → TransactionId → Result Accepted TransactionError → Type 0)
+    → S → S → TransactionId → (Result Accepted TransactionError → Turn)
+    → Result Turn SessionInnerError → Type 0
+RollsBack told Gives old new id reply result =
+    (answer : Result Accepted TransactionError) × (result ≡ Ok (reply answer))
+    × RollbackAsked told (Gives old new id) old new answer
+
+-- the answer to a rollback is the reply
+abbrev pub rolled_back : Result Accepted TransactionError → Turn
+rolled_back answer = replying (replies.RolledBack answer)
+
+-- nobody waits for the answer to a rollback
+abbrev pub aborted : Result Accepted TransactionError → Turn
+aborted answer = quiet Continue
+
 -- the controls of transactions
 abbrev pub ControlsTransactions : {S : Type 0} → (S → Told)
-    → (S → S → Result DrawnIds AllocTxnIdError → Type 0)
+    → (S → S → (ℕ → TransactionId) → (ℕ → TransactionId) → Result DrawnIds AllocTxnIdError
+    → Type 0)
     → (S → S → TransactionId → Result (Result (List Answers) TransactionError) CommitFault → Type 0)
     → (S → S → TransactionId → Result Accepted TransactionError → Type 0)
     → S → S → (ℕ → TransactionId) → (ℕ → TransactionId)
     → SessionControl → Result Turn SessionInnerError → Type 0
 ControlsTransactions told Allocate Commit Rollback old new before after
     controls.AllocateTransactionId result =
-    (answer : Result DrawnIds AllocTxnIdError)
-    × (result ≡ Ok (replying (replies.Allocated answer)))
-    × IdAsked told (Allocate old new) old new before after answer
+    Declares told Allocate old new before after result
 ControlsTransactions told Allocate Commit Rollback old new before after
     (controls.CommitTransaction id) result =
-    (answer : Result (Result (List Answers) TransactionError) CommitFault)
-    × (result ≡ committed answer) × CommitAsked told (Commit old new id) old new answer
+    Commits told Commit old new id result
 ControlsTransactions told Allocate Commit Rollback old new before after
     (controls.RollbackTransaction id) result =
-    (answer : Result Accepted TransactionError)
-    × (result ≡ Ok (replying (replies.RolledBack answer)))
-    × RollbackAsked told (Rollback old new id) old new answer
+    RollsBack told Rollback old new id rolled_back result
 ControlsTransactions told Allocate Commit Rollback old new before after
     (controls.AbortTransaction id) result =
-    (answer : Result Accepted TransactionError) × (result ≡ Ok (quiet Continue))
-    × RollbackAsked told (Rollback old new id) old new answer
+    RollsBack told Rollback old new id aborted result
 ControlsTransactions told Allocate Commit Rollback old new before after _ result = Unit {0}
 
 -- ---- the others
@@ -174,3 +213,7 @@ ControlsOthers told Settles old new _ result = Unit {0}
 abbrev pub draws_ids : SessionControl → Bool
 draws_ids controls.AllocateTransactionId = true
 draws_ids _ = false
+
+-- whether a control is served: all are where frames pass, and the end always is
+abbrev pub is_served : SessionState → SessionControl → Bool
+is_served state control = is_end control || is_mapped state

@@ -4,6 +4,8 @@ use Rattle.amqp_txn_types.specs.declared.delivery.Error.{Error}
 use Rattle.amqp_txn_types.specs.declared.delivery.SessionStopReason.{SessionStopReason}
 use Rattle.amqp_txn_types.specs.declared.performatives.End.{End}
 use Rattle.amqp_txn_types.specs.declared.small.IncomingChannel.{IncomingChannel}
+use Rattle.amqp_txn_types.specs.declared.small.SessionState.{SessionState}
+use Rattle.amqp_txn_types.specs.declared.small.SessionState.TheVariants as states
 use Rattle.amqp_layer.specs.declared.inner_error.SessionInnerError.{SessionInnerError}
 use Rattle.amqp_layer.specs.declared.inner_error.SessionInnerError.TheVariants as faults
 use Rattle.amqp_layer.specs.Told.{Told}
@@ -92,6 +94,25 @@ PeerAnswersEnd told kept names Received old new channel end (Ok turn) =
     EndGiven told kept names Received old channel end new (Ok tt) × (turn ≡ quiet Stop)
 PeerAnswersEnd told kept names Received old new channel end (Err fault) =
     EndGiven told kept names Received old channel end new (Err fault)
+
+-- a fact for each way in which an end of the peer's may find a session
+abbrev pub ByEndState : SessionState → Type 0 → Type 0 → Type 0 → Type 0
+ByEndState states.Mapped FramesPass EndAwaited Illegal = FramesPass
+ByEndState states.EndSent FramesPass EndAwaited Illegal = EndAwaited
+ByEndState states.Discarding FramesPass EndAwaited Illegal = EndAwaited
+ByEndState _ FramesPass EndAwaited Illegal = Illegal
+
+-- an end of the peer's comes
+abbrev pub TakesEnd : {S : Type 0} → (S → Told) → (S → Kept) → (S → Names)
+    → (S → S → IncomingChannel → End → Result Unit SessionInnerError → Type 0)
+    → (S → S → SessionStopReason → Type 0)
+    → (S → S → Option Error → Result End SessionInnerError → Type 0)
+    → S → S → IncomingChannel → End → Result Turn SessionInnerError → Type 0
+TakesEnd told kept names Received Stops Sent old new channel end result =
+    ByEndState (told old).fixed.state
+    (PeerEnds told kept names Received Stops Sent old new channel end result)
+    (PeerAnswersEnd told kept names Received old new channel end result)
+    (Unasked old new (Err faults.IllegalState) result)
 
 -- what is answered for the outcome of a session: that the connection stopped is no fault of it;
 -- the error is in the reason that is kept, and a copy of it may want memory

@@ -9,7 +9,7 @@ use Rattle.amqp_layer.specs.declared.inner_error.SessionInnerError.{SessionInner
 use Rattle.amqp_layer.specs.declared.inner_error.SessionInnerError.TheVariants as faults
 use Rattle.amqp_layer.specs.Told.{Told}
 use Rattle.amqp_sessions.specs.Names.{Names, SameNames}
-use Rattle.amqp_sessions.specs.Sessions.{Kept, stopped_for}
+use Rattle.amqp_sessions.specs.Sessions.{Kept, cut_off_for, stopped_for}
 
 -- this side ends it: with its error, else since the connection stopped, else of its own accord
 abbrev pub local_stop : Option Error → Option ConnectionStopReason → SessionStopReason
@@ -41,5 +41,14 @@ pub record KeepsStop {S : Type 0} (told : S → Told) (kept : S → Kept) (names
     (old new : S) (reason : SessionStopReason) : Type 0 where
   pub steady : told new ≡ told old
   pub first : kept new ≡ stopped_for (kept old) reason
+  pub same : SameNames (names old) (names new)
+  pub gives : Stops old new reason
+
+-- a reason why the connection stopped is kept, the first one
+pub record KeepsConnectionStop {S : Type 0} (told : S → Told) (kept : S → Kept) (names : S → Names)
+    (Stops : S → S → ConnectionStopReason → Type 0)
+    (old new : S) (reason : ConnectionStopReason) : Type 0 where
+  pub steady : told new ≡ told old
+  pub first : kept new ≡ cut_off_for (kept old) reason
   pub same : SameNames (names old) (names new)
   pub gives : Stops old new reason

@@ -1,5 +1,5 @@
 -- What an engine answers to an event.
-use Rattle.std.specs.Prelude.{◌≡◌, Bool, true, false, Option, Some, None, Result, Ok, Err, List, [], ◌∷◌}
+use Rattle.std.specs.Prelude.{◌≡◌, Bool, true, false, Option, Some, None, Result, Ok, Err, List, [], ◌∷◌, IfErr}
 use Rattle.amqp_txn_types.specs.declared.performatives.End.{End}
 use Rattle.amqp_txn_types.specs.declared.performatives.Frame.{Frame}
 use Rattle.amqp_layer.specs.declared.answers.Answers.{Answers}
@@ -60,9 +60,12 @@ pub record Unasked {S T E : Type 0} (old new : S) (answer result : Result T E) :
   pub untouched : new ≡ old
   pub answered : result ≡ answer
 
--- every Err but want of memory has this cause, and so has IllegalState but where it is expected
+-- the fault needs no cause: want of memory, and IllegalState where it is expected
+abbrev pub is_free : Bool → SessionInnerError → Bool
+is_free expected faults.NoMemory = true
+is_free expected faults.IllegalState = expected
+is_free expected _ = false
+
+-- every other fault comes only where this holds
 abbrev pub CausedBy : {T : Type 0} → Bool → Type 0 → Result T SessionInnerError → Type 0
-CausedBy expected Cause (Ok turn) = Unit {0}
-CausedBy expected Cause (Err faults.NoMemory) = Unit {0}
-CausedBy true Cause (Err faults.IllegalState) = Unit {0}
-CausedBy expected Cause (Err fault) = Cause
+CausedBy expected Cause result = IfErr result (λ fault. is_free expected fault ≡ false → Cause)

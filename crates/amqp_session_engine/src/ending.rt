@@ -2,7 +2,7 @@
 
 ghost use Rattle.std.specs.Prelude.{◌≡◌, false, true, is_none, Err, Ok};
 ghost use Rattle.amqp_layer.specs.declared.inner_error.SessionInnerError.TheVariants as faults;
-ghost use Rattle.amqp_session_engine.specs.Ending.{AnswersOutcome, EndsSession, KeepsAndAnswers, KeepsAndEnds, PeerAnswersEnd, PeerEnds, SendsEnd};
+ghost use Rattle.amqp_session_engine.specs.Ending.{AnswersOutcome, EndsSession, KeepsAndAnswers, KeepsAndEnds, PeerAnswersEnd, PeerEnds, SendsEnd, TakesEnd};
 ghost use Rattle.amqp_session_engine.specs.Asking.{OrNoMemory};
 ghost use Rattle.amqp_session_engine.specs.Reasons.{KeepsStop, remote_stop, stop_of_outcome};
 ghost use Rattle.amqp_session_engine.specs.States.{awaits_end, owes_end, running_once_ended, takes_end};
@@ -86,7 +86,7 @@ fn answer_end<S: Session>(
 
 /// The peer ends a session in which frames pass. What is kept of the connection is copied before
 /// anything is changed.
-pub(crate) fn peer_ends<S: Session>(
+fn peer_ends<S: Session>(
     alloc: Global,
     session: &mut S,
     channel: IncomingChannel,
@@ -101,7 +101,7 @@ pub(crate) fn peer_ends<S: Session>(
 }
 
 /// The end that was awaited has come.
-pub(crate) fn peer_answers_end<S: Session>(
+fn peer_answers_end<S: Session>(
     alloc: Global,
     session: &mut S,
     channel: IncomingChannel,
@@ -113,6 +113,28 @@ pub(crate) fn peer_answers_end<S: Session>(
     match session.on_incoming_end(channel, end) {
         Ok(()) => Ok(quiet(alloc, Running::Stop)),
         Err(fault) => Err(fault),
+    }
+}
+
+/// An end of the peer's comes, which is answered where none was sent.
+pub(crate) fn take_end<S: Session>(
+    alloc: Global,
+    session: &mut S,
+    channel: IncomingChannel,
+    end: End,
+) -> Result<Turn, SessionInnerError>
+    ensures { TakesEnd S.told S.kept S.names S.end_received_gives S.stop_gives S.end_sent_gives
+        session.old session.new channel end result }
+{
+    match session.local_state() {
+        SessionState::Mapped => peer_ends(alloc, session, channel, end),
+        SessionState::EndSent | SessionState::Discarding => {
+            peer_answers_end(alloc, session, channel, &end)
+        }
+        SessionState::Unmapped
+        | SessionState::BeginSent
+        | SessionState::BeginReceived
+        | SessionState::EndReceived => Err(SessionInnerError::IllegalState),
     }
 }
 
