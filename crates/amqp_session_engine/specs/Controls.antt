@@ -1,10 +1,12 @@
 -- What an engine does with a control.
-use Rattle.std.specs.Prelude.{ℕ, ◌≡◌, ◌||◌, Bool, true, false, Option, Some, None, Result, Ok, Err, List, is_some}
+use Rattle.std.specs.Prelude.{ℕ, ◌≡◌, ◌||◌, ◌&&◌, Bool, true, false, Option, Some, None, Result, Ok, Err, List, is_some}
 use Rattle.amqp_txn_types.specs.Counts.{Rose}
 use Rattle.amqp_txn_types.specs.declared.delivery.Error.{Error}
 use Rattle.amqp_txn_types.specs.declared.delivery.ErrorCondition.TheVariants as conditions
+use Rattle.amqp_txn_types.specs.declared.delivery.SessionStopReason.{SessionStopReason}
 use Rattle.amqp_txn_types.specs.declared.id.TransactionId.{TransactionId}
 use Rattle.amqp_txn_types.specs.declared.performatives.Disposition.{Disposition}
+use Rattle.amqp_txn_types.specs.declared.performatives.End.{End}
 use Rattle.amqp_txn_types.specs.declared.performatives.Frame.TheVariants as frames
 use Rattle.amqp_txn_types.specs.declared.small.Accepted.{Accepted}
 use Rattle.amqp_txn_types.specs.declared.small.ConnectionError.{ConnectionError}
@@ -34,6 +36,7 @@ use Rattle.amqp_session_engine.specs.declared.controls.SessionControl.TheVariant
 use Rattle.amqp_session_engine.specs.declared.turn.Running.TheVariants.{Continue}
 use Rattle.amqp_session_engine.specs.declared.turn.Turn.{Turn}
 use Rattle.amqp_session_engine.specs.Asking.{OrNoMemory}
+use Rattle.amqp_session_engine.specs.Ending.{KeepsAndEnds}
 use Rattle.amqp_session_engine.specs.Outgoing.{Passes}
 use Rattle.amqp_session_engine.specs.States.{is_mapped}
 use Rattle.amqp_session_engine.specs.Turns.{Unasked, quiet, replying}
@@ -43,10 +46,14 @@ abbrev pub is_end : SessionControl → Bool
 is_end (controls.End error) = true
 is_end _ = false
 
--- a fact of the control that the session end
-abbrev pub OnEndControl : SessionControl → (Option Error → Type 0) → Type 0
-OnEndControl (controls.End error) Fact = Fact error
-OnEndControl _ Fact = Unit {0}
+-- the control that the session end: a reason is kept, and the session is told to end
+abbrev pub ControlsEnd : {S : Type 0} → (S → Told) → (S → Kept) → (S → Names)
+    → (S → S → SessionStopReason → Type 0)
+    → (S → S → Option Error → Result End SessionInnerError → Type 0)
+    → S → S → SessionControl → Result Turn SessionInnerError → Type 0
+ControlsEnd told kept names Stops Sent old new (controls.End error) result = OrNoMemory old new
+    (KeepsAndEnds told kept names Stops Sent old new error result) result
+ControlsEnd told kept names Stops Sent old new _ result = Unit {0}
 
 -- ---- the calls on links
 
@@ -209,11 +216,15 @@ ControlsOthers told Settles old new (controls.CloseConnectionWithError condition
     Unasked old new (Ok (replying (replies.CloseConnection (closing_error condition text)))) result
 ControlsOthers told Settles old new _ result = Unit {0}
 
--- the control draws ids
-abbrev pub draws_ids : SessionControl → Bool
-draws_ids controls.AllocateTransactionId = true
-draws_ids _ = false
-
 -- whether a control is served: all are where frames pass, and the end always is
 abbrev pub is_served : SessionState → SessionControl → Bool
 is_served state control = is_end control || is_mapped state
+
+-- the control is that an id be allocated
+abbrev pub is_allocation : SessionControl → Bool
+is_allocation controls.AllocateTransactionId = true
+is_allocation _ = false
+
+-- whether a control draws ids
+abbrev pub draws_ids : SessionState → SessionControl → Bool
+draws_ids state control = is_allocation control && is_mapped state

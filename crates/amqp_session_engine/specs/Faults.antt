@@ -1,5 +1,5 @@
 -- With which error a session is ended for a fault.
-use Rattle.std.specs.Prelude.{◌≡◌, ◌⊎◌, Option, Some, None, Result, Ok, Err, List, ℕ, codes}
+use Rattle.std.specs.Prelude.{◌≡◌, Bool, true, false, Option, Some, None, Result, Ok, Err, List, ℕ, codes}
 use Rattle.amqp_txn_types.specs.declared.delivery.Error.{Error}
 use Rattle.amqp_txn_types.specs.declared.delivery.ErrorCondition.{ErrorCondition}
 use Rattle.amqp_txn_types.specs.declared.delivery.ErrorCondition.TheVariants as conditions
@@ -42,6 +42,11 @@ error_of_fault faults.NoMemory =
 error_of_fault faults.RemoteEnded = None
 error_of_fault (faults.RemoteEndedWithError error) = None
 error_of_fault (faults.ConnectionStopped reason) = None
+
+-- the fault is that the connection stopped
+abbrev pub is_cut_off : SessionInnerError → Bool
+is_cut_off (faults.ConnectionStopped reason) = true
+is_cut_off _ = false
 
 -- a session is ended for a fault, but where its connection stopped: then that is answered
 abbrev pub EndsFor : {S : Type 0} → S → S → (Result Turn SessionInnerError → Type 0)

@@ -1,13 +1,11 @@
 //! What is asked of a session in which frames pass: each control by the call of its name.
 
-ghost use Rattle.std.specs.Prelude.{◌≡◌};
+ghost use Rattle.std.specs.Prelude.{◌≡◌, false};
 ghost use Rattle.std.specs.Bool.{OnFalse};
+ghost use Rattle.amqp_txn_types.specs.Counts.{Rose};
 ghost use Rattle.amqp_sessions.specs.declared.relay.NameState.TheVariants.{Taken, Waiting};
-ghost use Rattle.amqp_session_engine.specs.declared.controls.ControlReply.TheVariants as replies;
-ghost use Rattle.amqp_session_engine.specs.Asking.{OrNoMemory};
-ghost use Rattle.amqp_session_engine.specs.Controls.{Commits, ControlsLinks, ControlsOthers, ControlsTransactions, Declares, Frees, Links, OnEndControl, RollsBack, aborted, closing_error, draws_ids, is_end, rolled_back};
-ghost use Rattle.amqp_session_engine.specs.Ending.{KeepsAndEnds};
-ghost use Rattle.amqp_session_engine.specs.Turns.{replying};
+ghost use Rattle.amqp_session_engine.specs.Controls.{Commits, ControlsEnd, ControlsLinks, ControlsOthers, ControlsTransactions, Declares, Frees, Links, RollsBack, aborted, closing_error, is_allocation, is_end, rolled_back};
+ghost use Rattle.amqp_session_engine.specs.Turns.{CausedBy};
 
 use crate::controls::{ControlReply, SessionControl};
 use crate::ending::end_by_control;
@@ -97,7 +95,9 @@ fn commit<S: HandleDischarge>(
     session: &mut S,
     txn_id: TransactionId,
 ) -> Result<Turn, SessionInnerError>
-    ensures { Commits S.told S.commit_gives session.old session.new txn_id result }
+    ensures commits { Commits S.told S.commit_gives session.old session.new txn_id result }
+    ensures cause { CausedBy false (Rose (S.told session.old).refusals
+        (S.told session.new).refusals) result }
 {
     match session.commit_transaction(&txn_id) {
         Ok(answer) => Ok(replying(alloc, ControlReply::Committed(answer))),
@@ -135,9 +135,8 @@ pub(crate) fn serve<S: Session + HandleDeclare + HandleDischarge, G: IdSource>(
     control: SessionControl,
     ids: &mut G,
 ) -> Result<Turn, SessionInnerError>
-    ensures end { OnEndControl control (λ error. OrNoMemory session.old session.new
-        (KeepsAndEnds ⟦<S as Tells>⟧.told S.kept S.names S.stop_gives S.end_sent_gives session.old
-        session.new error result) result) }
+    ensures end { ControlsEnd ⟦<S as Tells>⟧.told S.kept S.names S.stop_gives S.end_sent_gives
+        session.old session.new control result }
     ensures links { ControlsLinks ⟦<S as Tells>⟧.told S.kept S.names S.allocate_link_gives
         S.allocate_incoming_link_gives S.deallocate_link_gives session.old session.new control
         result }
@@ -146,7 +145,9 @@ pub(crate) fn serve<S: Session + HandleDeclare + HandleDischarge, G: IdSource>(
     ensures others { ControlsOthers ⟦<S as Tells>⟧.told S.check_gives session.old session.new
         control result }
     ensures start { G.start ids.new ≡ G.start ids.old }
-    ensures draws { OnFalse (draws_ids control) (ids.new ≡ ids.old) }
+    ensures draws { OnFalse (is_allocation control) (ids.new ≡ ids.old) }
+    ensures cause { CausedBy false (Rose (⟦<S as Tells>⟧.told session.old).refusals
+        (⟦<S as Tells>⟧.told session.new).refusals) result }
 {
     match control {
         SessionControl::End(error) => end_by_control(alloc, session, error),

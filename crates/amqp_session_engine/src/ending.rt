@@ -1,11 +1,12 @@
 //! How a session ends. Part 2 of the standard, section 2.5.2 (ending a session).
 
-ghost use Rattle.std.specs.Prelude.{◌≡◌, false, true, is_none, Err, Ok};
-ghost use Rattle.amqp_layer.specs.declared.inner_error.SessionInnerError.TheVariants as faults;
-ghost use Rattle.amqp_session_engine.specs.Ending.{AnswersOutcome, EndsSession, KeepsAndAnswers, KeepsAndEnds, PeerAnswersEnd, PeerEnds, SendsEnd, TakesEnd};
+ghost use Rattle.std.specs.Prelude.{◌≡◌, false, not};
+ghost use Rattle.amqp_txn_types.specs.Counts.{Rose};
 ghost use Rattle.amqp_session_engine.specs.Asking.{OrNoMemory};
-ghost use Rattle.amqp_session_engine.specs.Reasons.{KeepsStop, remote_stop, stop_of_outcome};
-ghost use Rattle.amqp_session_engine.specs.States.{awaits_end, owes_end, running_once_ended, takes_end};
+ghost use Rattle.amqp_session_engine.specs.Ending.{AnswersOutcome, EndsSession, KeepsAndAnswers, KeepsAndEnds, PeerAnswersEnd, PeerEnds, SendsEnd, TakesEnd};
+ghost use Rattle.amqp_session_engine.specs.Reasons.{KeepsStop, stop_of_outcome};
+ghost use Rattle.amqp_session_engine.specs.States.{takes_end};
+ghost use Rattle.amqp_session_engine.specs.Turns.{CausedBy};
 
 use crate::reasons::{connection_stop_for, local_stop, remote_stop};
 use crate::turn::{Running, Turn, quiet, sending_end};
@@ -14,13 +15,6 @@ use amqp_sessions::Session;
 use amqp_txn_types::{End, Error, IncomingChannel, SessionState, SessionStopReason, TryClone};
 use std::alloc::Global;
 
-/// Whether an end was sent and the peer's is awaited.
-pub(crate) fn awaits_end(state: SessionState) -> bool
-    ensures { result ≡ awaits_end state }
-{
-    matches!(state, SessionState::EndSent | SessionState::Discarding)
-}
-
 /// Sends the session's end.
 fn send_end<S: Session>(
     alloc: Global,
@@ -28,8 +22,10 @@ fn send_end<S: Session>(
     error: Option<Error>,
     running: Running,
 ) -> Result<Turn, SessionInnerError>
-    ensures { SendsEnd S.told S.kept S.names S.end_sent_gives session.old session.new error running
+    ensures sends { SendsEnd S.told S.kept S.names S.end_sent_gives session.old session.new error running
         result }
+    ensures cause { CausedBy false (Rose (S.told session.old).refusals
+        (S.told session.new).refusals) result }
 {
     match session.send_end(error) {
         Ok(end) => Ok(sending_end(alloc, running, end)),
@@ -43,8 +39,10 @@ pub(crate) fn end_session<S: Session>(
     session: &mut S,
     error: Option<Error>,
 ) -> Result<Turn, SessionInnerError>
-    ensures { EndsSession S.told S.kept S.names S.end_sent_gives session.old session.new error
+    ensures ends { EndsSession S.told S.kept S.names S.end_sent_gives session.old session.new error
         result }
+    ensures cause { CausedBy false (Rose (S.told session.old).refusals
+        (S.told session.new).refusals) result }
 {
     match session.local_state() {
         SessionState::Unmapped => Ok(quiet(alloc, Running::Stop)),
@@ -62,9 +60,11 @@ pub(crate) fn end_by_control<S: Session>(
     session: &mut S,
     error: Option<Error>,
 ) -> Result<Turn, SessionInnerError>
-    ensures { OrNoMemory session.old session.new
+    ensures ends { OrNoMemory session.old session.new
         (KeepsAndEnds S.told S.kept S.names S.stop_gives S.end_sent_gives session.old session.new
         error result) result }
+    ensures cause { CausedBy false (Rose (S.told session.old).refusals
+        (S.told session.new).refusals) result }
 {
     let reason = local_stop(session, &error)?;
     session.set_session_stop_reason(reason);
@@ -77,8 +77,10 @@ fn answer_end<S: Session>(
     session: &mut S,
     reason: SessionStopReason,
 ) -> Result<Turn, SessionInnerError>
-    ensures { KeepsAndAnswers S.told S.kept S.names S.stop_gives S.end_sent_gives session.old
+    ensures answers { KeepsAndAnswers S.told S.kept S.names S.stop_gives S.end_sent_gives session.old
         session.new reason result }
+    ensures cause { CausedBy false (Rose (S.told session.old).refusals
+        (S.told session.new).refusals) result }
 {
     session.set_session_stop_reason(reason);
     send_end(alloc, session, None, Running::Stop)
@@ -92,8 +94,10 @@ fn peer_ends<S: Session>(
     channel: IncomingChannel,
     end: End,
 ) -> Result<Turn, SessionInnerError>
-    ensures { PeerEnds S.told S.kept S.names S.end_received_gives S.stop_gives S.end_sent_gives
+    ensures ends { PeerEnds S.told S.kept S.names S.end_received_gives S.stop_gives S.end_sent_gives
         session.old session.new channel end result }
+    ensures cause { CausedBy false (Rose (S.told session.old).refusals
+        (S.told session.new).refusals) result }
 {
     let connection = connection_stop_for(session, &end)?;
     session.on_incoming_end(channel, &end)?;
@@ -107,8 +111,10 @@ fn peer_answers_end<S: Session>(
     channel: IncomingChannel,
     end: &End,
 ) -> Result<Turn, SessionInnerError>
-    ensures { PeerAnswersEnd S.told S.kept S.names S.end_received_gives session.old session.new
+    ensures answers { PeerAnswersEnd S.told S.kept S.names S.end_received_gives session.old session.new
         channel end.now result }
+    ensures cause { CausedBy false (Rose (S.told session.old).refusals
+        (S.told session.new).refusals) result }
 {
     match session.on_incoming_end(channel, end) {
         Ok(()) => Ok(quiet(alloc, Running::Stop)),
@@ -123,8 +129,10 @@ pub(crate) fn take_end<S: Session>(
     channel: IncomingChannel,
     end: End,
 ) -> Result<Turn, SessionInnerError>
-    ensures { TakesEnd S.told S.kept S.names S.end_received_gives S.stop_gives S.end_sent_gives
+    ensures takes { TakesEnd S.told S.kept S.names S.end_received_gives S.stop_gives S.end_sent_gives
         session.old session.new channel end result }
+    ensures cause { CausedBy (not (takes_end (S.told session.old).fixed.state)) (Rose (S.told session.old).refusals
+        (S.told session.new).refusals) result }
 {
     match session.local_state() {
         SessionState::Mapped => peer_ends(alloc, session, channel, end),

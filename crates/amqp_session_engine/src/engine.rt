@@ -1,16 +1,16 @@
 //! The engine of a session: one call for each event.
 
-ghost use Rattle.std.specs.Prelude.{◌≡◌, Err, IfErr, MatchBool, Ok, false};
-ghost use Rattle.std.specs.Bool.{OnFalse};
+ghost use Rattle.std.specs.Prelude.{◌≡◌, Err, IfErr, MatchBool, Ok, false, not};
+ghost use Rattle.std.specs.Bool.{OnFalse, OnTrue};
 ghost use Rattle.amqp_txn_types.specs.Counts.{Rose};
 ghost use Rattle.amqp_txn_types.specs.declared.small.IncomingChannel.{IncomingChannel as Channel};
 ghost use Rattle.amqp_layer.specs.declared.inner_error.SessionInnerError.TheVariants as faults;
 ghost use Rattle.amqp_session_engine.specs.declared.turn.Running.TheVariants as runnings;
 ghost use Rattle.amqp_session_engine.specs.Asking.{OrNoMemory};
 ghost use Rattle.amqp_session_engine.specs.Beginning.{SendsBegin};
-ghost use Rattle.amqp_session_engine.specs.Controls.{ControlsLinks, ControlsOthers, ControlsTransactions, OnEndControl, draws_ids, is_served};
-ghost use Rattle.amqp_session_engine.specs.Ending.{AnswersOutcome, EndsSession, KeepsAndEnds, TakesEnd};
-ghost use Rattle.amqp_session_engine.specs.Faults.{EndsFor, error_of_fault};
+ghost use Rattle.amqp_session_engine.specs.Controls.{ControlsEnd, ControlsLinks, ControlsOthers, ControlsTransactions, draws_ids, is_served};
+ghost use Rattle.amqp_session_engine.specs.Ending.{AnswersOutcome, EndsSession, TakesEnd};
+ghost use Rattle.amqp_session_engine.specs.Faults.{EndsFor, error_of_fault, is_cut_off};
 ghost use Rattle.amqp_session_engine.specs.Incoming.{OnBegin, OnEnd, OnLink, TakesBegin, TakesLink, is_unexpected};
 ghost use Rattle.amqp_session_engine.specs.Outgoing.{SendsLink};
 ghost use Rattle.amqp_session_engine.specs.Reasons.{KeepsConnectionStop, KeepsStop, stop_of_outcome};
@@ -20,17 +20,16 @@ ghost use Rattle.amqp_session_engine.specs.Turns.{CausedBy, Unasked, quiet};
 use crate::beginning::ClientBegin;
 use crate::controlling::{is_end, serve};
 use crate::controls::SessionControl;
-use crate::ending::{awaits_end, end_session, finish, take_end};
+use crate::ending::{end_session, finish, take_end};
 use crate::faults::end_for;
 use crate::incoming::{take_begin, take_link};
 use crate::outgoing::send_link;
-use crate::turn::{Running, SessionFrame, SessionFrameBody, Turn, quiet};
+use crate::states::is_mapped;
+use crate::turn::{SessionFrame, SessionFrameBody, Turn};
 use amqp_ids::IdSource;
 use amqp_layer::{SessionInnerError, Tells};
 use amqp_sessions::{BeginError, HandleDeclare, HandleDischarge, Session};
-use amqp_txn_types::{
-    Begin, ConnectionStopReason, Error, IncomingChannel, LinkFrame, SessionState,
-};
+use amqp_txn_types::{Begin, ConnectionStopReason, Error, IncomingChannel, LinkFrame};
 use std::alloc::Global;
 use std::marker::Model;
 
@@ -115,16 +114,12 @@ impl<S: Session> SessionEngine<S> {
             (Rose (S.told self.old).refusals (S.told self.new).refusals) result }
     {
         let channel = IncomingChannel(frame.channel);
-        let waits = awaits_end(self.session.local_state());
         match frame.body {
-            SessionFrameBody::End(end) => take_end(self.alloc, &mut self.session, channel, end),
-            SessionFrameBody::Begin(_) | SessionFrameBody::Link(_) if waits => {
-                Ok(quiet(self.alloc, Running::Waiting))
-            }
             SessionFrameBody::Begin(begin) => {
                 take_begin(self.alloc, &mut self.session, channel, begin)
             }
-            SessionFrameBody::Link(link) => take_link(&mut self.session, link),
+            SessionFrameBody::Link(link) => take_link(self.alloc, &mut self.session, link),
+            SessionFrameBody::End(end) => take_end(self.alloc, &mut self.session, channel, end),
         }
     }
 
@@ -139,16 +134,13 @@ impl<S: Session> SessionEngine<S> {
             S.outgoing_flow_gives S.outgoing_transfer_gives S.check_gives S.outgoing_detach_gives
             self.old self.new frame result) result)
             (Unasked self.old self.new (Err faults.IllegalState) result) }
+        ensures cause { CausedBy (not (is_mapped (S.told self.old).fixed.state))
+            (Rose (S.told self.old).refusals (S.told self.new).refusals) result }
     {
-        match self.session.local_state() {
-            SessionState::Mapped => send_link(self.alloc, &mut self.session, frame),
-            SessionState::Unmapped
-            | SessionState::BeginSent
-            | SessionState::BeginReceived
-            | SessionState::EndSent
-            | SessionState::EndReceived
-            | SessionState::Discarding => Err(SessionInnerError::IllegalState),
+        if !is_mapped(self.session.local_state()) {
+            return Err(SessionInnerError::IllegalState);
         }
+        send_link(self.alloc, &mut self.session, frame)
     }
 
     /// Ends the session for a fault, with the condition of that name.
@@ -167,8 +159,10 @@ impl<S: Session> SessionEngine<S> {
     /// session refused; `NoMemory` for want of memory for the text or for the copy of the
     /// connection's reason. The first and the last leave the session as it was.
     pub fn on_error(&mut self, kind: &SessionInnerError) -> Result<Turn, SessionInnerError>
-        ensures { EndsFor self.old self.new (λ answer. EndsSession S.told S.kept S.names
+        ensures ends { EndsFor self.old self.new (λ answer. EndsSession S.told S.kept S.names
             S.end_sent_gives self.old self.new (error_of_fault kind.now) answer) kind.now result }
+        ensures cause { OnFalse (is_cut_off kind.now) (CausedBy false
+            (Rose (S.told self.old).refusals (S.told self.new).refusals) result) }
     {
         end_for(self.alloc, &mut self.session, kind)
     }
@@ -226,9 +220,26 @@ impl<S: Session + HandleDeclare + HandleDischarge> SessionEngine<S> {
     ) -> Result<Turn, SessionInnerError>
         ensures unserved { OnFalse (is_served (⟦<S as Tells>⟧.told self.old).fixed.state control)
             (Unasked self.old self.new (Err faults.IllegalState) result) }
+        ensures end { ControlsEnd ⟦<S as Tells>⟧.told S.kept S.names S.stop_gives S.end_sent_gives
+            self.old self.new control result }
+        ensures links { OnTrue (is_mapped (⟦<S as Tells>⟧.told self.old).fixed.state)
+            (ControlsLinks ⟦<S as Tells>⟧.told S.kept S.names S.allocate_link_gives
+            S.allocate_incoming_link_gives S.deallocate_link_gives self.old self.new control
+            result) }
+        ensures transactions { OnTrue (is_mapped (⟦<S as Tells>⟧.told self.old).fixed.state)
+            (ControlsTransactions ⟦<S as Tells>⟧.told S.allocate_gives S.commit_gives
+            S.rollback_gives self.old self.new (G.next ids.old) (G.next ids.new) control result) }
+        ensures others { OnTrue (is_mapped (⟦<S as Tells>⟧.told self.old).fixed.state)
+            (ControlsOthers ⟦<S as Tells>⟧.told S.check_gives self.old self.new control result) }
+        ensures start { G.start ids.new ≡ G.start ids.old }
+        ensures draws { OnFalse (draws_ids (⟦<S as Tells>⟧.told self.old).fixed.state control)
+            (ids.new ≡ ids.old) }
+        ensures cause { CausedBy
+            (not (is_served (⟦<S as Tells>⟧.told self.old).fixed.state control))
+            (Rose (⟦<S as Tells>⟧.told self.old).refusals (⟦<S as Tells>⟧.told self.new).refusals)
+            result }
     {
-        let is_mapped = self.session.local_state() == SessionState::Mapped;
-        if !is_end(&control) && !is_mapped {
+        if !is_end(&control) && !is_mapped(self.session.local_state()) {
             return Err(SessionInnerError::IllegalState);
         }
         serve(self.alloc, &mut self.session, control, ids)

@@ -1,8 +1,11 @@
 //! With which error a session is ended for a fault.
 
-ghost use Rattle.std.specs.Prelude.{◌≡◌, IfOk, Some, None, codes};
+ghost use Rattle.std.specs.Prelude.{◌≡◌, IfOk, false};
+ghost use Rattle.std.specs.Bool.{OnFalse};
+ghost use Rattle.amqp_txn_types.specs.Counts.{Rose};
 ghost use Rattle.amqp_session_engine.specs.Ending.{EndsSession};
-ghost use Rattle.amqp_session_engine.specs.Faults.{EndsFor, error_of_fault, plain_error, told_error};
+ghost use Rattle.amqp_session_engine.specs.Faults.{EndsFor, error_of_fault, is_cut_off, plain_error, told_error};
+ghost use Rattle.amqp_session_engine.specs.Turns.{CausedBy};
 
 use crate::ending::end_session;
 use crate::turn::Turn;
@@ -77,9 +80,11 @@ pub(crate) fn end_for<S: Session>(
     session: &mut S,
     fault: &SessionInnerError,
 ) -> Result<Turn, SessionInnerError>
-    ensures { EndsFor session.old session.new
+    ensures ends { EndsFor session.old session.new
         (λ answer. EndsSession S.told S.kept S.names S.end_sent_gives session.old session.new
         (error_of_fault fault.now) answer) fault.now result }
+    ensures cause { OnFalse (is_cut_off fault.now) (CausedBy false
+        (Rose (S.told session.old).refusals (S.told session.new).refusals) result) }
 {
     if let SessionInnerError::ConnectionStopped(reason) = fault {
         return Err(SessionInnerError::ConnectionStopped(reason.try_clone()?));

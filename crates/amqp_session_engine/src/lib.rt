@@ -10,6 +10,7 @@ mod faults;
 mod incoming;
 mod outgoing;
 mod reasons;
+mod states;
 mod turn;
 
 pub use beginning::ClientBegin;

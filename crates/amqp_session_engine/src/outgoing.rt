@@ -1,9 +1,11 @@
 //! Frames that the links of a session send.
 
-ghost use Rattle.std.specs.Prelude.{◌≡◌, ◌<◌, [], vec_capacity, vec_len};
+ghost use Rattle.std.specs.Prelude.{◌≡◌, ◌<◌, [], false, vec_capacity, vec_len};
 ghost use Rattle.amqp_txn_types.specs.declared.performatives.Frame.TheVariants as frames;
 ghost use Rattle.amqp_txn_types.specs.declared.performatives.Transfer.{Transfer as Numbered};
+ghost use Rattle.amqp_txn_types.specs.Counts.{Rose};
 ghost use Rattle.amqp_session_engine.specs.Asking.{OrNoMemory};
+ghost use Rattle.amqp_session_engine.specs.Turns.{CausedBy};
 ghost use Rattle.amqp_session_engine.specs.Outgoing.{Passes, SendsFlow, SendsLink};
 
 use crate::turn::{Turn, room_for_one, sending_one};
@@ -20,8 +22,10 @@ fn pass_disposition<S: LayerBelow>(
 ) -> Result<Turn, SessionInnerError>
     requires empty { room.items ≡ [] }
     requires room { vec_len room < vec_capacity room }
-    ensures { Passes S.told (S.check_gives session.old session.new disposition) session.old
+    ensures passes { Passes S.told (S.check_gives session.old session.new disposition) session.old
         session.new (frames.Disposition disposition) result }
+    ensures cause { CausedBy false (Rose (S.told session.old).refusals
+        (S.told session.new).refusals) result }
 {
     session.on_outgoing_disposition(&disposition)?;
     Ok(sending_one(room, Frame::Disposition(disposition)))
@@ -33,9 +37,11 @@ pub(crate) fn send_disposition<S: LayerBelow>(
     session: &mut S,
     disposition: Disposition,
 ) -> Result<Turn, SessionInnerError>
-    ensures { OrNoMemory session.old session.new
+    ensures sends { OrNoMemory session.old session.new
         (Passes S.told (S.check_gives session.old session.new disposition) session.old session.new
         (frames.Disposition disposition) result) result }
+    ensures cause { CausedBy false (Rose (S.told session.old).refusals
+        (S.told session.new).refusals) result }
 {
     let room = room_for_one(alloc)?;
     pass_disposition(room, session, disposition)
@@ -49,8 +55,10 @@ fn pass_flow<S: Session>(
 ) -> Result<Turn, SessionInnerError>
     requires empty { room.items ≡ [] }
     requires room { vec_len room < vec_capacity room }
-    ensures { SendsFlow S.told (S.outgoing_flow_gives session.old session.new flow) session.old
+    ensures passes { SendsFlow S.told (S.outgoing_flow_gives session.old session.new flow) session.old
         session.new result }
+    ensures cause { CausedBy false (Rose (S.told session.old).refusals
+        (S.told session.new).refusals) result }
 {
     let flow = session.on_outgoing_flow(flow)?;
     Ok(sending_one(room, Frame::Flow(flow)))
@@ -67,9 +75,11 @@ fn pass_transfer<S: Session>(
 ) -> Result<Turn, SessionInnerError>
     requires empty { room.items ≡ [] }
     requires room { vec_len room < vec_capacity room }
-    ensures { ((numbered : Numbered) × Passes S.told
+    ensures passes { ((numbered : Numbered) × Passes S.told
         (S.outgoing_transfer_gives session.old session.new input transfer numbered is_first)
         session.old session.new (frames.Transfer numbered payload) result) }
+    ensures cause { CausedBy false (Rose (S.told session.old).refusals
+        (S.told session.new).refusals) result }
 {
     session.on_outgoing_transfer(input, &mut transfer, is_first)?;
     Ok(sending_one(room, Frame::Transfer { transfer, payload }))
@@ -83,9 +93,11 @@ fn pass_link<S: Session>(
 ) -> Result<Turn, SessionInnerError>
     requires empty { room.items ≡ [] }
     requires room { vec_len room < vec_capacity room }
-    ensures { SendsLink S.told S.outgoing_attach_gives S.outgoing_flow_gives
+    ensures passes { SendsLink S.told S.outgoing_attach_gives S.outgoing_flow_gives
         S.outgoing_transfer_gives S.check_gives S.outgoing_detach_gives session.old session.new
         frame result }
+    ensures cause { CausedBy false (Rose (S.told session.old).refusals
+        (S.told session.new).refusals) result }
 {
     match frame {
         LinkFrame::Attach(attach) => {
@@ -114,9 +126,11 @@ pub(crate) fn send_link<S: Session>(
     session: &mut S,
     frame: LinkFrame,
 ) -> Result<Turn, SessionInnerError>
-    ensures { OrNoMemory session.old session.new
+    ensures sends { OrNoMemory session.old session.new
         (SendsLink S.told S.outgoing_attach_gives S.outgoing_flow_gives S.outgoing_transfer_gives
         S.check_gives S.outgoing_detach_gives session.old session.new frame result) result }
+    ensures cause { CausedBy false (Rose (S.told session.old).refusals
+        (S.told session.new).refusals) result }
 {
     let room = room_for_one(alloc)?;
     pass_link(room, session, frame)
