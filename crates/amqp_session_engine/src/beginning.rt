@@ -1,8 +1,9 @@
 //! How a session of this side begins. Part 2 of the standard, section 2.5.1 (establishing a
 //! session).
 
-ghost use Rattle.std.specs.Prelude.{◌≡◌};
-ghost use Rattle.amqp_session_engine.specs.Beginning.{BeginGiven, FirstFrame, StoppedEarly, TakesPeersBegin, begin_refusal, ended_early};
+ghost use Rattle.std.specs.Prelude.{◌≡◌, IfErr};
+ghost use Rattle.amqp_txn_types.specs.Counts.{Rose};
+ghost use Rattle.amqp_session_engine.specs.Beginning.{BeginGiven, FirstFrame, SendsBegin, StoppedEarly, TakesPeersBegin, begin_refusal, ended_early};
 ghost use Rattle.amqp_session_engine.specs.Reasons.{KeepsConnectionStop};
 
 use crate::engine::SessionEngine;
@@ -81,6 +82,18 @@ impl<S: Session> ClientBegin<S> {
             self.new reason }
     {
         self.session.set_connection_stop_reason(reason);
+    }
+}
+
+/// The session's begin is to be sent.
+pub(crate) fn send_begin<S: Session>(mut session: S) -> Result<(S, Begin), (S, BeginError)>
+    ensures begins { SendsBegin S.told S.kept S.names S.begin_sent_gives session result }
+    ensures cause { IfErr result (λ refused.
+        Rose (S.told session).refusals (S.told refused.0).refusals) }
+{
+    match session.send_begin() {
+        Ok(begin) => Ok((session, begin)),
+        Err(error) => Err((session, error)),
     }
 }
 

@@ -17,7 +17,7 @@ ghost use Rattle.amqp_session_engine.specs.Reasons.{KeepsConnectionStop, KeepsSt
 ghost use Rattle.amqp_session_engine.specs.States.{awaits_end, is_mapped};
 ghost use Rattle.amqp_session_engine.specs.Turns.{CausedBy, Unasked, quiet};
 
-use crate::beginning::ClientBegin;
+use crate::beginning::{ClientBegin, send_begin};
 use crate::controlling::{is_end, serve};
 use crate::controls::SessionControl;
 use crate::ending::{end_session, finish, take_end};
@@ -26,6 +26,7 @@ use crate::incoming::{take_begin, take_link};
 use crate::outgoing::send_link;
 use crate::states::is_mapped;
 use crate::turn::{SessionFrame, SessionFrameBody, Turn};
+use amqp_endpoints::ListenerSessionEndpoint;
 use amqp_ids::IdSource;
 use amqp_layer::{SessionInnerError, Tells};
 use amqp_sessions::{BeginError, HandleDeclare, HandleDischarge, Session};
@@ -79,10 +80,9 @@ impl<S: Session> SessionEngine<S> {
         ensures cause { IfErr result (λ refused.
             Rose (S.told session).refusals (S.told refused.0).refusals) }
     {
-        let mut session = session;
-        match session.send_begin() {
-            Ok(begin) => Ok((ClientBegin::new(alloc, session), begin)),
-            Err(error) => Err((session, error)),
+        match send_begin(session) {
+            Ok((session, begin)) => Ok((ClientBegin::new(alloc, session), begin)),
+            Err(refused) => Err(refused),
         }
     }
 
@@ -202,6 +202,26 @@ impl<S: Session> SessionEngine<S> {
             self.new reason }
     {
         self.session.set_connection_stop_reason(reason);
+    }
+}
+
+impl<S: ListenerSessionEndpoint> SessionEngine<S> {
+    /// Begins a session that the peer began: its begin is to be sent, and the session is ready. It
+    /// takes no memory of its own; later turns take it from `alloc`.
+    ///
+    /// Errors: the session's refusal to send a begin, with the session.
+    pub fn begin_listener_session(
+        alloc: Global,
+        session: S,
+    ) -> Result<(SessionEngine<S>, Begin), (S, BeginError)>
+        ensures begins { SendsBegin S.told S.kept S.names S.begin_sent_gives session result }
+        ensures cause { IfErr result (λ refused.
+            Rose (S.told session).refusals (S.told refused.0).refusals) }
+    {
+        match send_begin(session) {
+            Ok((session, begin)) => Ok((SessionEngine::new(alloc, session), begin)),
+            Err(refused) => Err(refused),
+        }
     }
 }
 
