@@ -12,7 +12,6 @@ use Rattle.amqp_sessions.specs.declared.session_errors.BeginError.TheVariants as
 use Rattle.amqp_sessions.specs.Names.{Names}
 use Rattle.amqp_sessions.specs.Sessions.{Kept}
 use Rattle.amqp_sessions.specs.SessionStates.{begin_received, begin_sent}
-use Rattle.amqp_session_engine.specs.declared.turn.SessionFrame.{SessionFrame}
 use Rattle.amqp_session_engine.specs.declared.turn.SessionFrameBody.{SessionFrameBody}
 use Rattle.amqp_session_engine.specs.declared.turn.SessionFrameBody.TheVariants as bodies
 use Rattle.amqp_session_engine.specs.Asking.{Moved}
@@ -54,22 +53,25 @@ ended_early None = refusals.RemoteEnded
 ended_early (Some error) = refusals.RemoteEndedWithError error
 
 -- the peer's begin makes the session ready, where the session takes it
-abbrev pub TakesPeersBegin : {S : Type 0} → (S → S → Result Unit SessionInnerError → Type 0)
-    → S → Result S (S × BeginError) → Type 0
-TakesPeersBegin Given old (Ok new) = Given old new (Ok tt)
-TakesPeersBegin Given old (Err refused) =
-    (fault : SessionInnerError) × Given old refused.0 (Err fault)
-    × (refused.1 ≡ begin_refusal fault)
+abbrev pub TakesPeersBegin : {S : Type 0} → (S → Told) → (S → Kept) → (S → Names)
+    → (S → S → IncomingChannel → Begin → Result Unit SessionInnerError → Type 0)
+    → S → IncomingChannel → Begin → Result S (S × BeginError) → Type 0
+TakesPeersBegin told kept names Received old channel begin (Ok new) =
+    BeginGiven told kept names Received old new channel begin (Ok tt)
+TakesPeersBegin told kept names Received old channel begin (Err refused) =
+    (fault : SessionInnerError) × (refused.1 ≡ begin_refusal fault)
+    × BeginGiven told kept names Received old refused.0 channel begin (Err fault)
 
 -- what comes while the peer's begin is awaited: its begin, or its end; anything else is illegal
-abbrev pub FirstFrame : {S : Type 0}
-    → (IncomingChannel → Begin → S → S → Result Unit SessionInnerError → Type 0)
-    → S → SessionFrame → SessionFrameBody → Result S (S × BeginError) → Type 0
-FirstFrame Given old frame (bodies.Begin begin) result =
-    TakesPeersBegin (Given (record { 0 = frame.channel }) begin) old result
-FirstFrame Given old frame (bodies.Link link) result =
+abbrev pub FirstFrame : {S : Type 0} → (S → Told) → (S → Kept) → (S → Names)
+    → (S → S → IncomingChannel → Begin → Result Unit SessionInnerError → Type 0)
+    → S → IncomingChannel → SessionFrameBody → Result S (S × BeginError) → Type 0
+FirstFrame told kept names Received old channel (bodies.Begin begin) result =
+    TakesPeersBegin told kept names Received old channel begin result
+FirstFrame told kept names Received old channel (bodies.Link frame) result =
     result ≡ Err (old , refusals.IllegalState)
-FirstFrame Given old frame (bodies.End end) result = result ≡ Err (old , ended_early end.error)
+FirstFrame told kept names Received old channel (bodies.End end) result =
+    result ≡ Err (old , ended_early end.error)
 
 -- the connection stopped, for the reason that is kept; its copy may want memory
 abbrev pub StoppedEarly : Option ConnectionStopReason → BeginError → Type 0

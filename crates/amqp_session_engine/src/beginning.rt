@@ -3,7 +3,7 @@
 
 ghost use Rattle.std.specs.Prelude.{◌≡◌, IfErr};
 ghost use Rattle.amqp_txn_types.specs.Counts.{Rose};
-ghost use Rattle.amqp_session_engine.specs.Beginning.{BeginGiven, FirstFrame, SendsBegin, StoppedEarly, TakesPeersBegin, begin_refusal, ended_early};
+ghost use Rattle.amqp_session_engine.specs.Beginning.{FirstFrame, SendsBegin, StoppedEarly, TakesPeersBegin, begin_refusal, ended_early};
 ghost use Rattle.amqp_session_engine.specs.Reasons.{KeepsConnectionStop};
 
 use crate::engine::SessionEngine;
@@ -51,8 +51,8 @@ impl<S: Session> ClientBegin<S> {
     /// there is one of that name, else `IllegalState`; for an end `RemoteEnded` or
     /// `RemoteEndedWithError`, and for a link's frame `IllegalState`, where the session isn't asked.
     pub fn on_frame(self, frame: SessionFrame) -> Result<SessionEngine<S>, (S, BeginError)>
-        ensures { FirstFrame (λ channel begin old new answer. BeginGiven S.told S.kept S.names
-            S.begin_received_gives old new channel begin answer) self frame frame.body result }
+        ensures { FirstFrame S.told S.kept S.names S.begin_received_gives self
+            (record { 0 = frame.channel }) frame.body result }
     {
         let ClientBegin { session, alloc } = self;
         let channel = IncomingChannel(frame.channel);
@@ -104,8 +104,8 @@ fn take_peers_begin<S: Session>(
     channel: IncomingChannel,
     begin: Begin,
 ) -> Result<SessionEngine<S>, (S, BeginError)>
-    ensures { TakesPeersBegin (λ old new answer. BeginGiven S.told S.kept S.names
-        S.begin_received_gives old new channel begin answer) session result }
+    ensures { TakesPeersBegin S.told S.kept S.names S.begin_received_gives session channel begin
+        result }
 {
     match session.on_incoming_begin(channel, begin) {
         Ok(()) => Ok(SessionEngine::new(alloc, session)),

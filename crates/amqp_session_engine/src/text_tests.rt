@@ -1,0 +1,140 @@
+//! The texts of controls.
+
+use crate::*;
+use amqp_sessions::Relay;
+use amqp_txn_types::{
+    AmqpError, ConnectionError, Disposition, Error, ErrorCondition, InputHandle, LinkFlows,
+    OutgoingChannel, OutputHandle, ReceiverSettleMode, Role, Text, TransactionId,
+};
+use std::alloc::Global;
+use std::fmt::Display;
+use std::test::Fail;
+
+/// The place of the first value whose text is another than the one beside it.
+fn other_text<T: Display>(alloc: Global, table: &[(T, &str)]) -> Result<Option<usize>, Fail> {
+    for (place, (value, want)) in table.iter().enumerate() {
+        let text = format!(in alloc; "{value}")?;
+        if text.as_str() != *want {
+            return Ok(Some(place));
+        }
+    }
+    Ok(None)
+}
+
+fn not_allowed() -> Error {
+    Error {
+        condition: ErrorCondition::AmqpError(AmqpError::NotAllowed),
+        description: None,
+        info: None,
+    }
+}
+
+fn relay(alloc: Global) -> Relay {
+    Relay {
+        name: Text::new(alloc),
+        role: Role::Receiver,
+        rcv_settle_mode: ReceiverSettleMode::First,
+        flows: LinkFlows::new(alloc),
+        transfers: 0,
+    }
+}
+
+fn disposition() -> Disposition {
+    Disposition {
+        role: Role::Receiver,
+        first: 0,
+        last: None,
+        settled: true,
+        state: None,
+        batchable: false,
+    }
+}
+
+#[test]
+fn controls_of_connections_have_their_texts(rt: HostRuntime) -> Result<(), Fail> {
+    let table = [
+        (ConnectionControl::Close(None), "Close(None)"),
+        (
+            ConnectionControl::Close(Some(not_allowed())),
+            "Close(Some(Error { condition: AmqpError(NotAllowed), description: None, info: None }))",
+        ),
+        (ConnectionControl::AllocateSession, "AllocateSession"),
+        (
+            ConnectionControl::DeallocateSession(OutgoingChannel(7)),
+            "DeallocateSession(7)",
+        ),
+    ];
+    assert_eq!(rt; other_text(rt.alloc(), &table)?, None);
+    Ok(())
+}
+
+#[test]
+fn controls_of_links_have_their_texts(rt: HostRuntime) -> Result<(), Fail> {
+    let alloc = rt.alloc();
+    let table = [
+        (
+            SessionControl::AllocateLink {
+                link_name: Text::new(alloc),
+                link_relay: relay(alloc),
+            },
+            "AllocateLink",
+        ),
+        (
+            SessionControl::AllocateIncomingLink {
+                link_name: Text::new(alloc),
+                link_relay: relay(alloc),
+                input_handle: InputHandle(1),
+            },
+            "AllocateIncomingLink",
+        ),
+        (
+            SessionControl::DeallocateLink(OutputHandle(2)),
+            "DeallocateLink(OutputHandle(2))",
+        ),
+    ];
+    assert_eq!(rt; other_text(alloc, &table)?, None);
+    Ok(())
+}
+
+#[test]
+fn controls_of_sessions_have_their_texts(rt: HostRuntime) -> Result<(), Fail> {
+    let table = [
+        (SessionControl::End(None), "End(None)"),
+        (
+            SessionControl::End(Some(not_allowed())),
+            "End(Some(Error { condition: AmqpError(NotAllowed), description: None, info: None }))",
+        ),
+        (
+            SessionControl::Disposition(disposition()),
+            "Disposition",
+        ),
+        (
+            SessionControl::CloseConnectionWithError(ConnectionError::FramingError, None),
+            "CloseConnectionWithError",
+        ),
+    ];
+    assert_eq!(rt; other_text(rt.alloc(), &table)?, None);
+    Ok(())
+}
+
+#[test]
+fn controls_of_transactions_have_their_texts(rt: HostRuntime) -> Result<(), Fail> {
+    let txn_id = TransactionId::new(b"t")?;
+    let table = [
+        (
+            SessionControl::AllocateTransactionId,
+            "AllocateTransactionId",
+        ),
+        (
+            SessionControl::CommitTransaction { txn_id },
+            "CommitTransaction",
+        ),
+        (
+            SessionControl::RollbackTransaction { txn_id },
+            "RollbackTransaction",
+        ),
+        (SessionControl::AbortTransaction(txn_id), "AbortTransaction"),
+    ];
+    assert_eq!(rt; other_text(rt.alloc(), &table)?, None);
+    Ok(())
+}
