@@ -69,9 +69,9 @@ abbrev pub FirstFrame : {S : Type 0} → (S → Told) → (S → Kept) → (S �
 FirstFrame told kept names Received old channel (bodies.Begin begin) result =
     TakesPeersBegin told kept names Received old channel begin result
 FirstFrame told kept names Received old channel (bodies.Link frame) result =
-    result ≡ Err (old , refusals.IllegalState)
+    result ≡ Err (old, refusals.IllegalState)
 FirstFrame told kept names Received old channel (bodies.End end) result =
-    result ≡ Err (old , ended_early end.error)
+    result ≡ Err (old, ended_early end.error)
 
 -- the connection stopped, for the reason that is kept; its copy may want memory
 abbrev pub StoppedEarly : Option ConnectionStopReason → BeginError → Type 0

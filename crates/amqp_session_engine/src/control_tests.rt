@@ -83,7 +83,10 @@ fn a_plain_session_does_no_transactions(rt: HostRuntime) -> Result<(), Fail> {
 #[test]
 fn some_controls_have_no_reply(rt: HostRuntime) -> Result<(), Fail> {
     let alloc = rt.alloc();
-    let aborted = reply(alloc, SessionControl::AbortTransaction(TransactionId::new(b"t")?))?;
+    let aborted = reply(
+        alloc,
+        SessionControl::AbortTransaction(TransactionId::new(b"t")?),
+    )?;
     assert!(rt; aborted == ControlReply::Nothing);
     let freed = reply(alloc, SessionControl::DeallocateLink(OutputHandle(0)))?;
     assert!(rt; freed == ControlReply::Nothing);

@@ -191,7 +191,10 @@ impl<S: Session> SessionEngine<S> {
             (stop_of_outcome outcome) }
         ensures answer { AnswersOutcome outcome result.1 }
     {
-        let SessionEngine { mut session, alloc: _ } = self;
+        let SessionEngine {
+            mut session,
+            alloc: _,
+        } = self;
         let answer = finish(&mut session, outcome);
         (session, answer)
     }

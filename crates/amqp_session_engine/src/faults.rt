@@ -28,7 +28,11 @@ fn plain_error(condition: ErrorCondition) -> Option<Error>
 }
 
 /// An error of any part of the protocol, with a text.
-fn told_error(alloc: Global, condition: ErrorCondition, text: &str) -> Result<Option<Error>, NoMemory>
+fn told_error(
+    alloc: Global,
+    condition: ErrorCondition,
+    text: &str,
+) -> Result<Option<Error>, NoMemory>
     ensures { IfOk result (λ error. error ≡ told_error condition text.now) }
 {
     Ok(Some(Error {

@@ -51,7 +51,8 @@ pub(crate) fn take_begin<S: Session>(
     ensures cause { CausedBy false (Rose (S.told session.old).refusals
         (S.told session.new).refusals) result }
 {
-    if awaits_end(session.local_state()) {
+    let state = session.local_state();
+    if awaits_end(state) {
         return Ok(quiet(alloc, Running::Waiting));
     }
     match session.on_incoming_begin(channel, begin) {

@@ -52,19 +52,19 @@
 #![tactic(auto)]
 
 mod beginning;
+#[cfg(test)]
+mod control_tests;
 mod controlling;
 mod controls;
 mod ending;
 mod engine;
+#[cfg(test)]
+mod engine_tests;
 mod faults;
 mod incoming;
 mod outgoing;
 mod reasons;
 mod states;
-#[cfg(test)]
-mod control_tests;
-#[cfg(test)]
-mod engine_tests;
 #[cfg(test)]
 mod text_tests;
 mod turn;

@@ -104,10 +104,7 @@ fn controls_of_sessions_have_their_texts(rt: HostRuntime) -> Result<(), Fail> {
             SessionControl::End(Some(not_allowed())),
             "End(Some(Error { condition: AmqpError(NotAllowed), description: None, info: None }))",
         ),
-        (
-            SessionControl::Disposition(disposition()),
-            "Disposition",
-        ),
+        (SessionControl::Disposition(disposition()), "Disposition"),
         (
             SessionControl::CloseConnectionWithError(ConnectionError::FramingError, None),
             "CloseConnectionWithError",
