@@ -1,137 +1,137 @@
 //! Each control and each outgoing frame once, over a plain session.
 
-use crate::engine_tests::{engine, quiet, transfer, turn};
+use crate::test_values::{
+    detach, disposition, engine, error, gives, only_frame, quiet, refuses, relay, replied,
+    transfer, turn,
+};
 use crate::*;
 use amqp_ids::CountIds;
 use amqp_layer::SessionInnerError;
-use amqp_sessions::{AllocTxnIdError, Relay, Session};
+use amqp_sessions::{AllocTxnIdError, Session};
 use amqp_txn_types::{
-    Attach, ConnectionError, Detach, Disposition, End, Error, ErrorCondition, Flow, Frame, Handle,
-    InputHandle, LinkFlow, LinkFlows, LinkFrame, OutputHandle, Payload, ReceiverSettleMode, Role,
-    SenderSettleMode, SessionState, SessionStopReason, Text, TransactionError, TransactionId,
+    Attach, ConnectionError, End, ErrorCondition, Flow, Frame, Handle, InputHandle, LinkFlow,
+    LinkFrame, OutputHandle, Payload, ReceiverSettleMode, Role, SenderSettleMode, SessionState,
+    SessionStopReason, Text, TransactionError, TransactionId,
 };
 use std::alloc::Global;
 use std::test::Fail;
 
-fn relay(alloc: Global) -> Relay {
-    Relay {
-        name: Text::new(alloc),
-        role: Role::Receiver,
-        rcv_settle_mode: ReceiverSettleMode::First,
-        flows: LinkFlows::new(alloc),
-        transfers: 0,
-    }
+/// What a session in this state answers to a control.
+fn asked(
+    alloc: Global,
+    state: SessionState,
+    control: SessionControl,
+) -> Result<Turn, SessionInnerError> {
+    let mut engine = engine(alloc, state);
+    let answer = engine.on_control(control, &mut CountIds::new());
+    drop(engine);
+    answer
 }
 
-/// What a mapped session replies to a control.
-fn reply(alloc: Global, control: SessionControl) -> Result<ControlReply, SessionInnerError> {
-    let mut engine = engine(alloc, SessionState::Mapped);
-    let turn = engine.on_control(control, &mut CountIds::new())?;
-    Ok(turn.reply)
+/// Whether a mapped session gives this reply.
+fn replies(alloc: Global, control: SessionControl, reply: ControlReply) -> bool {
+    gives(
+        asked(alloc, SessionState::Mapped, control),
+        replied(alloc, reply),
+    )
 }
 
 #[test]
-fn links_are_allocated(rt: HostRuntime) -> Result<(), Fail> {
+fn links_are_allocated(rt: HostRuntime) {
     let alloc = rt.alloc();
     let control = SessionControl::AllocateLink {
         link_name: Text::new(alloc),
         link_relay: relay(alloc),
     };
-    assert!(rt; reply(alloc, control)? == ControlReply::Linked(Ok(OutputHandle(0))));
-    Ok(())
+    assert!(rt; replies(alloc, control, ControlReply::Linked(Ok(OutputHandle(0)))));
 }
 
 #[test]
-fn incoming_links_are_allocated(rt: HostRuntime) -> Result<(), Fail> {
+fn incoming_links_are_allocated(rt: HostRuntime) {
     let alloc = rt.alloc();
     let control = SessionControl::AllocateIncomingLink {
         link_name: Text::new(alloc),
         link_relay: relay(alloc),
         input_handle: InputHandle(1),
     };
-    assert!(rt; reply(alloc, control)? == ControlReply::Linked(Ok(OutputHandle(0))));
-    Ok(())
+    assert!(rt; replies(alloc, control, ControlReply::Linked(Ok(OutputHandle(0)))));
 }
 
 #[test]
-fn a_connection_is_to_be_closed(rt: HostRuntime) -> Result<(), Fail> {
+fn a_connection_is_to_be_closed(rt: HostRuntime) {
     let condition = ConnectionError::FramingError;
     let control = SessionControl::CloseConnectionWithError(condition, None);
-    let error = Error {
-        condition: ErrorCondition::ConnectionError(condition),
-        description: None,
-        info: None,
-    };
-    assert!(rt; reply(rt.alloc(), control)? == ControlReply::CloseConnection(error));
-    Ok(())
+    let closing = error(ErrorCondition::ConnectionError(condition));
+    assert!(rt; replies(rt.alloc(), control, ControlReply::CloseConnection(closing)));
 }
 
 #[test]
-fn a_plain_session_does_no_transactions(rt: HostRuntime) -> Result<(), Fail> {
-    let alloc = rt.alloc();
+fn a_plain_session_allocates_no_ids(rt: HostRuntime) {
+    let refused = ControlReply::Allocated(Err(AllocTxnIdError::NotImplemented));
+    assert!(rt; replies(rt.alloc(), SessionControl::AllocateTransactionId, refused));
+}
+
+#[test]
+fn a_plain_session_discharges_nothing(rt: HostRuntime) -> Result<(), Fail> {
     let txn_id = TransactionId::new(b"t")?;
-    let unknown = TransactionError::UnknownId;
-    let allocated = reply(alloc, SessionControl::AllocateTransactionId)?;
-    assert!(rt; allocated == ControlReply::Allocated(Err(AllocTxnIdError::NotImplemented)));
-    let committed = reply(alloc, SessionControl::CommitTransaction { txn_id })?;
-    assert!(rt; committed == ControlReply::Committed(Err(unknown)));
-    let rolled_back = reply(alloc, SessionControl::RollbackTransaction { txn_id })?;
-    assert!(rt; rolled_back == ControlReply::RolledBack(Err(unknown)));
+    let uncommitted = ControlReply::Committed(Err(TransactionError::UnknownId));
+    assert!(rt;
+        replies(
+            rt.alloc(),
+            SessionControl::CommitTransaction { txn_id },
+            uncommitted
+        )
+    );
+    let unended = ControlReply::RolledBack(Err(TransactionError::UnknownId));
+    assert!(rt;
+        replies(
+            rt.alloc(),
+            SessionControl::RollbackTransaction { txn_id },
+            unended
+        )
+    );
     Ok(())
 }
 
 #[test]
 fn some_controls_have_no_reply(rt: HostRuntime) -> Result<(), Fail> {
-    let alloc = rt.alloc();
-    let aborted = reply(
-        alloc,
-        SessionControl::AbortTransaction(TransactionId::new(b"t")?),
-    )?;
-    assert!(rt; aborted == ControlReply::Nothing);
-    let freed = reply(alloc, SessionControl::DeallocateLink(OutputHandle(0)))?;
-    assert!(rt; freed == ControlReply::Nothing);
+    let abort = SessionControl::AbortTransaction(TransactionId::new(b"t")?);
+    assert!(rt; replies(rt.alloc(), abort, ControlReply::Nothing));
+    let free = SessionControl::DeallocateLink(OutputHandle(0));
+    assert!(rt; replies(rt.alloc(), free, ControlReply::Nothing));
     Ok(())
 }
 
 #[test]
-fn an_end_keeps_its_reason(rt: HostRuntime) -> Result<(), Fail> {
+fn an_end_keeps_its_reason(rt: HostRuntime) {
     let alloc = rt.alloc();
     let mut engine = engine(alloc, SessionState::Mapped);
-    let answer = engine.on_control(SessionControl::End(None), &mut CountIds::new())?;
-    assert!(rt; answer == turn(alloc, Running::Waiting, Some(End { error: None })));
+    let answer = engine.on_control(SessionControl::End(None), &mut CountIds::new());
+    let ended = Some(End { error: None });
+    assert!(rt; gives(answer, turn(alloc, Running::Waiting, ended)));
     assert!(rt; engine.session().session_stop_reason() == Some(&SessionStopReason::Ended));
-    let again = engine.on_control(SessionControl::End(None), &mut CountIds::new())?;
-    assert!(rt; again == quiet(alloc, Running::Waiting));
-    Ok(())
+    drop(engine);
+}
+
+#[test]
+fn an_end_is_sent_once(rt: HostRuntime) {
+    let alloc = rt.alloc();
+    let answer = asked(alloc, SessionState::EndSent, SessionControl::End(None));
+    assert!(rt; gives(answer, quiet(alloc, Running::Waiting)));
 }
 
 #[test]
 fn a_control_outside_mapped_is_illegal(rt: HostRuntime) {
-    let mut engine = engine(rt.alloc(), SessionState::BeginSent);
     let control = SessionControl::DeallocateLink(OutputHandle(0));
-    let refused = engine.on_control(control, &mut CountIds::new());
-    assert!(rt; refused == Err(SessionInnerError::IllegalState));
-    drop(engine);
-}
-
-fn disposition() -> Disposition {
-    Disposition {
-        role: Role::Receiver,
-        first: 0,
-        last: None,
-        settled: true,
-        state: None,
-        batchable: false,
-    }
+    let refused = asked(rt.alloc(), SessionState::BeginSent, control);
+    assert!(rt; refuses(refused, SessionInnerError::IllegalState));
 }
 
 #[test]
-fn a_disposition_is_sent(rt: HostRuntime) -> Result<(), Fail> {
-    let mut engine = engine(rt.alloc(), SessionState::Mapped);
+fn a_disposition_is_sent(rt: HostRuntime) {
     let control = SessionControl::Disposition(disposition());
-    let turn = engine.on_control(control, &mut CountIds::new())?;
-    assert!(rt; turn.sent.given.get(0) == Some(&Frame::Disposition(disposition())));
-    Ok(())
+    let sent = only_frame(asked(rt.alloc(), SessionState::Mapped, control));
+    assert!(rt; sent == Some(Frame::Disposition(disposition())));
 }
 
 fn attach(alloc: Global) -> Attach {
@@ -151,36 +151,35 @@ fn attach(alloc: Global) -> Attach {
     }
 }
 
-fn detach() -> Detach {
-    Detach {
-        handle: Handle(0),
-        closed: true,
-        error: None,
-    }
-}
-
-/// The frame that a mapped session sends for a link.
-fn sent(alloc: Global, frame: LinkFrame) -> Result<Option<Frame>, Fail> {
+/// Whether a mapped session sends this frame for that of a link.
+fn sends(alloc: Global, frame: LinkFrame, wanted: Frame) -> bool {
     let mut engine = engine(alloc, SessionState::Mapped);
-    let turn = engine.on_outgoing_link_frames(frame)?;
-    Ok(turn.sent.given.into_vec().pop())
+    let sent = only_frame(engine.on_outgoing_link_frames(frame));
+    drop(engine);
+    sent == Some(wanted)
 }
 
 #[test]
-fn frames_of_links_are_sent(rt: HostRuntime) -> Result<(), Fail> {
+fn an_attach_is_sent(rt: HostRuntime) {
     let alloc = rt.alloc();
-    let attached = sent(alloc, LinkFrame::Attach(attach(alloc)))?;
-    assert!(rt; attached == Some(Frame::Attach(attach(alloc))));
-    let settled = sent(alloc, LinkFrame::Disposition(disposition()))?;
-    assert!(rt; settled == Some(Frame::Disposition(disposition())));
-    let detached = sent(alloc, LinkFrame::Detach(detach()))?;
-    assert!(rt; detached == Some(Frame::Detach(detach())));
-    Ok(())
+    let wanted = Frame::Attach(attach(alloc));
+    assert!(rt; sends(alloc, LinkFrame::Attach(attach(alloc)), wanted));
 }
 
 #[test]
-fn a_continuation_is_sent_as_it_is(rt: HostRuntime) -> Result<(), Fail> {
-    let alloc = rt.alloc();
+fn a_links_disposition_is_sent(rt: HostRuntime) {
+    let wanted = Frame::Disposition(disposition());
+    assert!(rt; sends(rt.alloc(), LinkFrame::Disposition(disposition()), wanted));
+}
+
+#[test]
+fn a_detach_is_sent(rt: HostRuntime) {
+    let wanted = Frame::Detach(detach());
+    assert!(rt; sends(rt.alloc(), LinkFrame::Detach(detach()), wanted));
+}
+
+#[test]
+fn a_continuation_is_sent_as_it_is(rt: HostRuntime) {
     let frame = LinkFrame::Transfer {
         input: InputHandle(5),
         transfer: transfer(),
@@ -191,8 +190,7 @@ fn a_continuation_is_sent_as_it_is(rt: HostRuntime) -> Result<(), Fail> {
         transfer: transfer(),
         payload: Payload::new(),
     };
-    assert!(rt; sent(alloc, frame)? == Some(wanted));
-    Ok(())
+    assert!(rt; sends(rt.alloc(), frame, wanted));
 }
 
 fn flow() -> Flow {
@@ -212,7 +210,7 @@ fn flow() -> Flow {
 }
 
 #[test]
-fn a_flow_gets_the_sessions_numbers(rt: HostRuntime) -> Result<(), Fail> {
+fn a_flow_gets_the_sessions_numbers(rt: HostRuntime) {
     let frame = LinkFrame::Flow(LinkFlow {
         handle: Handle(0),
         delivery_count: None,
@@ -222,6 +220,5 @@ fn a_flow_gets_the_sessions_numbers(rt: HostRuntime) -> Result<(), Fail> {
         echo: false,
         properties: None,
     });
-    assert!(rt; sent(rt.alloc(), frame)? == Some(Frame::Flow(flow())));
-    Ok(())
+    assert!(rt; sends(rt.alloc(), frame, Frame::Flow(flow())));
 }

@@ -1,96 +1,23 @@
 //! The engine over a plain session, called as its users call it.
 
+use crate::test_values::{
+    begin, detach, engine, error, gives, plain, quiet, refuses, relay, transfer, turn,
+};
 use crate::*;
-use amqp_layer::{Answers, LayerBelow, SessionInnerError};
-use amqp_sessions::{BeginError, PlainSession, Relay, Session};
+use amqp_layer::{LayerBelow, SessionInnerError};
+use amqp_sessions::{BeginError, PlainSession, Session};
 use amqp_txn_types::{
-    AmqpError, Begin, ConnectionStopReason, Detach, End, Error, ErrorCondition, Frame, Frames,
-    Handle, InputHandle, LinkFlows, LinkFrame, OutgoingChannel, OutputHandle, Payload,
-    ReceiverSettleMode, Role, SessionState, SessionStopReason, Text, TransactionError, Transfer,
+    AmqpError, ConnectionStopReason, End, Error, ErrorCondition, Frame, InputHandle, LinkFrame,
+    OutputHandle, Payload, SessionState, SessionStopReason, Text, TransactionError,
 };
 use std::alloc::Global;
-use std::test::Fail;
-
-pub fn begin() -> Begin {
-    Begin {
-        remote_channel: None,
-        next_outgoing_id: 0,
-        incoming_window: 2,
-        outgoing_window: 2,
-        handle_max: Handle(7),
-        offered_capabilities: None,
-        desired_capabilities: None,
-        properties: None,
-    }
-}
-
-pub fn plain(alloc: Global, state: SessionState) -> PlainSession {
-    PlainSession::new(alloc, OutgoingChannel(7), state, begin())
-}
-
-/// The engine of a plain session in this state.
-pub fn engine(alloc: Global, state: SessionState) -> SessionEngine<PlainSession> {
-    SessionEngine::new(alloc, plain(alloc, state))
-}
 
 fn frame(body: SessionFrameBody) -> SessionFrame {
     SessionFrame { channel: 3, body }
 }
 
-fn end(error: Option<Error>) -> SessionFrame {
-    frame(SessionFrameBody::End(End { error }))
-}
-
-/// A turn that sends nothing.
-pub fn quiet(alloc: Global, running: Running) -> Turn {
-    turn(alloc, running, None)
-}
-
-/// A turn with an end to be sent.
-pub fn turn(alloc: Global, running: Running, ended: Option<End>) -> Turn {
-    Turn {
-        running,
-        sent: Answers {
-            given: Frames::new(alloc),
-            window: None,
-        },
-        ended,
-        reply: ControlReply::Nothing,
-    }
-}
-
-fn error(condition: ErrorCondition) -> Error {
-    Error {
-        condition,
-        description: None,
-        info: None,
-    }
-}
-
-fn relay(alloc: Global) -> Relay {
-    Relay {
-        name: Text::new(alloc),
-        role: Role::Receiver,
-        rcv_settle_mode: ReceiverSettleMode::First,
-        flows: LinkFlows::new(alloc),
-        transfers: 0,
-    }
-}
-
-pub fn transfer() -> Transfer {
-    Transfer {
-        handle: Handle(5),
-        delivery_id: None,
-        delivery_tag: None,
-        message_format: None,
-        settled: None,
-        more: false,
-        rcv_settle_mode: None,
-        state: None,
-        resume: false,
-        aborted: false,
-        batchable: false,
-    }
+fn plain_end() -> SessionFrame {
+    frame(SessionFrameBody::End(End { error: None }))
 }
 
 fn transfer_frame() -> SessionFrame {
@@ -101,153 +28,237 @@ fn transfer_frame() -> SessionFrame {
 }
 
 /// The engine of a mapped session with a receiving link of the peer's handle 5.
-fn with_link(alloc: Global) -> Result<SessionEngine<PlainSession>, Fail> {
+fn with_link(alloc: Global) -> SessionEngine<PlainSession> {
     let mut session = plain(alloc, SessionState::Mapped);
-    session.allocate_incoming_link(Text::new(alloc), relay(alloc), InputHandle(5))?;
-    Ok(SessionEngine::new(alloc, session))
+    drop(session.allocate_incoming_link(Text::new(alloc), relay(alloc), InputHandle(5)));
+    SessionEngine::new(alloc, session)
 }
 
 /// How many transfers came to the link.
-fn transfers(engine: &SessionEngine<PlainSession>) -> u64 {
+fn transfers(engine: &SessionEngine<PlainSession>) -> Option<u64> {
     match engine.session().relay(OutputHandle(0)) {
-        None => 0,
-        Some(relay) => relay.transfers,
+        None => None,
+        Some(relay) => Some(relay.transfers),
+    }
+}
+
+/// Whether the session stopped for this reason.
+fn stopped_for(session: &PlainSession, reason: SessionStopReason) -> bool {
+    session.session_stop_reason() == Some(&reason)
+}
+
+fn is_window(answer: Result<Turn, SessionInnerError>) -> bool {
+    match answer {
+        Ok(turn) => turn.running == Running::Continue && turn.sent.window.is_some(),
+        Err(fault) => {
+            drop(fault);
+            false
+        }
     }
 }
 
 #[test]
-fn a_transfer_reaches_the_session(rt: HostRuntime) -> Result<(), Fail> {
-    let alloc = rt.alloc();
-    let mut engine = with_link(alloc)?;
-    let turn = engine.on_incoming(transfer_frame())?;
-    assert!(rt; turn.running == Running::Continue);
-    assert!(rt; turn.sent.window.is_some());
-    assert_eq!(rt; transfers(&engine), 1);
-    Ok(())
+fn a_transfer_reaches_the_session(rt: HostRuntime) {
+    let mut engine = with_link(rt.alloc());
+    assert!(rt; is_window(engine.on_incoming(transfer_frame())));
+    assert_eq!(rt; transfers(&engine), Some(1));
+    drop(engine);
 }
 
 #[test]
-fn an_unknown_id_ends_the_session(rt: HostRuntime) -> Result<(), Fail> {
+fn an_unknown_id_ends_the_session(rt: HostRuntime) {
     let alloc = rt.alloc();
     let mut engine = engine(alloc, SessionState::Mapped);
-    let answer = engine.on_error(&SessionInnerError::UnknownTxnId)?;
+    let answer = engine.on_error(&SessionInnerError::UnknownTxnId);
     let unknown = ErrorCondition::TransactionError(TransactionError::UnknownId);
-    let error = Some(error(unknown));
-    assert!(rt; answer == turn(alloc, Running::Waiting, Some(End { error })));
+    let ended = Some(End {
+        error: Some(error(unknown)),
+    });
+    assert!(rt; gives(answer, turn(alloc, Running::Waiting, ended)));
     assert!(rt; engine.session().local_state() == SessionState::Discarding);
-    Ok(())
+    drop(engine);
 }
 
 #[test]
-fn what_comes_before_the_awaited_end_is_dropped(rt: HostRuntime) -> Result<(), Fail> {
+fn what_comes_before_the_awaited_end_is_dropped(rt: HostRuntime) {
     let alloc = rt.alloc();
-    let mut engine = with_link(alloc)?;
-    engine.on_error(&SessionInnerError::UnknownTxnId)?;
-    let dropped = engine.on_incoming(transfer_frame())?;
-    assert!(rt; dropped == quiet(alloc, Running::Waiting));
-    let over = engine.on_incoming(end(None))?;
-    assert!(rt; over == quiet(alloc, Running::Stop));
-    assert_eq!(rt; transfers(&engine), 0);
-    Ok(())
+    let mut engine = with_link(alloc);
+    drop(engine.on_error(&SessionInnerError::UnknownTxnId));
+    let dropped = engine.on_incoming(transfer_frame());
+    assert!(rt; gives(dropped, quiet(alloc, Running::Waiting)));
+    let over = engine.on_incoming(plain_end());
+    assert!(rt; gives(over, quiet(alloc, Running::Stop)));
+    assert_eq!(rt; transfers(&engine), Some(0));
+    drop(engine);
 }
 
 #[test]
-fn the_peers_end_is_answered(rt: HostRuntime) -> Result<(), Fail> {
+fn the_peers_end_is_answered(rt: HostRuntime) {
     let alloc = rt.alloc();
     let mut engine = engine(alloc, SessionState::Mapped);
-    let answer = engine.on_incoming(end(None))?;
-    assert!(rt; answer == turn(alloc, Running::Stop, Some(End { error: None })));
-    let reason = engine.session().session_stop_reason();
-    assert!(rt; reason == Some(&SessionStopReason::RemoteEnded));
-    Ok(())
+    let answer = engine.on_incoming(plain_end());
+    let ended = Some(End { error: None });
+    assert!(rt; gives(answer, turn(alloc, Running::Stop, ended)));
+    assert!(rt; stopped_for(engine.session(), SessionStopReason::RemoteEnded));
+    drop(engine);
+}
+
+fn remote_close() -> SessionStopReason {
+    SessionStopReason::ConnectionStopped(ConnectionStopReason::RemoteClosed)
 }
 
 #[test]
-fn a_connection_that_stopped_is_the_reason(rt: HostRuntime) -> Result<(), Fail> {
+fn a_connection_that_stopped_is_the_reason(rt: HostRuntime) {
     let mut engine = engine(rt.alloc(), SessionState::Mapped);
     engine.note_connection_stop(ConnectionStopReason::RemoteClosed);
-    engine.on_incoming(end(None))?;
-    let reason = SessionStopReason::ConnectionStopped(ConnectionStopReason::RemoteClosed);
-    assert!(rt; engine.session().session_stop_reason() == Some(&reason));
-    Ok(())
+    drop(engine.on_incoming(plain_end()));
+    assert!(rt; stopped_for(engine.session(), remote_close()));
+    drop(engine);
 }
 
 #[test]
 fn no_link_sends_after_the_end(rt: HostRuntime) {
     let mut engine = engine(rt.alloc(), SessionState::EndSent);
-    let detach = Detach {
-        handle: Handle(0),
-        closed: true,
-        error: None,
-    };
-    let refused = engine.on_outgoing_link_frames(LinkFrame::Detach(detach));
-    assert!(rt; refused == Err(SessionInnerError::IllegalState));
+    let refused = engine.on_outgoing_link_frames(LinkFrame::Detach(detach()));
+    assert!(rt; refuses(refused, SessionInnerError::IllegalState));
     drop(engine);
 }
 
 #[test]
-fn a_session_without_a_begin_is_over_at_once(rt: HostRuntime) -> Result<(), Fail> {
+fn a_session_without_a_begin_is_over_at_once(rt: HostRuntime) {
     let alloc = rt.alloc();
     let mut engine = engine(alloc, SessionState::Unmapped);
-    assert!(rt; engine.end_session(None)? == quiet(alloc, Running::Stop));
-    Ok(())
+    assert!(rt; gives(engine.end_session(None), quiet(alloc, Running::Stop)));
+    drop(engine);
+}
+
+/// The error of the end that is sent for a fault.
+fn error_sent(alloc: Global, fault: SessionInnerError) -> Option<Error> {
+    let mut engine = engine(alloc, SessionState::Mapped);
+    let answer = engine.on_error(&fault);
+    drop(engine);
+    drop(fault);
+    match answer {
+        Ok(turn) => error_of(turn.ended),
+        Err(fault) => {
+            drop(fault);
+            None
+        }
+    }
+}
+
+fn error_of(ended: Option<End>) -> Option<Error> {
+    match ended {
+        Some(end) => end.error,
+        None => None,
+    }
+}
+
+fn is_told(error: Option<Error>, condition: AmqpError, text: &str) -> bool {
+    match error {
+        Some(error) => is_error(error, condition, text),
+        None => false,
+    }
+}
+
+fn is_error(error: Error, condition: AmqpError, text: &str) -> bool {
+    let same_text = match &error.description {
+        Some(description) => description.as_str() == text,
+        None => false,
+    };
+    same_text && error.condition == ErrorCondition::AmqpError(condition)
 }
 
 #[test]
-fn a_missing_name_is_told(rt: HostRuntime) -> Result<(), Fail> {
-    let alloc = rt.alloc();
-    let mut engine = engine(alloc, SessionState::Mapped);
-    let answer = engine.on_error(&SessionInnerError::RemoteAttachingLinkNameNotFound)?;
-    let mut error = error(ErrorCondition::AmqpError(AmqpError::InternalError));
-    error.description = Some(Text::from_str(alloc, "Link name is not found")?);
-    let ended = Some(End { error: Some(error) });
-    assert!(rt; answer == turn(alloc, Running::Waiting, ended));
-    Ok(())
+fn some_faults_are_told_by_a_text(rt: HostRuntime) {
+    let unnamed = error_sent(
+        rt.alloc(),
+        SessionInnerError::RemoteAttachingLinkNameNotFound,
+    );
+    assert!(rt; is_told(unnamed, AmqpError::InternalError, "Link name is not found"));
+    let to_sender = error_sent(rt.alloc(), SessionInnerError::TransferFrameToSender);
+    let text = "Found Transfer frame sent Sender link";
+    assert!(rt; is_told(to_sender, AmqpError::NotAllowed, text));
 }
 
 #[test]
 fn a_stopped_connection_is_no_fault_of_the_session(rt: HostRuntime) {
-    let alloc = rt.alloc();
-    let stopped = SessionInnerError::ConnectionStopped(ConnectionStopReason::Closed);
-    let (session, outcome) = engine(alloc, SessionState::Mapped).finish(Err(stopped));
-    assert!(rt; outcome == Ok(()));
-    let reason = SessionStopReason::ConnectionStopped(ConnectionStopReason::Closed);
-    assert!(rt; session.session_stop_reason() == Some(&reason));
+    let engine = engine(rt.alloc(), SessionState::Mapped);
+    let stopped = SessionInnerError::ConnectionStopped(ConnectionStopReason::RemoteClosed);
+    let (session, outcome) = engine.finish(Err(stopped));
+    assert!(rt; gives(outcome, ()));
+    assert!(rt; stopped_for(&session, remote_close()));
     drop(session);
 }
 
 /// A session of this side that sent its begin.
-fn begun(alloc: Global) -> Result<ClientBegin<PlainSession>, Fail> {
-    let begun = SessionEngine::begin_client_session(alloc, plain(alloc, SessionState::Unmapped));
-    let (begun, _sent) = begun.ok().ok_or("no begin was sent")?;
-    Ok(begun)
+fn begun(alloc: Global) -> Option<ClientBegin<PlainSession>> {
+    match SessionEngine::begin_client_session(alloc, plain(alloc, SessionState::Unmapped)) {
+        Ok((begun, sent)) => {
+            drop(sent);
+            Some(begun)
+        }
+        Err(refused) => {
+            drop(refused);
+            None
+        }
+    }
+}
+
+/// Whether the session is mapped.
+fn is_mapped(answer: Result<SessionEngine<PlainSession>, (PlainSession, BeginError)>) -> bool {
+    match answer {
+        Ok(engine) => engine.session().local_state() == SessionState::Mapped,
+        Err(refused) => {
+            drop(refused);
+            false
+        }
+    }
+}
+
+/// Whether the session came back for this error.
+fn came_back(
+    answer: Result<SessionEngine<PlainSession>, (PlainSession, BeginError)>,
+    wanted: BeginError,
+) -> bool {
+    match answer {
+        Ok(engine) => {
+            drop(engine);
+            false
+        }
+        Err((session, error)) => {
+            drop(session);
+            error == wanted
+        }
+    }
 }
 
 #[test]
-fn the_peers_begin_maps_the_session(rt: HostRuntime) -> Result<(), Fail> {
+fn the_peers_begin_maps_the_session(rt: HostRuntime) {
+    let Some(begun) = begun(rt.alloc()) else {
+        panic!(rt; "no begin was sent");
+    };
     let peers = frame(SessionFrameBody::Begin(begin()));
-    let ready = begun(rt.alloc())?.on_frame(peers);
-    let engine = ready.ok().ok_or("the begin was refused")?;
-    assert!(rt; engine.session().local_state() == SessionState::Mapped);
-    Ok(())
+    assert!(rt; is_mapped(begun.on_frame(peers)));
 }
 
 #[test]
-fn an_early_end_is_told(rt: HostRuntime) -> Result<(), Fail> {
-    let ended = begun(rt.alloc())?.on_frame(end(None));
-    let (session, error) = ended.err().ok_or("the end was taken")?;
-    assert!(rt; error == BeginError::RemoteEnded);
-    assert!(rt; session.local_state() == SessionState::BeginSent);
-    Ok(())
-}
-
-#[test]
-fn a_connection_may_stop_early(rt: HostRuntime) -> Result<(), Fail> {
-    let mut begun = begun(rt.alloc())?;
-    begun.note_connection_stop(ConnectionStopReason::RemoteClosed);
+fn an_early_end_is_told(rt: HostRuntime) {
+    let Some(begun) = begun(rt.alloc()) else {
+        panic!(rt; "no begin was sent");
+    };
     assert!(rt; begun.session().local_state() == SessionState::BeginSent);
-    let (_session, error) = begun.connection_stopped();
+    assert!(rt; came_back(begun.on_frame(plain_end()), BeginError::RemoteEnded));
+}
+
+#[test]
+fn a_connection_may_stop_early(rt: HostRuntime) {
+    let Some(mut begun) = begun(rt.alloc()) else {
+        panic!(rt; "no begin was sent");
+    };
+    begun.note_connection_stop(ConnectionStopReason::RemoteClosed);
+    let (session, error) = begun.connection_stopped();
+    drop(session);
     let stopped = BeginError::ConnectionStopped(ConnectionStopReason::RemoteClosed);
     assert!(rt; error == stopped);
-    Ok(())
 }

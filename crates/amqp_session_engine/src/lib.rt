@@ -66,6 +66,8 @@ mod outgoing;
 mod reasons;
 mod states;
 #[cfg(test)]
+mod test_values;
+#[cfg(test)]
 mod text_tests;
 mod turn;
 

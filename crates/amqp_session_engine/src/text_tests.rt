@@ -1,10 +1,10 @@
 //! The texts of controls.
 
+use crate::test_values::{disposition, error, relay};
 use crate::*;
-use amqp_sessions::Relay;
 use amqp_txn_types::{
-    AmqpError, ConnectionError, Disposition, Error, ErrorCondition, InputHandle, LinkFlows,
-    OutgoingChannel, OutputHandle, ReceiverSettleMode, Role, Text, TransactionId,
+    AmqpError, ConnectionError, Error, ErrorCondition, InputHandle, OutgoingChannel, OutputHandle,
+    Text, TransactionId,
 };
 use std::alloc::Global;
 use std::fmt::Display;
@@ -22,32 +22,7 @@ fn other_text<T: Display>(alloc: Global, table: &[(T, &str)]) -> Result<Option<u
 }
 
 fn not_allowed() -> Error {
-    Error {
-        condition: ErrorCondition::AmqpError(AmqpError::NotAllowed),
-        description: None,
-        info: None,
-    }
-}
-
-fn relay(alloc: Global) -> Relay {
-    Relay {
-        name: Text::new(alloc),
-        role: Role::Receiver,
-        rcv_settle_mode: ReceiverSettleMode::First,
-        flows: LinkFlows::new(alloc),
-        transfers: 0,
-    }
-}
-
-fn disposition() -> Disposition {
-    Disposition {
-        role: Role::Receiver,
-        first: 0,
-        last: None,
-        settled: true,
-        state: None,
-        batchable: false,
-    }
+    error(ErrorCondition::AmqpError(AmqpError::NotAllowed))
 }
 
 #[test]
