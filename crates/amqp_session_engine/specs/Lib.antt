@@ -1,0 +1,10 @@
+pub mod States
+pub mod Turns
+pub mod Asking
+pub mod Reasons
+pub mod Beginning
+pub mod Ending
+pub mod Incoming
+pub mod Outgoing
+pub mod Controls
+pub mod Faults

@@ -1,0 +1,224 @@
+//! Each control and each outgoing frame once, over a plain session.
+
+use crate::test_values::{
+    detach, disposition, engine, error, gives, only_frame, quiet, refuses, relay, replied,
+    transfer, turn,
+};
+use crate::*;
+use amqp_ids::CountIds;
+use amqp_layer::SessionInnerError;
+use amqp_sessions::{AllocTxnIdError, Session};
+use amqp_txn_types::{
+    Attach, ConnectionError, End, ErrorCondition, Flow, Frame, Handle, InputHandle, LinkFlow,
+    LinkFrame, OutputHandle, Payload, ReceiverSettleMode, Role, SenderSettleMode, SessionState,
+    SessionStopReason, Text, TransactionError, TransactionId,
+};
+use std::alloc::Global;
+use std::test::Fail;
+
+/// What a session in this state answers to a control.
+fn asked(
+    alloc: Global,
+    state: SessionState,
+    control: SessionControl,
+) -> Result<Turn, SessionInnerError> {
+    let mut engine = engine(alloc, state);
+    let answer = engine.on_control(control, &mut CountIds::new());
+    drop(engine);
+    answer
+}
+
+/// Whether a mapped session gives this reply.
+fn replies(alloc: Global, control: SessionControl, reply: ControlReply) -> bool {
+    gives(
+        asked(alloc, SessionState::Mapped, control),
+        replied(alloc, reply),
+    )
+}
+
+#[test]
+fn links_are_allocated(rt: HostRuntime) {
+    let alloc = rt.alloc();
+    let control = SessionControl::AllocateLink {
+        link_name: Text::new(alloc),
+        link_relay: relay(alloc),
+    };
+    assert!(rt; replies(alloc, control, ControlReply::Linked(Ok(OutputHandle(0)))));
+}
+
+#[test]
+fn incoming_links_are_allocated(rt: HostRuntime) {
+    let alloc = rt.alloc();
+    let control = SessionControl::AllocateIncomingLink {
+        link_name: Text::new(alloc),
+        link_relay: relay(alloc),
+        input_handle: InputHandle(1),
+    };
+    assert!(rt; replies(alloc, control, ControlReply::Linked(Ok(OutputHandle(0)))));
+}
+
+#[test]
+fn a_connection_is_to_be_closed(rt: HostRuntime) {
+    let condition = ConnectionError::FramingError;
+    let control = SessionControl::CloseConnectionWithError(condition, None);
+    let closing = error(ErrorCondition::ConnectionError(condition));
+    assert!(rt; replies(rt.alloc(), control, ControlReply::CloseConnection(closing)));
+}
+
+#[test]
+fn a_plain_session_allocates_no_ids(rt: HostRuntime) {
+    let refused = ControlReply::Allocated(Err(AllocTxnIdError::NotImplemented));
+    assert!(rt; replies(rt.alloc(), SessionControl::AllocateTransactionId, refused));
+}
+
+#[test]
+fn a_plain_session_discharges_nothing(rt: HostRuntime) -> Result<(), Fail> {
+    let txn_id = TransactionId::new(b"t")?;
+    let uncommitted = ControlReply::Committed(Err(TransactionError::UnknownId));
+    assert!(rt;
+        replies(
+            rt.alloc(),
+            SessionControl::CommitTransaction { txn_id },
+            uncommitted
+        )
+    );
+    let unended = ControlReply::RolledBack(Err(TransactionError::UnknownId));
+    assert!(rt;
+        replies(
+            rt.alloc(),
+            SessionControl::RollbackTransaction { txn_id },
+            unended
+        )
+    );
+    Ok(())
+}
+
+#[test]
+fn some_controls_have_no_reply(rt: HostRuntime) -> Result<(), Fail> {
+    let abort = SessionControl::AbortTransaction(TransactionId::new(b"t")?);
+    assert!(rt; replies(rt.alloc(), abort, ControlReply::Nothing));
+    let free = SessionControl::DeallocateLink(OutputHandle(0));
+    assert!(rt; replies(rt.alloc(), free, ControlReply::Nothing));
+    Ok(())
+}
+
+#[test]
+fn an_end_keeps_its_reason(rt: HostRuntime) {
+    let alloc = rt.alloc();
+    let mut engine = engine(alloc, SessionState::Mapped);
+    let answer = engine.on_control(SessionControl::End(None), &mut CountIds::new());
+    let ended = Some(End { error: None });
+    assert!(rt; gives(answer, turn(alloc, Running::Waiting, ended)));
+    assert!(rt; engine.session().session_stop_reason() == Some(&SessionStopReason::Ended));
+    drop(engine);
+}
+
+#[test]
+fn an_end_is_sent_once(rt: HostRuntime) {
+    let alloc = rt.alloc();
+    let answer = asked(alloc, SessionState::EndSent, SessionControl::End(None));
+    assert!(rt; gives(answer, quiet(alloc, Running::Waiting)));
+}
+
+#[test]
+fn a_control_outside_mapped_is_illegal(rt: HostRuntime) {
+    let control = SessionControl::DeallocateLink(OutputHandle(0));
+    let refused = asked(rt.alloc(), SessionState::BeginSent, control);
+    assert!(rt; refuses(refused, SessionInnerError::IllegalState));
+}
+
+#[test]
+fn a_disposition_is_sent(rt: HostRuntime) {
+    let control = SessionControl::Disposition(disposition());
+    let sent = only_frame(asked(rt.alloc(), SessionState::Mapped, control));
+    assert!(rt; sent == Some(Frame::Disposition(disposition())));
+}
+
+fn attach(alloc: Global) -> Attach {
+    Attach {
+        name: Text::new(alloc),
+        handle: Handle(0),
+        role: Role::Sender,
+        snd_settle_mode: SenderSettleMode::Mixed,
+        rcv_settle_mode: ReceiverSettleMode::First,
+        source: None,
+        target: None,
+        initial_delivery_count: None,
+        max_message_size: None,
+        offered_capabilities: None,
+        desired_capabilities: None,
+        properties: None,
+    }
+}
+
+/// Whether a mapped session sends this frame for that of a link.
+fn sends(alloc: Global, frame: LinkFrame, wanted: Frame) -> bool {
+    let mut engine = engine(alloc, SessionState::Mapped);
+    let sent = only_frame(engine.on_outgoing_link_frames(frame));
+    drop(engine);
+    sent == Some(wanted)
+}
+
+#[test]
+fn an_attach_is_sent(rt: HostRuntime) {
+    let alloc = rt.alloc();
+    let wanted = Frame::Attach(attach(alloc));
+    assert!(rt; sends(alloc, LinkFrame::Attach(attach(alloc)), wanted));
+}
+
+#[test]
+fn a_links_disposition_is_sent(rt: HostRuntime) {
+    let wanted = Frame::Disposition(disposition());
+    assert!(rt; sends(rt.alloc(), LinkFrame::Disposition(disposition()), wanted));
+}
+
+#[test]
+fn a_detach_is_sent(rt: HostRuntime) {
+    let wanted = Frame::Detach(detach());
+    assert!(rt; sends(rt.alloc(), LinkFrame::Detach(detach()), wanted));
+}
+
+#[test]
+fn a_continuation_is_sent_as_it_is(rt: HostRuntime) {
+    let frame = LinkFrame::Transfer {
+        input: InputHandle(5),
+        transfer: transfer(),
+        payload: Payload::new(),
+        is_first: false,
+    };
+    let wanted = Frame::Transfer {
+        transfer: transfer(),
+        payload: Payload::new(),
+    };
+    assert!(rt; sends(rt.alloc(), frame, wanted));
+}
+
+fn flow() -> Flow {
+    Flow {
+        next_incoming_id: None,
+        incoming_window: 2,
+        next_outgoing_id: 0,
+        outgoing_window: 2,
+        handle: Some(Handle(0)),
+        delivery_count: None,
+        link_credit: Some(10),
+        available: None,
+        drain: false,
+        echo: false,
+        properties: None,
+    }
+}
+
+#[test]
+fn a_flow_gets_the_sessions_numbers(rt: HostRuntime) {
+    let frame = LinkFrame::Flow(LinkFlow {
+        handle: Handle(0),
+        delivery_count: None,
+        link_credit: Some(10),
+        available: None,
+        drain: false,
+        echo: false,
+        properties: None,
+    });
+    assert!(rt; sends(rt.alloc(), frame, Frame::Flow(flow())));
+}
