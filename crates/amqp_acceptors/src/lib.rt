@@ -51,8 +51,6 @@ mod refusals;
 mod reply;
 mod sender;
 mod termini;
-#[cfg(test)]
-mod tests;
 
 pub use builder::{Acceptor, Builder};
 pub use control::ControlLinkAcceptor;

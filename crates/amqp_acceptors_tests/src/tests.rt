@@ -1,6 +1,6 @@
 //! What no clause says: that the calls succeed where there is memory, and printed texts.
 
-use crate::*;
+use amqp_acceptors::*;
 use amqp_endpoints::{ReceiverAttachError, SenderAttachError};
 use amqp_layer::SessionInnerError;
 use amqp_sessions::{AllocLinkError, NameState, PlainSession, Session};
