@@ -1,0 +1,12 @@
+use Rattle.std.proofs.Common.{List, rules}
+use Rattle.amqp_txn_types.specs.declared.performatives.Frame.{Frame}
+use Rattle.amqp_acceptors.specs.declared.endpoint.LinkEndpoint.{LinkEndpoint}
+use Rattle.amqp_acceptors.proofs.Stopping.{stop-uncounted}
+use Rattle.amqp_acceptors.proofs.link.LinkAcceptor.accept_incoming_attach.Goals as goal
+
+-- the session had stopped
+pub returns-in-Some-clause-told : goal.returns-in-Some-clause-told
+returns-in-Some-clause-told g c = record {
+  steady = search rules;
+  cause = stop-uncounted (LinkEndpoint × List Frame) _ _ _ _ c.stopped.ensures;
+}

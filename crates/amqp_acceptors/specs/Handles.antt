@@ -1,0 +1,67 @@
+-- What accepting from a queue answers. Part 2 of the standard, section 2.6.3 (establishing a link).
+use Rattle.std.specs.Prelude.{◌≡◌, Bool, true, false, Option, Some, None, Result, Err, List, [], ◌∷◌, unwrap_or}
+use Rattle.amqp_txn_types.specs.declared.delivery.SessionStopReason.{SessionStopReason}
+use Rattle.amqp_txn_types.specs.declared.delivery.SessionStopReason.TheVariants as reasons
+use Rattle.amqp_txn_types.specs.declared.performatives.Attach.{Attach}
+use Rattle.amqp_txn_types.specs.declared.performatives.Frame.{Frame}
+use Rattle.amqp_txn_types.specs.declared.small.Role.TheVariants as roles
+use Rattle.amqp_txn_types.specs.Counts.{Rose}
+use Rattle.amqp_layer.specs.Told.{Steady, Told}
+use Rattle.amqp_links.specs.declared.poll.Poll.{Poll}
+use Rattle.amqp_links.specs.declared.poll.Poll.TheVariants as polls
+use Rattle.amqp_endpoints.specs.Queues.{Queue, first_waiting}
+use Rattle.amqp_acceptors.specs.declared.endpoint.AcceptorAttachError.{AcceptorAttachError}
+use Rattle.amqp_acceptors.specs.declared.endpoint.LinkEndpoint.{LinkEndpoint}
+use Rattle.amqp_acceptors.specs.LinkAcceptors.{OnLinkRefusal, TellsStop}
+
+-- what an empty queue gives, by whether it is closed
+abbrev pub none_waiting : Bool → Poll (Option Attach)
+none_waiting true = polls.Ready None
+none_waiting false = polls.Pending
+
+-- what a queue gives, by whether it is closed: the attach that came first
+abbrev pub next_of : List Attach → Bool → Poll (Option Attach)
+next_of [] closed = none_waiting closed
+next_of (attach ∷ rest) closed = polls.Ready (Some attach)
+
+-- what a queue gives
+abbrev pub next_incoming : Queue → Poll (Option Attach)
+next_incoming queue = next_of queue.waiting queue.closed
+
+-- the reason why a session stopped, or that it ended where none is kept
+abbrev pub stop_or_ended : Option SessionStopReason → SessionStopReason
+stop_or_ended stop = unwrap_or stop reasons.Ended
+
+-- what is answered to what the queue gave: to an attach what the acceptor answers; to a closed and
+-- empty queue that the session stopped, which may want memory as a local receiver does
+abbrev pub AnswersNext : {S : Type 0} → Poll (Option Attach) → Option SessionStopReason
+    → (Attach → S → S → Result (LinkEndpoint × List Frame) AcceptorAttachError → Type 0)
+    → S → S → Poll (Result (LinkEndpoint × List Frame) AcceptorAttachError) → Type 0
+AnswersNext polls.Pending stop Accepts taken new result =
+    (result ≡ polls.Pending) × (new ≡ taken)
+AnswersNext (polls.Ready None) stop Accepts taken new result =
+    (error : AcceptorAttachError) × TellsStop (stop_or_ended stop) roles.Sender error
+    × (result ≡ polls.Ready (Err error)) × (new ≡ taken)
+AnswersNext (polls.Ready (Some attach)) stop Accepts taken new result =
+    (answer : Result (LinkEndpoint × List Frame) AcceptorAttachError)
+    × Accepts attach taken new answer × (result ≡ polls.Ready answer)
+
+-- the attach that came first is taken out of the queue, and then answered
+abbrev pub AcceptsNext : {S : Type 0} → (S → S → Option Attach → Type 0) → Queue
+    → Option SessionStopReason
+    → (Attach → S → S → Result (LinkEndpoint × List Frame) AcceptorAttachError → Type 0)
+    → S → S → Poll (Result (LinkEndpoint × List Frame) AcceptorAttachError) → Type 0
+AcceptsNext {S} takes queue stop Accepts old new result =
+    (taken : S) × takes old taken (first_waiting queue)
+    × AnswersNext (next_incoming queue) stop Accepts taken new result
+
+-- the fact holds where a local end was refused but for want of memory or its kind of target
+abbrev pub OnNextRefusal : {A : Type 0} → Poll (Result A AcceptorAttachError) → Type 0 → Type 0
+OnNextRefusal polls.Pending P = Unit {0}
+OnNextRefusal (polls.Ready answer) P = OnLinkRefusal answer P
+
+-- accepting from a queue adds to no list, and each refusal of the session is counted
+pub record NextTold {A : Type 0} (old new : Told) (result : Poll (Result A AcceptorAttachError))
+    : Type 0 where
+  pub steady : Steady old new
+  pub cause : OnNextRefusal result (Rose old.refusals new.refusals)

@@ -1,0 +1,10 @@
+pub mod Modes
+pub mod Fields
+pub mod Termini
+pub mod Replies
+pub mod Opening
+pub mod Accepting
+pub mod Receivers
+pub mod Senders
+pub mod LinkAcceptors
+pub mod Handles
