@@ -98,7 +98,8 @@ abbrev pub ControlsLinks : {S : Type 0} → (S → Told) → (S → Kept) → (S
     → (S → S → Text → Relay → InputHandle → Result OutputHandle AllocLinkError → Type 0)
     → (S → S → OutputHandle → Bool → Type 0)
     → S → S → SessionControl → Result Turn SessionInnerError → Type 0
-ControlsLinks told kept names Makes Incoming Drops old new (controls.AllocateLink name relay) result =
+ControlsLinks told kept names Makes Incoming Drops old new
+    (controls.AllocateLink name relay) result =
     Links told kept names (Makes old new name relay) old new name Waiting result
 ControlsLinks told kept names Makes Incoming Drops old new
     (controls.AllocateIncomingLink name relay input) result =

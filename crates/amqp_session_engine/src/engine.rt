@@ -98,7 +98,8 @@ impl<S: Session> SessionEngine<S> {
     /// was. Where the session refuses to send its end, the peer's end has been taken and the reason
     /// is kept.
     pub fn on_incoming(&mut self, frame: SessionFrame) -> Result<Turn, SessionInnerError>
-        ensures link { OnLink frame.body (λ link. MatchBool (awaits_end (S.told self.old).fixed.state)
+        ensures link { OnLink frame.body (λ link.
+            MatchBool (awaits_end (S.told self.old).fixed.state)
             (Unasked self.old self.new (Ok (quiet runnings.Waiting)) result)
             (TakesLink S.told S.incoming_gives S.check_gives S.window_gives self.old self.new link
             result)) }

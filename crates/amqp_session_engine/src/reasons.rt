@@ -47,8 +47,8 @@ pub(crate) fn local_stop<S: Session>(
     }
 }
 
-/// What a session's stop by the peer's end takes from the connection's: nothing where the end has an
-/// error.
+/// What a session's stop by the peer's end takes from the connection's: nothing where the end has
+/// an error.
 pub(crate) fn connection_stop_for<S: Session>(
     session: &S,
     end: &End,
