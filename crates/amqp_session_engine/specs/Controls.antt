@@ -1,5 +1,5 @@
 -- What an engine does with a control.
-use Rattle.std.specs.Prelude.{ℕ, ◌≡◌, ◌||◌, ◌&&◌, Bool, true, false, Option, Some, None, Result, Ok, Err, List, is_some}
+use Rattle.std.specs.Prelude.{ℕ, ◌≡◌, ◌||◌, ◌&&◌, Bool, true, false, Option, None, Result, Ok, Err, List, is_some}
 use Rattle.amqp_txn_types.specs.Counts.{Rose}
 use Rattle.amqp_txn_types.specs.declared.delivery.Error.{Error}
 use Rattle.amqp_txn_types.specs.declared.delivery.ErrorCondition.TheVariants as conditions

@@ -3,7 +3,6 @@
 ghost use Rattle.std.specs.Prelude.{◌≡◌, Err, IfErr, MatchBool, Ok, false, not};
 ghost use Rattle.std.specs.Bool.{OnFalse, OnTrue};
 ghost use Rattle.amqp_txn_types.specs.Counts.{Rose};
-ghost use Rattle.amqp_txn_types.specs.declared.small.IncomingChannel.{IncomingChannel as Channel};
 ghost use Rattle.amqp_layer.specs.declared.inner_error.SessionInnerError.TheVariants as faults;
 ghost use Rattle.amqp_session_engine.specs.declared.turn.Running.TheVariants as runnings;
 ghost use Rattle.amqp_session_engine.specs.Asking.{OrNoMemory};
