@@ -1,5 +1,5 @@
 -- What an engine does with a control.
-use Rattle.std.specs.Prelude.{ℕ, ◌≡◌, ◌||◌, ◌&&◌, Bool, true, false, Option, Some, None, Result, Ok, Err, List, is_some}
+use Rattle.std.specs.Prelude.{ℕ, ◌≡◌, ◌||◌, ◌&&◌, Bool, true, false, Option, None, Result, Ok, Err, List, is_some}
 use Rattle.amqp_txn_types.specs.Counts.{Rose}
 use Rattle.amqp_txn_types.specs.declared.delivery.Error.{Error}
 use Rattle.amqp_txn_types.specs.declared.delivery.ErrorCondition.TheVariants as conditions
@@ -98,7 +98,8 @@ abbrev pub ControlsLinks : {S : Type 0} → (S → Told) → (S → Kept) → (S
     → (S → S → Text → Relay → InputHandle → Result OutputHandle AllocLinkError → Type 0)
     → (S → S → OutputHandle → Bool → Type 0)
     → S → S → SessionControl → Result Turn SessionInnerError → Type 0
-ControlsLinks told kept names Makes Incoming Drops old new (controls.AllocateLink name relay) result =
+ControlsLinks told kept names Makes Incoming Drops old new
+    (controls.AllocateLink name relay) result =
     Links told kept names (Makes old new name relay) old new name Waiting result
 ControlsLinks told kept names Makes Incoming Drops old new
     (controls.AllocateIncomingLink name relay input) result =

@@ -1,5 +1,5 @@
 -- How a session ends. Part 2 of the standard, section 2.5.2 (ending a session).
-use Rattle.std.specs.Prelude.{◌≡◌, ◌⊎◌, MatchBool, Option, Some, None, Result, Ok, Err, is_some}
+use Rattle.std.specs.Prelude.{◌≡◌, ◌⊎◌, MatchBool, Option, None, Result, Ok, Err, is_some}
 use Rattle.amqp_txn_types.specs.declared.delivery.Error.{Error}
 use Rattle.amqp_txn_types.specs.declared.delivery.SessionStopReason.{SessionStopReason}
 use Rattle.amqp_txn_types.specs.declared.performatives.End.{End}

@@ -1,5 +1,5 @@
 -- With which error a session is ended for a fault.
-use Rattle.std.specs.Prelude.{◌≡◌, Bool, true, false, Option, Some, None, Result, Ok, Err, List, ℕ, codes}
+use Rattle.std.specs.Prelude.{Bool, true, false, Option, Some, None, Result, Err, List, ℕ, codes}
 use Rattle.amqp_txn_types.specs.declared.delivery.Error.{Error}
 use Rattle.amqp_txn_types.specs.declared.delivery.ErrorCondition.{ErrorCondition}
 use Rattle.amqp_txn_types.specs.declared.delivery.ErrorCondition.TheVariants as conditions

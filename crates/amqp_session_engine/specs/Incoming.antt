@@ -1,5 +1,5 @@
 -- What an engine does with a frame that comes.
-use Rattle.std.specs.Prelude.{◌≡◌, Bool, true, false, not, MatchBool, Option, Result, Ok, Err, List}
+use Rattle.std.specs.Prelude.{◌≡◌, Bool, false, not, Option, Result, Ok, Err, List}
 use Rattle.amqp_txn_types.specs.declared.performatives.Begin.{Begin}
 use Rattle.amqp_txn_types.specs.declared.performatives.Disposition.{Disposition}
 use Rattle.amqp_txn_types.specs.declared.performatives.End.{End}

@@ -49,7 +49,8 @@ SendsLink told Attaches Flows Transfers Settles Detaches old new
     (numbered : Transfer)
     × Passes told (Transfers old new input transfer numbered is_first) old new
     (frames.Transfer numbered payload) result
-SendsLink told Attaches Flows Transfers Settles Detaches old new (links.Disposition settled) result =
+SendsLink told Attaches Flows Transfers Settles Detaches old new
+    (links.Disposition settled) result =
     Passes told (Settles old new settled) old new (frames.Disposition settled) result
 SendsLink told Attaches Flows Transfers Settles Detaches old new (links.Detach detach) result =
     Passes told (Detaches old new detach) old new (frames.Detach detach) result

@@ -1,5 +1,5 @@
 -- What an engine answers to an event.
-use Rattle.std.specs.Prelude.{◌≡◌, Bool, true, false, Option, Some, None, Result, Ok, Err, List, [], ◌∷◌, IfErr}
+use Rattle.std.specs.Prelude.{◌≡◌, Bool, true, false, Some, None, Result, [], ◌∷◌, IfErr}
 use Rattle.amqp_txn_types.specs.declared.performatives.End.{End}
 use Rattle.amqp_txn_types.specs.declared.performatives.Frame.{Frame}
 use Rattle.amqp_layer.specs.declared.answers.Answers.{Answers}

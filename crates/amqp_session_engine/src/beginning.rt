@@ -49,7 +49,7 @@ impl<S: Session> ClientBegin<S> {
     ///
     /// Errors, with the session: for a begin that the session refuses, its refusal by name where
     /// there is one of that name, else `IllegalState`; for an end `RemoteEnded` or
-    /// `RemoteEndedWithError`, and for a link's frame `IllegalState`, where the session isn't asked.
+    /// `RemoteEndedWithError`, and for a link's frame `IllegalState`; neither is given to it.
     pub fn on_frame(self, frame: SessionFrame) -> Result<SessionEngine<S>, (S, BeginError)>
         ensures { FirstFrame S.told S.kept S.names S.begin_received_gives self
             (record { 0 = frame.channel }) frame.body result }

@@ -22,8 +22,8 @@ fn send_end<S: Session>(
     error: Option<Error>,
     running: Running,
 ) -> Result<Turn, SessionInnerError>
-    ensures sends { SendsEnd S.told S.kept S.names S.end_sent_gives session.old session.new error running
-        result }
+    ensures sends { SendsEnd S.told S.kept S.names S.end_sent_gives session.old session.new error
+        running result }
     ensures cause { CausedBy false (Rose (S.told session.old).refusals
         (S.told session.new).refusals) result }
 {
@@ -77,8 +77,8 @@ fn answer_end<S: Session>(
     session: &mut S,
     reason: SessionStopReason,
 ) -> Result<Turn, SessionInnerError>
-    ensures answers { KeepsAndAnswers S.told S.kept S.names S.stop_gives S.end_sent_gives session.old
-        session.new reason result }
+    ensures answers { KeepsAndAnswers S.told S.kept S.names S.stop_gives S.end_sent_gives
+        session.old session.new reason result }
     ensures cause { CausedBy false (Rose (S.told session.old).refusals
         (S.told session.new).refusals) result }
 {
@@ -111,8 +111,8 @@ fn peer_answers_end<S: Session>(
     channel: IncomingChannel,
     end: &End,
 ) -> Result<Turn, SessionInnerError>
-    ensures answers { PeerAnswersEnd S.told S.kept S.names S.end_received_gives session.old session.new
-        channel end.now result }
+    ensures answers { PeerAnswersEnd S.told S.kept S.names S.end_received_gives session.old
+        session.new channel end.now result }
     ensures cause { CausedBy false (Rose (S.told session.old).refusals
         (S.told session.new).refusals) result }
 {
@@ -129,10 +129,10 @@ pub(crate) fn take_end<S: Session>(
     channel: IncomingChannel,
     end: End,
 ) -> Result<Turn, SessionInnerError>
-    ensures takes { TakesEnd S.told S.kept S.names S.end_received_gives S.stop_gives S.end_sent_gives
-        session.old session.new channel end result }
-    ensures cause { CausedBy (not (takes_end (S.told session.old).fixed.state)) (Rose (S.told session.old).refusals
-        (S.told session.new).refusals) result }
+    ensures takes { TakesEnd S.told S.kept S.names S.end_received_gives S.stop_gives
+        S.end_sent_gives session.old session.new channel end result }
+    ensures cause { CausedBy (not (takes_end (S.told session.old).fixed.state))
+        (Rose (S.told session.old).refusals (S.told session.new).refusals) result }
 {
     match session.local_state() {
         SessionState::Mapped => peer_ends(alloc, session, channel, end),

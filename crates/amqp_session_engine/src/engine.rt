@@ -3,7 +3,6 @@
 ghost use Rattle.std.specs.Prelude.{◌≡◌, Err, IfErr, MatchBool, Ok, false, not};
 ghost use Rattle.std.specs.Bool.{OnFalse, OnTrue};
 ghost use Rattle.amqp_txn_types.specs.Counts.{Rose};
-ghost use Rattle.amqp_txn_types.specs.declared.small.IncomingChannel.{IncomingChannel as Channel};
 ghost use Rattle.amqp_layer.specs.declared.inner_error.SessionInnerError.TheVariants as faults;
 ghost use Rattle.amqp_session_engine.specs.declared.turn.Running.TheVariants as runnings;
 ghost use Rattle.amqp_session_engine.specs.Asking.{OrNoMemory};
@@ -98,7 +97,8 @@ impl<S: Session> SessionEngine<S> {
     /// was. Where the session refuses to send its end, the peer's end has been taken and the reason
     /// is kept.
     pub fn on_incoming(&mut self, frame: SessionFrame) -> Result<Turn, SessionInnerError>
-        ensures link { OnLink frame.body (λ link. MatchBool (awaits_end (S.told self.old).fixed.state)
+        ensures link { OnLink frame.body (λ link.
+            MatchBool (awaits_end (S.told self.old).fixed.state)
             (Unasked self.old self.new (Ok (quiet runnings.Waiting)) result)
             (TakesLink S.told S.incoming_gives S.check_gives S.window_gives self.old self.new link
             result)) }

@@ -14,8 +14,8 @@ use amqp_sessions::Session;
 use amqp_txn_types::{Begin, Frame, IncomingChannel};
 use std::alloc::Global;
 
-/// A link's frame goes through the session, and what that gives back is to be sent. While the peer's
-/// end is awaited it is dropped.
+/// A link's frame goes through the session, and what that gives back is to be sent. While the
+/// peer's end is awaited it is dropped.
 pub(crate) fn take_link<S: LayerBelow>(
     alloc: Global,
     session: &mut S,

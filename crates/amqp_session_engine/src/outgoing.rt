@@ -55,8 +55,8 @@ fn pass_flow<S: Session>(
 ) -> Result<Turn, SessionInnerError>
     requires empty { room.items ≡ [] }
     requires room { vec_len room < vec_capacity room }
-    ensures passes { SendsFlow S.told (S.outgoing_flow_gives session.old session.new flow) session.old
-        session.new result }
+    ensures passes { SendsFlow S.told (S.outgoing_flow_gives session.old session.new flow)
+        session.old session.new result }
     ensures cause { CausedBy false (Rose (S.told session.old).refusals
         (S.told session.new).refusals) result }
 {

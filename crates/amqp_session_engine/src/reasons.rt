@@ -1,7 +1,7 @@
 //! Why a session stops.
 
-ghost use Rattle.std.specs.Prelude.{◌≡◌, IfOk, true};
-ghost use Rattle.amqp_session_engine.specs.Reasons.{KeepsStop, local_stop, reason_or_closed, remote_stop};
+ghost use Rattle.std.specs.Prelude.{◌≡◌, IfOk};
+ghost use Rattle.amqp_session_engine.specs.Reasons.{local_stop, reason_or_closed, remote_stop};
 
 use amqp_sessions::Session;
 use amqp_txn_types::{ConnectionStopReason, End, Error, NoMemory, SessionStopReason, TryClone};
@@ -47,8 +47,8 @@ pub(crate) fn local_stop<S: Session>(
     }
 }
 
-/// What a session's stop by the peer's end takes from the connection's: nothing where the end has an
-/// error.
+/// What a session's stop by the peer's end takes from the connection's: nothing where the end has
+/// an error.
 pub(crate) fn connection_stop_for<S: Session>(
     session: &S,
     end: &End,

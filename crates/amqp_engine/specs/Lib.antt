@@ -1,0 +1,12 @@
+pub use Rattle.amqp_layer.specs.Taking
+pub use Rattle.amqp_session_engine.specs.States
+pub use Rattle.amqp_session_engine.specs.Turns
+pub use Rattle.amqp_session_engine.specs.Asking
+pub use Rattle.amqp_session_engine.specs.Reasons
+pub use Rattle.amqp_session_engine.specs.Beginning
+pub use Rattle.amqp_session_engine.specs.Ending
+pub use Rattle.amqp_session_engine.specs.Incoming
+pub use Rattle.amqp_session_engine.specs.Outgoing
+pub use Rattle.amqp_session_engine.specs.Controls
+pub use Rattle.amqp_session_engine.specs.Faults
+pub use Rattle.amqp_session_builder.specs.Builders
