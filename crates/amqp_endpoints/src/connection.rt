@@ -70,20 +70,32 @@ impl From<AllocSessionError> for BeginError {
 /// Every Err counts as a fault: it comes only where the count of faults rose in the call, or stands
 /// at its last value, 2^64 - 1.
 pub trait ConnectionEnd {
-    ghost use Rattle.std.specs.Prelude.{◌≡◌, option_copied};
+    ghost use Rattle.std.specs.Prelude.{◌≡◌, Option, Result, option_copied};
+    ghost use Rattle.amqp_links.specs.declared.poll.Poll.{Poll as Look};
+    ghost use Rattle.amqp_txn_types.specs.declared.small.OutgoingChannel.{OutgoingChannel as Channel};
+    ghost use Rattle.amqp_endpoints.specs.declared.connection.AllocSessionError.{AllocSessionError as Refused};
+    ghost use Rattle.amqp_endpoints.specs.declared.connection.IncomingSession.{IncomingSession as Begun};
     ghost use Rattle.amqp_endpoints.specs.Connections.{Allocates, ConnectionTold, NextSession};
 
     /// What it tells: the sessions that wait, why it stopped, and how often it failed.
     ghost told: { Self → ConnectionTold };
 
+    /// What a look for a session answers and leaves: the end before and after, the answer.
+    ghost next_session_gives: { Self → Self → Look (Option Begun) → Type 0 };
+
+    /// What an allocation answers and leaves: the end before and after, the answer.
+    ghost allocate_gives: { Self → Self → Result Channel Refused → Type 0 };
+
     /// Takes the session that waits longest. It is `Pending` exactly where none waits and the
     /// connection hasn't stopped, and `Ready(None)` exactly where none waits and it has.
     fn next_incoming_session(&mut self) -> Poll<Option<IncomingSession>>
-        ensures { NextSession (told self.old) (told self.new) result };
+        ensures told { NextSession (told self.old) (told self.new) result }
+        ensures gives { next_session_gives self.old self.new result };
 
     /// Gives a channel to a session of this side (section 2.5.1).
     fn allocate_session(&mut self) -> Result<OutgoingChannel, AllocSessionError>
-        ensures { Allocates (told self.old) (told self.new) result };
+        ensures told { Allocates (told self.old) (told self.new) result }
+        ensures gives { allocate_gives self.old self.new result };
 
     /// Why the connection stopped, where it did.
     fn stop_reason(&self) -> Option<&ConnectionStopReason>

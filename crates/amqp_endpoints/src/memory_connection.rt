@@ -1,8 +1,7 @@
 //! The end of a connection in memory.
 
 ghost use Rattle.std.specs.Prelude.{◌≡◌, [], None, OnOk, IfErr};
-ghost use Rattle.amqp_endpoints.specs.Connections.{Allocates, NextSession};
-ghost use Rattle.amqp_endpoints.specs.Memory.{AllocatesBy, InMemory, IsStopFault, session_taken, told_of, with_session, with_stop};
+ghost use Rattle.amqp_endpoints.specs.Memory.{IsStopFault, with_session, with_stop};
 
 use crate::connection::{AllocSessionError, ConnectionEnd, IncomingSession};
 use amqp_links::Poll;
@@ -94,12 +93,16 @@ fn stop_fault(reason: &ConnectionStopReason) -> AllocSessionError
 }
 
 impl ConnectionEnd for MemoryConnection {
+    ghost use Rattle.std.specs.Prelude.{◌≡◌};
+    ghost use Rattle.amqp_endpoints.specs.Memory.{AllocatesBy, session_taken, told_of};
+
     ghost told = { told_of };
 
-    fn next_incoming_session(&mut self) -> Poll<Option<IncomingSession>>
-        ensures told { NextSession (told_of self.old) (told_of self.new) result }
-        ensures taken { self.new ≡ session_taken self.old }
-    {
+    ghost next_session_gives = { λ old new _. new ≡ session_taken old };
+
+    ghost allocate_gives = { AllocatesBy };
+
+    fn next_incoming_session(&mut self) -> Poll<Option<IncomingSession>> {
         match self.waiting.pop_front() {
             Some(session) => Poll::Ready(Some(session)),
             None if self.stop.is_some() => Poll::Ready(None),
@@ -107,10 +110,7 @@ impl ConnectionEnd for MemoryConnection {
         }
     }
 
-    fn allocate_session(&mut self) -> Result<OutgoingChannel, AllocSessionError>
-        ensures told { Allocates (told_of self.old) (told_of self.new) result }
-        ensures by { AllocatesBy self.old self.new result }
-    {
+    fn allocate_session(&mut self) -> Result<OutgoingChannel, AllocSessionError> {
         if let Some(reason) = &self.stop {
             let error = stop_fault(reason);
             count_refusal(&mut self.faults);

@@ -74,8 +74,10 @@ BeginsOn begin (Ok channel) (Ok begun) = BegunOn begun.0 begun.1 channel begin
 BeginsOn begin (Ok channel) (Err error) = error ≡ refusals.NoMemory
 BeginsOn begin (Err refused) result = result ≡ Err (begin_error refused)
 
--- the connection was asked for a channel, and the session begins by what it answered
-abbrev pub BeginsOver : ConnectionTold → ConnectionTold → Begin
+-- the connection was asked for a channel, of which it tells and gives this, and the session begins
+-- by what it answered
+abbrev pub BeginsOver : {C : Type 0} → (C → ConnectionTold)
+    → (C → C → Result OutgoingChannel AllocSessionError → Type 0) → C → C → Begin
     → Result (PlainSession × Begin) BeginError → Type 0
-BeginsOver old new begin result = (answer : Result OutgoingChannel AllocSessionError)
-    × Allocates old new answer × BeginsOn begin answer result
+BeginsOver told gives old new begin result = (answer : Result OutgoingChannel AllocSessionError)
+    × Allocates (told old) (told new) answer × gives old new answer × BeginsOn begin answer result

@@ -240,8 +240,8 @@ impl Builder {
         connection: &mut C,
     ) -> Result<(ClientBegin<PlainSession>, Begin), BeginError>
         requires { self.control_link_acceptor ≡ None }
-        ensures { BeginsOver (C.told connection.old) (C.told connection.new) (begin_built self)
-            result }
+        ensures { BeginsOver C.told C.allocate_gives connection.old connection.new
+            (begin_built self) result }
     {
         let channel = connection.allocate_session()?;
         let session = self.into_session(alloc, channel, SessionState::Unmapped);
