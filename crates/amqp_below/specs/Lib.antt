@@ -25,6 +25,6 @@ pub use Rattle.amqp_sessions.specs.PlainCalls
 pub use Rattle.amqp_endpoints.specs.AttachErrors
 pub use Rattle.amqp_endpoints.specs.Queues
 pub use Rattle.amqp_endpoints.specs.Connections
-pub use Rattle.amqp_endpoints.specs.Memory
+pub use Rattle.amqp_endpoints.specs.MemoryConnections
 pub use Rattle.amqp_recorder.specs.Recording
 pub use Rattle.amqp_recorder.specs.RecordedSessions

@@ -1,4 +1,4 @@
 pub mod AttachErrors
 pub mod Queues
 pub mod Connections
-pub mod Memory
+pub mod MemoryConnections

@@ -1,7 +1,7 @@
 //! The end of a connection in memory.
 
 ghost use Rattle.std.specs.Prelude.{◌≡◌, [], None, OnOk, IfErr};
-ghost use Rattle.amqp_endpoints.specs.Memory.{IsStopFault, with_session, with_stop};
+ghost use Rattle.amqp_endpoints.specs.MemoryConnections.{IsStopFault, with_session, with_stop};
 
 use crate::connection::{AllocSessionError, ConnectionEnd, IncomingSession};
 use amqp_links::Poll;
@@ -25,7 +25,7 @@ pub struct MemoryConnection {
 
 impl Model for MemoryConnection {
     ghost use Rattle.std.specs.Prelude.{◌≤◌, ◌+◌};
-    ghost use Rattle.amqp_endpoints.specs.Memory.{InMemory as ConnectionValue};
+    ghost use Rattle.amqp_endpoints.specs.MemoryConnections.{InMemory as ConnectionValue};
 
     ghost Value = { ConnectionValue };
 
@@ -94,7 +94,7 @@ fn stop_fault(reason: &ConnectionStopReason) -> AllocSessionError
 
 impl ConnectionEnd for MemoryConnection {
     ghost use Rattle.std.specs.Prelude.{◌≡◌};
-    ghost use Rattle.amqp_endpoints.specs.Memory.{AllocatesBy, session_taken, told_of};
+    ghost use Rattle.amqp_endpoints.specs.MemoryConnections.{AllocatesBy, session_taken, told_of};
 
     ghost told = { told_of };
 
