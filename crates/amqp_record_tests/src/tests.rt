@@ -1,9 +1,9 @@
 //! What no clause says: that there is an answer where there is memory, and one short record by
 //! hand.
 
-use amqp_record::*;
 use amqp_ids::Drawn;
 use amqp_layer::{Answers, SessionInnerError};
+use amqp_record::*;
 use amqp_txn_types::{
     AmqpError, Attach, Coordinator, Detach, Frame, Frames, Handle, NoMemory, Payload,
     ReceiverSettleMode, Role, SenderSettleMode, SessionStopReason, TargetArchetype, Text,

@@ -180,9 +180,7 @@ impl LayerBelow for PlainSession {
         }
         match place_control_link(self.alloc, &mut self.links, self.begin.handle_max, attach) {
             Ok(()) => Ok(Frames::new(self.alloc)),
-            Err(fault) => {
-                refuse(&mut self.refusals, control_error(fault))
-            }
+            Err(fault) => { refuse(&mut self.refusals, control_error(fault)) }
         }
     }
 

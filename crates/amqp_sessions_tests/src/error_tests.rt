@@ -1,8 +1,8 @@
 //! The texts of errors.
 
-use amqp_sessions::*;
 use amqp_ids::Drawn;
 use amqp_layer::SessionInnerError;
+use amqp_sessions::*;
 use amqp_txn_types::{AmqpError, ConnectionStopReason, Error, ErrorCondition, SessionStopReason};
 use std::alloc::Global;
 use std::fmt::Display;

@@ -1,8 +1,8 @@
 //! The plain session, called as its users call it.
 
-use amqp_sessions::*;
 use amqp_ids::IdSource;
 use amqp_layer::{Answers, LayerBelow, SessionInnerError, take_frame};
+use amqp_sessions::*;
 use amqp_txn_types::{
     Attach, Begin, ConnectionStopReason, Detach, Disposition, End, Flow, Frame, Frames, Handle,
     IncomingChannel, InputHandle, Items, LinkFlow, LinkFlows, OutgoingChannel, OutputHandle,
