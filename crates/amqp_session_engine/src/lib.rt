@@ -52,23 +52,15 @@
 #![tactic(auto)]
 
 mod beginning;
-#[cfg(test)]
-mod control_tests;
 mod controlling;
 mod controls;
 mod ending;
 mod engine;
-#[cfg(test)]
-mod engine_tests;
 mod faults;
 mod incoming;
 mod outgoing;
 mod reasons;
 mod states;
-#[cfg(test)]
-mod test_values;
-#[cfg(test)]
-mod text_tests;
 mod turn;
 
 pub use beginning::ClientBegin;

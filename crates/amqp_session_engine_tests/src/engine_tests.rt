@@ -1,24 +1,19 @@
 //! The engine over a plain session, called as its users call it.
 
 use crate::test_values::{
-    begin, detach, engine, error, gives, plain, quiet, refuses, relay, transfer, turn,
+    asked, attach, begun, detach, ended, error, frame, gives, mapped, plain, plain_end,
+    quiet, refuses, relay, transfer, turn,
 };
-use crate::*;
+use amqp_acceptors::ControlLinkAcceptor;
 use amqp_layer::{LayerBelow, SessionInnerError};
+use amqp_listener::ListenerSession;
+use amqp_session_engine::*;
 use amqp_sessions::{BeginError, PlainSession, Session};
 use amqp_txn_types::{
     AmqpError, ConnectionStopReason, End, Error, ErrorCondition, Frame, InputHandle, LinkFrame,
     OutputHandle, Payload, SessionState, SessionStopReason, Text, TransactionError,
 };
 use std::alloc::Global;
-
-fn frame(body: SessionFrameBody) -> SessionFrame {
-    SessionFrame { channel: 3, body }
-}
-
-fn plain_end() -> SessionFrame {
-    frame(SessionFrameBody::End(End { error: None }))
-}
 
 fn transfer_frame() -> SessionFrame {
     frame(SessionFrameBody::Link(Frame::Transfer {
@@ -28,10 +23,15 @@ fn transfer_frame() -> SessionFrame {
 }
 
 /// The engine of a mapped session with a receiving link of the peer's handle 5.
-fn with_link(alloc: Global) -> SessionEngine<PlainSession> {
-    let mut session = plain(alloc, SessionState::Mapped);
-    drop(session.allocate_incoming_link(Text::new(alloc), relay(alloc), InputHandle(5)));
-    SessionEngine::new(alloc, session)
+fn with_link(alloc: Global) -> Option<SessionEngine<PlainSession>> {
+    let mut engine = mapped(alloc)?;
+    let control = SessionControl::AllocateIncomingLink {
+        link_name: Text::new(alloc),
+        link_relay: relay(alloc),
+        input_handle: InputHandle(5),
+    };
+    drop(asked(&mut engine, control));
+    Some(engine)
 }
 
 /// How many transfers came to the link.
@@ -59,7 +59,7 @@ fn is_window(answer: Result<Turn, SessionInnerError>) -> bool {
 
 #[test]
 fn a_transfer_reaches_the_session(rt: HostRuntime) {
-    let mut engine = with_link(rt.alloc());
+    let mut engine = with_link(rt.alloc()).expect(&rt, "a session");
     assert!(rt; is_window(engine.on_incoming(transfer_frame())));
     assert_eq!(rt; transfers(&engine), Some(1));
     drop(engine);
@@ -68,7 +68,7 @@ fn a_transfer_reaches_the_session(rt: HostRuntime) {
 #[test]
 fn an_unknown_id_ends_the_session(rt: HostRuntime) {
     let alloc = rt.alloc();
-    let mut engine = engine(alloc, SessionState::Mapped);
+    let mut engine = mapped(alloc).expect(&rt, "a session");
     let answer = engine.on_error(&SessionInnerError::UnknownTxnId);
     let unknown = ErrorCondition::TransactionError(TransactionError::UnknownId);
     let ended = Some(End {
@@ -82,7 +82,7 @@ fn an_unknown_id_ends_the_session(rt: HostRuntime) {
 #[test]
 fn what_comes_before_the_awaited_end_is_dropped(rt: HostRuntime) {
     let alloc = rt.alloc();
-    let mut engine = with_link(alloc);
+    let mut engine = with_link(alloc).expect(&rt, "a session");
     drop(engine.on_error(&SessionInnerError::UnknownTxnId));
     let dropped = engine.on_incoming(transfer_frame());
     assert!(rt; gives(dropped, quiet(alloc, Running::Waiting)));
@@ -95,7 +95,7 @@ fn what_comes_before_the_awaited_end_is_dropped(rt: HostRuntime) {
 #[test]
 fn the_peers_end_is_answered(rt: HostRuntime) {
     let alloc = rt.alloc();
-    let mut engine = engine(alloc, SessionState::Mapped);
+    let mut engine = mapped(alloc).expect(&rt, "a session");
     let answer = engine.on_incoming(plain_end());
     let ended = Some(End { error: None });
     assert!(rt; gives(answer, turn(alloc, Running::Stop, ended)));
@@ -109,7 +109,7 @@ fn remote_close() -> SessionStopReason {
 
 #[test]
 fn a_connection_that_stopped_is_the_reason(rt: HostRuntime) {
-    let mut engine = engine(rt.alloc(), SessionState::Mapped);
+    let mut engine = mapped(rt.alloc()).expect(&rt, "a session");
     engine.note_connection_stop(ConnectionStopReason::RemoteClosed);
     drop(engine.on_incoming(plain_end()));
     assert!(rt; stopped_for(engine.session(), remote_close()));
@@ -118,26 +118,58 @@ fn a_connection_that_stopped_is_the_reason(rt: HostRuntime) {
 
 #[test]
 fn no_link_sends_after_the_end(rt: HostRuntime) {
-    let mut engine = engine(rt.alloc(), SessionState::EndSent);
+    let mut engine = ended(rt.alloc()).expect(&rt, "a session");
     let refused = engine.on_outgoing_link_frames(LinkFrame::Detach(detach()));
-    assert!(rt; refuses(refused, SessionInnerError::IllegalState));
     drop(engine);
+    assert!(rt; refuses(refused, SessionInnerError::IllegalState));
 }
 
 #[test]
-fn a_session_without_a_begin_is_over_at_once(rt: HostRuntime) {
+fn a_session_runs_from_its_begin_to_its_stop(rt: HostRuntime) {
     let alloc = rt.alloc();
-    let mut engine = engine(alloc, SessionState::Unmapped);
-    assert!(rt; gives(engine.end_session(None), quiet(alloc, Running::Stop)));
+    let mut engine = ended(alloc).expect(&rt, "a session");
+    let over = engine.on_incoming(plain_end());
+    assert!(rt; gives(over, quiet(alloc, Running::Stop)));
+    let nothing_owed = engine.end_session(None);
+    assert!(rt; gives(nothing_owed, quiet(alloc, Running::Stop)));
+    let (session, outcome) = engine.finish(Ok(()));
+    assert!(rt; gives(outcome, ()));
+    assert!(rt; stopped_for(&session, SessionStopReason::Ended));
+    drop(session);
+}
+
+/// The engine of a listener whose peer began the session.
+fn listener(alloc: Global) -> Option<SessionEngine<ListenerSession<PlainSession>>> {
+    let session = plain(alloc, SessionState::BeginReceived);
+    let listener = ListenerSession::new(alloc, session, ControlLinkAcceptor::default());
+    match SessionEngine::begin_listener_session(alloc, listener) {
+        Ok((engine, sent)) => {
+            drop(sent);
+            Some(engine)
+        }
+        Err(refused) => {
+            drop(refused);
+            None
+        }
+    }
+}
+
+#[test]
+fn an_attach_waits_in_a_listener(rt: HostRuntime) {
+    let alloc = rt.alloc();
+    let mut engine = listener(alloc).expect(&rt, "a session");
+    let attach = frame(SessionFrameBody::Link(Frame::Attach(attach(alloc))));
+    let taken = engine.on_incoming(attach);
+    assert!(rt; gives(taken, quiet(alloc, Running::Continue)));
+    assert!(rt; engine.session().local_state() == SessionState::Mapped);
     drop(engine);
 }
 
 /// The error of the end that is sent for a fault.
-fn error_sent(alloc: Global, fault: SessionInnerError) -> Option<Error> {
-    let mut engine = engine(alloc, SessionState::Mapped);
-    let answer = engine.on_error(&fault);
+fn error_sent(alloc: Global, fault: &SessionInnerError) -> Option<Error> {
+    let mut engine = mapped(alloc)?;
+    let answer = engine.on_error(fault);
     drop(engine);
-    drop(fault);
     match answer {
         Ok(turn) => error_of(turn.ended),
         Err(fault) => {
@@ -173,47 +205,22 @@ fn is_error(error: Error, condition: AmqpError, text: &str) -> bool {
 fn some_faults_are_told_by_a_text(rt: HostRuntime) {
     let unnamed = error_sent(
         rt.alloc(),
-        SessionInnerError::RemoteAttachingLinkNameNotFound,
+        &SessionInnerError::RemoteAttachingLinkNameNotFound,
     );
     assert!(rt; is_told(unnamed, AmqpError::InternalError, "Link name is not found"));
-    let to_sender = error_sent(rt.alloc(), SessionInnerError::TransferFrameToSender);
+    let to_sender = error_sent(rt.alloc(), &SessionInnerError::TransferFrameToSender);
     let text = "Found Transfer frame sent Sender link";
     assert!(rt; is_told(to_sender, AmqpError::NotAllowed, text));
 }
 
 #[test]
 fn a_stopped_connection_is_no_fault_of_the_session(rt: HostRuntime) {
-    let engine = engine(rt.alloc(), SessionState::Mapped);
+    let engine = mapped(rt.alloc()).expect(&rt, "a session");
     let stopped = SessionInnerError::ConnectionStopped(ConnectionStopReason::RemoteClosed);
     let (session, outcome) = engine.finish(Err(stopped));
     assert!(rt; gives(outcome, ()));
     assert!(rt; stopped_for(&session, remote_close()));
     drop(session);
-}
-
-/// A session of this side that sent its begin.
-fn begun(alloc: Global) -> Option<ClientBegin<PlainSession>> {
-    match SessionEngine::begin_client_session(alloc, plain(alloc, SessionState::Unmapped)) {
-        Ok((begun, sent)) => {
-            drop(sent);
-            Some(begun)
-        }
-        Err(refused) => {
-            drop(refused);
-            None
-        }
-    }
-}
-
-/// Whether the session is mapped.
-fn is_mapped(answer: Result<SessionEngine<PlainSession>, (PlainSession, BeginError)>) -> bool {
-    match answer {
-        Ok(engine) => engine.session().local_state() == SessionState::Mapped,
-        Err(refused) => {
-            drop(refused);
-            false
-        }
-    }
 }
 
 /// Whether the session came back for this error.
@@ -234,28 +241,22 @@ fn came_back(
 }
 
 #[test]
-fn the_peers_begin_maps_the_session(rt: HostRuntime) {
-    let Some(begun) = begun(rt.alloc()) else {
-        panic!(rt; "no begin was sent");
-    };
-    let peers = frame(SessionFrameBody::Begin(begin()));
-    assert!(rt; is_mapped(begun.on_frame(peers)));
+fn the_peers_begin_makes_the_session_ready(rt: HostRuntime) {
+    let engine = mapped(rt.alloc()).expect(&rt, "a session");
+    assert!(rt; engine.session().local_state() == SessionState::Mapped);
+    drop(engine);
 }
 
 #[test]
 fn an_early_end_is_told(rt: HostRuntime) {
-    let Some(begun) = begun(rt.alloc()) else {
-        panic!(rt; "no begin was sent");
-    };
+    let begun = begun(rt.alloc()).expect(&rt, "a session");
     assert!(rt; begun.session().local_state() == SessionState::BeginSent);
     assert!(rt; came_back(begun.on_frame(plain_end()), BeginError::RemoteEnded));
 }
 
 #[test]
 fn a_connection_may_stop_early(rt: HostRuntime) {
-    let Some(mut begun) = begun(rt.alloc()) else {
-        panic!(rt; "no begin was sent");
-    };
+    let mut begun = begun(rt.alloc()).expect(&rt, "a session");
     begun.note_connection_stop(ConnectionStopReason::RemoteClosed);
     let (session, error) = begun.connection_stopped();
     drop(session);

@@ -1,39 +1,36 @@
 //! Each control and each outgoing frame once, over a plain session.
 
 use crate::test_values::{
-    detach, disposition, engine, error, gives, only_frame, quiet, refuses, relay, replied,
-    transfer, turn,
+    asked, attach, detach, disposition, ended, error, gives, mapped, only_frame, quiet, refuses,
+    relay, replied, transfer, turn,
 };
-use crate::*;
-use amqp_ids::CountIds;
 use amqp_layer::SessionInnerError;
-use amqp_sessions::{AllocTxnIdError, Session};
+use amqp_session_engine::*;
+use amqp_sessions::{AllocTxnIdError, PlainSession, Session};
 use amqp_txn_types::{
-    Attach, ConnectionError, End, ErrorCondition, Flow, Frame, Handle, InputHandle, LinkFlow,
-    LinkFrame, OutputHandle, Payload, ReceiverSettleMode, Role, SenderSettleMode, SessionState,
-    SessionStopReason, Text, TransactionError, TransactionId,
+    ConnectionError, End, ErrorCondition, Flow, Frame, Handle, InputHandle, LinkFlow, LinkFrame,
+    OutputHandle, Payload, SessionStopReason, Text, TransactionError, TransactionId,
 };
 use std::alloc::Global;
 use std::test::Fail;
 
-/// What a session in this state answers to a control.
-fn asked(
-    alloc: Global,
-    state: SessionState,
+/// Whether the engine answers a control so.
+fn answers(
+    mut engine: SessionEngine<PlainSession>,
     control: SessionControl,
-) -> Result<Turn, SessionInnerError> {
-    let mut engine = engine(alloc, state);
-    let answer = engine.on_control(control, &mut CountIds::new());
+    wanted: Turn,
+) -> bool {
+    let answer = asked(&mut engine, control);
     drop(engine);
-    answer
+    gives(answer, wanted)
 }
 
 /// Whether a mapped session gives this reply.
 fn replies(alloc: Global, control: SessionControl, reply: ControlReply) -> bool {
-    gives(
-        asked(alloc, SessionState::Mapped, control),
-        replied(alloc, reply),
-    )
+    match mapped(alloc) {
+        Some(engine) => answers(engine, control, replied(alloc, reply)),
+        None => false,
+    }
 }
 
 #[test]
@@ -105,8 +102,8 @@ fn some_controls_have_no_reply(rt: HostRuntime) -> Result<(), Fail> {
 #[test]
 fn an_end_keeps_its_reason(rt: HostRuntime) {
     let alloc = rt.alloc();
-    let mut engine = engine(alloc, SessionState::Mapped);
-    let answer = engine.on_control(SessionControl::End(None), &mut CountIds::new());
+    let mut engine = mapped(alloc).expect(&rt, "a session");
+    let answer = asked(&mut engine, SessionControl::End(None));
     let ended = Some(End { error: None });
     assert!(rt; gives(answer, turn(alloc, Running::Waiting, ended)));
     assert!(rt; engine.session().session_stop_reason() == Some(&SessionStopReason::Ended));
@@ -116,44 +113,35 @@ fn an_end_keeps_its_reason(rt: HostRuntime) {
 #[test]
 fn an_end_is_sent_once(rt: HostRuntime) {
     let alloc = rt.alloc();
-    let answer = asked(alloc, SessionState::EndSent, SessionControl::End(None));
-    assert!(rt; gives(answer, quiet(alloc, Running::Waiting)));
+    let engine = ended(alloc).expect(&rt, "a session");
+    assert!(rt; answers(engine, SessionControl::End(None), quiet(alloc, Running::Waiting)));
 }
 
 #[test]
 fn a_control_outside_mapped_is_illegal(rt: HostRuntime) {
-    let control = SessionControl::DeallocateLink(OutputHandle(0));
-    let refused = asked(rt.alloc(), SessionState::BeginSent, control);
+    let mut engine = ended(rt.alloc()).expect(&rt, "a session");
+    let refused = asked(&mut engine, SessionControl::DeallocateLink(OutputHandle(0)));
+    drop(engine);
     assert!(rt; refuses(refused, SessionInnerError::IllegalState));
 }
 
 #[test]
 fn a_disposition_is_sent(rt: HostRuntime) {
-    let control = SessionControl::Disposition(disposition());
-    let sent = only_frame(asked(rt.alloc(), SessionState::Mapped, control));
+    let mut engine = mapped(rt.alloc()).expect(&rt, "a session");
+    let sent = only_frame(asked(&mut engine, SessionControl::Disposition(disposition())));
+    drop(engine);
     assert!(rt; sent == Some(Frame::Disposition(disposition())));
-}
-
-fn attach(alloc: Global) -> Attach {
-    Attach {
-        name: Text::new(alloc),
-        handle: Handle(0),
-        role: Role::Sender,
-        snd_settle_mode: SenderSettleMode::Mixed,
-        rcv_settle_mode: ReceiverSettleMode::First,
-        source: None,
-        target: None,
-        initial_delivery_count: None,
-        max_message_size: None,
-        offered_capabilities: None,
-        desired_capabilities: None,
-        properties: None,
-    }
 }
 
 /// Whether a mapped session sends this frame for that of a link.
 fn sends(alloc: Global, frame: LinkFrame, wanted: Frame) -> bool {
-    let mut engine = engine(alloc, SessionState::Mapped);
+    match mapped(alloc) {
+        Some(engine) => sends_by(engine, frame, wanted),
+        None => false,
+    }
+}
+
+fn sends_by(mut engine: SessionEngine<PlainSession>, frame: LinkFrame, wanted: Frame) -> bool {
     let sent = only_frame(engine.on_outgoing_link_frames(frame));
     drop(engine);
     sent == Some(wanted)
@@ -195,7 +183,7 @@ fn a_continuation_is_sent_as_it_is(rt: HostRuntime) {
 
 fn flow() -> Flow {
     Flow {
-        next_incoming_id: None,
+        next_incoming_id: Some(0),
         incoming_window: 2,
         next_outgoing_id: 0,
         outgoing_window: 2,

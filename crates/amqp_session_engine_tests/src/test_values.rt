@@ -1,11 +1,13 @@
 //! What the tests call the engine with, and compare its answers to.
 
-use crate::*;
+use amqp_ids::CountIds;
 use amqp_layer::{Answers, SessionInnerError};
+use amqp_session_engine::*;
 use amqp_sessions::{PlainSession, Relay};
 use amqp_txn_types::{
-    Begin, Detach, Disposition, End, Error, ErrorCondition, Frame, Frames, Handle, LinkFlows,
-    OutgoingChannel, ReceiverSettleMode, Role, SessionState, Text, Transfer,
+    Attach, Begin, Detach, Disposition, End, Error, ErrorCondition, Frame, Frames, Handle,
+    LinkFlows, OutgoingChannel, ReceiverSettleMode, Role, SenderSettleMode, SessionState, Text,
+    Transfer,
 };
 use std::alloc::Global;
 
@@ -48,9 +50,78 @@ pub fn plain(alloc: Global, state: SessionState) -> PlainSession {
     PlainSession::new(alloc, OutgoingChannel(7), state, begin())
 }
 
-/// The engine of a plain session in this state.
-pub fn engine(alloc: Global, state: SessionState) -> SessionEngine<PlainSession> {
-    SessionEngine::new(alloc, plain(alloc, state))
+/// A frame of the session, on its channel.
+pub fn frame(body: SessionFrameBody) -> SessionFrame {
+    SessionFrame { channel: 3, body }
+}
+
+/// An end without an error.
+pub fn plain_end() -> SessionFrame {
+    frame(SessionFrameBody::End(End { error: None }))
+}
+
+/// A session of this side that sent its begin.
+pub fn begun(alloc: Global) -> Option<ClientBegin<PlainSession>> {
+    match SessionEngine::begin_client_session(alloc, plain(alloc, SessionState::Unmapped)) {
+        Ok((begun, sent)) => {
+            drop(sent);
+            Some(begun)
+        }
+        Err(refused) => {
+            drop(refused);
+            None
+        }
+    }
+}
+
+/// The engine of a session that the peer's begin made ready.
+pub fn mapped(alloc: Global) -> Option<SessionEngine<PlainSession>> {
+    match begun(alloc) {
+        Some(begun) => made_ready(begun),
+        None => None,
+    }
+}
+
+fn made_ready(begun: ClientBegin<PlainSession>) -> Option<SessionEngine<PlainSession>> {
+    match begun.on_frame(frame(SessionFrameBody::Begin(begin()))) {
+        Ok(engine) => Some(engine),
+        Err(refused) => {
+            drop(refused);
+            None
+        }
+    }
+}
+
+/// The engine of a session that sent its end.
+pub fn ended(alloc: Global) -> Option<SessionEngine<PlainSession>> {
+    let mut engine = mapped(alloc)?;
+    drop(engine.end_session(None));
+    Some(engine)
+}
+
+/// What the engine answers to a control.
+pub fn asked(
+    engine: &mut SessionEngine<PlainSession>,
+    control: SessionControl,
+) -> Result<Turn, SessionInnerError> {
+    engine.on_control(control, &mut CountIds::new())
+}
+
+pub fn attach(alloc: Global) -> Attach {
+    Attach {
+        name: Text::new(alloc),
+        handle: Handle(0),
+        role: Role::Sender,
+        snd_settle_mode: SenderSettleMode::Mixed,
+        rcv_settle_mode: ReceiverSettleMode::First,
+        source: None,
+        target: None,
+        initial_delivery_count: None,
+        max_message_size: None,
+        offered_capabilities: None,
+        desired_capabilities: None,
+        properties: None,
+    }
 }
 
 pub fn relay(alloc: Global) -> Relay {
