@@ -24,10 +24,11 @@
 //! ```text
 //!  begin_client_session                     begin_listener_session
 //!           │                                         │
-//!       Unmapped                                BeginReceived
+//!       Unmapped ──── on_incoming: begin ─────► BeginReceived
 //!           │ a begin is sent                         │ a begin is sent
 //!           ▼                                         │
-//!       BeginSent ──── on_frame: begin ────► Mapped ◄─┘
+//!       BeginSent ─── on_frame, or ────────► Mapped ◄─┘
+//!                     on_incoming: begin     │    │
 //!                                            │    │
 //!      on_incoming: end. A reason is kept,   │    │  on_control: End (a reason is kept),
 //!      and an end is sent                    │    │  on_error, end_session: an end is sent
@@ -35,8 +36,9 @@
 //!                      ▼                          ▼ no error      ▼ with an error
 //!                 EndReceived                  EndSent        Discarding      Waiting: what comes
 //!                      │                          │               │           is dropped, until
-//!                      │ at once                  └───────┬───────┘           the peer's end
-//!                      ▼                                  │ on_incoming: end
+//!                      │ at once, or              └───────┬───────┘           the peer's end
+//!                      │ end_session                      │ on_incoming: end
+//!                      ▼                                  │
 //!                  Unmapped ◄─────────────────────────────┘
 //!                    Stop
 //! ```

@@ -8,18 +8,14 @@ use amqp_layer::SessionInnerError;
 use amqp_session_engine::*;
 use amqp_sessions::{AllocTxnIdError, PlainSession, Session};
 use amqp_txn_types::{
-    ConnectionError, End, ErrorCondition, Flow, Frame, Handle, InputHandle, LinkFlow, LinkFrame,
-    OutputHandle, Payload, SessionStopReason, Text, TransactionError, TransactionId,
+    Binary, ConnectionError, End, ErrorCondition, Flow, Frame, Handle, InputHandle, LinkFlow,
+    LinkFrame, OutputHandle, Payload, SessionStopReason, Text, TransactionError, TransactionId,
 };
 use std::alloc::Global;
 use std::test::Fail;
 
 /// Whether the engine answers a control so.
-fn answers(
-    mut engine: SessionEngine<PlainSession>,
-    control: SessionControl,
-    wanted: Turn,
-) -> bool {
+fn answers(mut engine: SessionEngine<PlainSession>, control: SessionControl, wanted: Turn) -> bool {
     let answer = asked(&mut engine, control);
     drop(engine);
     gives(answer, wanted)
@@ -114,7 +110,13 @@ fn an_end_keeps_its_reason(rt: HostRuntime) {
 fn an_end_is_sent_once(rt: HostRuntime) {
     let alloc = rt.alloc();
     let engine = ended(alloc).expect(&rt, "a session");
-    assert!(rt; answers(engine, SessionControl::End(None), quiet(alloc, Running::Waiting)));
+    assert!(rt;
+        answers(
+            engine,
+            SessionControl::End(None),
+            quiet(alloc, Running::Waiting)
+        )
+    );
 }
 
 #[test]
@@ -179,6 +181,42 @@ fn a_continuation_is_sent_as_it_is(rt: HostRuntime) {
         payload: Payload::new(),
     };
     assert!(rt; sends(rt.alloc(), frame, wanted));
+}
+
+/// A first transfer with this tag.
+fn first(tag: Option<Binary>) -> LinkFrame {
+    let mut transfer = transfer();
+    transfer.delivery_tag = tag;
+    LinkFrame::Transfer {
+        input: InputHandle(5),
+        transfer,
+        payload: Payload::new(),
+        is_first: true,
+    }
+}
+
+/// The id that the one transfer to be sent has.
+fn delivery_id(answer: Result<Turn, SessionInnerError>) -> Option<u32> {
+    match only_frame(answer) {
+        Some(Frame::Transfer { transfer, .. }) => transfer.delivery_id,
+        _ => None,
+    }
+}
+
+#[test]
+fn a_first_transfer_gets_an_id(rt: HostRuntime) {
+    let mut engine = mapped(rt.alloc()).expect(&rt, "a session");
+    let sent = engine.on_outgoing_link_frames(first(Some(Binary::new(rt.alloc()))));
+    drop(engine);
+    assert_eq!(rt; delivery_id(sent), Some(0));
+}
+
+#[test]
+fn a_first_transfer_without_a_tag_is_illegal(rt: HostRuntime) {
+    let mut engine = mapped(rt.alloc()).expect(&rt, "a session");
+    let refused = engine.on_outgoing_link_frames(first(None));
+    drop(engine);
+    assert!(rt; refuses(refused, SessionInnerError::IllegalState));
 }
 
 fn flow() -> Flow {

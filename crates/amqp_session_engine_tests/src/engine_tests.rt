@@ -1,7 +1,7 @@
 //! The engine over a plain session, called as its users call it.
 
 use crate::test_values::{
-    asked, attach, begun, detach, ended, error, frame, gives, mapped, plain, plain_end,
+    asked, attach, begin, begun, detach, ended, error, frame, gives, mapped, plain, plain_end,
     quiet, refuses, relay, transfer, turn,
 };
 use amqp_acceptors::ControlLinkAcceptor;
@@ -11,7 +11,7 @@ use amqp_session_engine::*;
 use amqp_sessions::{BeginError, PlainSession, Session};
 use amqp_txn_types::{
     AmqpError, ConnectionStopReason, End, Error, ErrorCondition, Frame, InputHandle, LinkFrame,
-    OutputHandle, Payload, SessionState, SessionStopReason, Text, TransactionError,
+    OutputHandle, Payload, SessionState, SessionStopReason, Text, TransactionError, TryClone,
 };
 use std::alloc::Global;
 
@@ -32,6 +32,10 @@ fn with_link(alloc: Global) -> Option<SessionEngine<PlainSession>> {
     };
     drop(asked(&mut engine, control));
     Some(engine)
+}
+
+fn not_allowed() -> Error {
+    error(ErrorCondition::AmqpError(AmqpError::NotAllowed))
 }
 
 /// How many transfers came to the link.
@@ -262,4 +266,120 @@ fn a_connection_may_stop_early(rt: HostRuntime) {
     drop(session);
     let stopped = BeginError::ConnectionStopped(ConnectionStopReason::RemoteClosed);
     assert!(rt; error == stopped);
+}
+
+#[test]
+fn the_peers_error_is_the_reason(rt: HostRuntime) {
+    let mut engine = mapped(rt.alloc()).expect(&rt, "a session");
+    let failed = frame(SessionFrameBody::End(End {
+        error: Some(not_allowed()),
+    }));
+    drop(engine.on_incoming(failed));
+    let reason = SessionStopReason::RemoteEndedWithError(not_allowed());
+    assert!(rt; stopped_for(engine.session(), reason));
+    drop(engine);
+}
+
+#[test]
+fn this_sides_error_is_the_reason(rt: HostRuntime) {
+    let mut engine = mapped(rt.alloc()).expect(&rt, "a session");
+    drop(asked(&mut engine, SessionControl::End(Some(not_allowed()))));
+    let reason = SessionStopReason::EndedWithError(not_allowed());
+    assert!(rt; stopped_for(engine.session(), reason));
+    assert!(rt; engine.session().local_state() == SessionState::Discarding);
+    drop(engine);
+}
+
+#[test]
+fn an_end_after_the_connection_stopped_tells_it(rt: HostRuntime) {
+    let mut engine = mapped(rt.alloc()).expect(&rt, "a session");
+    engine.note_connection_stop(ConnectionStopReason::RemoteClosed);
+    drop(asked(&mut engine, SessionControl::End(None)));
+    assert!(rt; stopped_for(engine.session(), remote_close()));
+    drop(engine);
+}
+
+#[test]
+fn a_connection_that_stopped_is_answered(rt: HostRuntime) {
+    let mut engine = mapped(rt.alloc()).expect(&rt, "a session");
+    let stopped = SessionInnerError::ConnectionStopped(ConnectionStopReason::RemoteClosed);
+    let refused = engine.on_error(&stopped);
+    assert!(rt; engine.session().local_state() == SessionState::Mapped);
+    drop(engine);
+    assert!(rt; refuses(refused, stopped));
+}
+
+/// Whether a mapped session whose outcome is this answers it and stopped for this reason.
+fn finishes(
+    alloc: Global,
+    outcome: Result<(), SessionInnerError>,
+    wanted: Result<(), SessionInnerError>,
+    reason: SessionStopReason,
+) -> bool {
+    match mapped(alloc) {
+        Some(engine) => is_finished(engine.finish(outcome), wanted, reason),
+        None => false,
+    }
+}
+
+fn is_finished(
+    finished: (PlainSession, Result<(), SessionInnerError>),
+    wanted: Result<(), SessionInnerError>,
+    reason: SessionStopReason,
+) -> bool {
+    let (session, answer) = finished;
+    let stopped = stopped_for(&session, reason);
+    drop(session);
+    stopped && answer == wanted
+}
+
+#[test]
+fn an_outcome_is_answered_and_kept(rt: HostRuntime) {
+    let alloc = rt.alloc();
+    assert!(rt; finishes(alloc, Ok(()), Ok(()), SessionStopReason::Ended));
+    let fault = Err(SessionInnerError::IllegalState);
+    let wanted = Err(SessionInnerError::IllegalState);
+    assert!(rt; finishes(alloc, fault, wanted, SessionStopReason::Ended));
+}
+
+#[test]
+fn the_error_of_an_outcome_is_answered_and_kept(rt: HostRuntime) {
+    let alloc = rt.alloc();
+    let failed = Err(SessionInnerError::RemoteEndedWithError(not_allowed()));
+    let wanted = Err(SessionInnerError::RemoteEndedWithError(not_allowed()));
+    let reason = SessionStopReason::RemoteEndedWithError(not_allowed());
+    assert!(rt; finishes(alloc, failed, wanted, reason));
+}
+
+#[test]
+fn the_first_reason_is_kept(rt: HostRuntime) {
+    let mut engine = mapped(rt.alloc()).expect(&rt, "a session");
+    drop(engine.on_incoming(plain_end()));
+    let failed = Err(SessionInnerError::RemoteEndedWithError(not_allowed()));
+    let wanted = Err(SessionInnerError::RemoteEndedWithError(not_allowed()));
+    let finished = engine.finish(failed);
+    assert!(rt; is_finished(finished, wanted, SessionStopReason::RemoteEnded));
+}
+
+#[test]
+fn a_connection_may_close_early(rt: HostRuntime) {
+    let begun = begun(rt.alloc()).expect(&rt, "a session");
+    let (session, error) = begun.connection_stopped();
+    drop(session);
+    assert!(rt; error == BeginError::ConnectionStopped(ConnectionStopReason::Closed));
+}
+
+/// Whether a copy of the frame equals it.
+fn copies(frame: SessionFrame) -> bool {
+    match frame.try_clone() {
+        Ok(copy) => copy == frame,
+        Err(_) => false,
+    }
+}
+
+#[test]
+fn frames_are_copied(rt: HostRuntime) {
+    assert!(rt; copies(frame(SessionFrameBody::Begin(begin()))));
+    assert!(rt; copies(plain_end()));
+    assert!(rt; copies(transfer_frame()));
 }
