@@ -253,8 +253,8 @@ impl<S: Session + HandleDeclare + HandleDischarge> SessionEngine<S> {
             (ControlsTransactions ⟦<S as Tells>⟧.told S.allocate_gives S.commit_gives
             S.rollback_gives self.old self.new (G.next ids.old) (G.next ids.new) control result) }
         ensures others { OnTrue (is_mapped (⟦<S as Tells>⟧.told self.old).fixed.state)
-            (ControlsOthers ⟦<S as Tells>⟧.told S.kept S.names S.check_gives self.old self.new control
-            result) }
+            (ControlsOthers ⟦<S as Tells>⟧.told S.kept S.names S.check_gives self.old self.new
+            control result) }
         ensures start { G.start ids.new ≡ G.start ids.old }
         ensures draws { OnFalse (draws_ids (⟦<S as Tells>⟧.told self.old).fixed.state control)
             (ids.new ≡ ids.old) }

@@ -6,7 +6,7 @@
 //! | [`ClientBegin`] | a session of this side whose begin was sent, until the peer's comes |
 //! | [`SessionFrame`] | a frame as it comes |
 //! | [`SessionControl`], [`ConnectionControl`] | what is asked of a session and of a connection |
-//! | [`Turn`], [`Running`], [`ControlReply`] | what an event is answered: what to send, and the reply |
+//! | [`Turn`], [`Running`], [`ControlReply`] | what an event is answered: frames and a reply |
 //!
 //! ```text
 //! let (begun, begin) = SessionEngine::begin_client_session(alloc, session)?; // send the begin
