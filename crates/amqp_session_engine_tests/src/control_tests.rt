@@ -2,11 +2,11 @@
 
 use crate::test_values::{
     asked, attach, detach, disposition, ended, error, gives, mapped, only_frame, quiet, refuses,
-    relay, replied, transfer, turn,
+    relay, replied, sent, stopped_for, transfer, turn,
 };
 use amqp_layer::SessionInnerError;
 use amqp_session_engine::*;
-use amqp_sessions::{AllocTxnIdError, PlainSession, Session};
+use amqp_sessions::{AllocTxnIdError, PlainSession};
 use amqp_txn_types::{
     Binary, ConnectionError, End, ErrorCondition, Flow, Frame, Handle, InputHandle, LinkFlow,
     LinkFrame, OutputHandle, Payload, SessionStopReason, Text, TransactionError, TransactionId,
@@ -102,7 +102,7 @@ fn an_end_keeps_its_reason(rt: HostRuntime) {
     let answer = asked(&mut engine, SessionControl::End(None));
     let ended = Some(End { error: None });
     assert!(rt; gives(answer, turn(alloc, Running::Waiting, ended)));
-    assert!(rt; engine.session().session_stop_reason() == Some(&SessionStopReason::Ended));
+    assert!(rt; stopped_for(engine.session(), SessionStopReason::Ended));
     drop(engine);
 }
 
@@ -130,9 +130,9 @@ fn a_control_outside_mapped_is_illegal(rt: HostRuntime) {
 #[test]
 fn a_disposition_is_sent(rt: HostRuntime) {
     let mut engine = mapped(rt.alloc()).expect(&rt, "a session");
-    let sent = only_frame(asked(&mut engine, SessionControl::Disposition(disposition())));
+    let only = only_frame(asked(&mut engine, SessionControl::Disposition(disposition())));
     drop(engine);
-    assert!(rt; sent == Some(Frame::Disposition(disposition())));
+    assert!(rt; only == Some(Frame::Disposition(disposition())));
 }
 
 /// Whether a mapped session sends this frame for that of a link.
@@ -144,9 +144,9 @@ fn sends(alloc: Global, frame: LinkFrame, wanted: Frame) -> bool {
 }
 
 fn sends_by(mut engine: SessionEngine<PlainSession>, frame: LinkFrame, wanted: Frame) -> bool {
-    let sent = only_frame(engine.on_outgoing_link_frames(frame));
+    let only = only_frame(sent(&mut engine, frame));
     drop(engine);
-    sent == Some(wanted)
+    only == Some(wanted)
 }
 
 #[test]
@@ -206,15 +206,15 @@ fn delivery_id(answer: Result<Turn, SessionInnerError>) -> Option<u32> {
 #[test]
 fn a_first_transfer_gets_an_id(rt: HostRuntime) {
     let mut engine = mapped(rt.alloc()).expect(&rt, "a session");
-    let sent = engine.on_outgoing_link_frames(first(Some(Binary::new(rt.alloc()))));
+    let answer = sent(&mut engine, first(Some(Binary::new(rt.alloc()))));
     drop(engine);
-    assert_eq!(rt; delivery_id(sent), Some(0));
+    assert_eq!(rt; delivery_id(answer), Some(0));
 }
 
 #[test]
 fn a_first_transfer_without_a_tag_is_illegal(rt: HostRuntime) {
     let mut engine = mapped(rt.alloc()).expect(&rt, "a session");
-    let refused = engine.on_outgoing_link_frames(first(None));
+    let refused = sent(&mut engine, first(None));
     drop(engine);
     assert!(rt; refuses(refused, SessionInnerError::IllegalState));
 }

@@ -1,8 +1,9 @@
 //! The engine over a plain session, called as its users call it.
 
 use crate::test_values::{
-    asked, attach, begin, begun, detach, ended, error, frame, gives, mapped, plain, plain_end,
-    quiet, refuses, relay, transfer, turn,
+    asked, attach, begin, begun, cut_off, detach, ended, error, failed, finished, frame, gives,
+    mapped, plain, plain_end, quiet, refuses, relay, sent, state, stopped_for, taken, told_to_end,
+    transfer, turn,
 };
 use amqp_acceptors::ControlLinkAcceptor;
 use amqp_layer::{LayerBelow, SessionInnerError};
@@ -10,16 +11,17 @@ use amqp_listener::ListenerSession;
 use amqp_session_engine::*;
 use amqp_sessions::{BeginError, PlainSession, Session};
 use amqp_txn_types::{
-    AmqpError, ConnectionStopReason, End, Error, ErrorCondition, Frame, InputHandle, LinkFrame,
-    OutputHandle, Payload, SessionState, SessionStopReason, Text, TransactionError, TryClone,
+    AmqpError, Attach, ConnectionStopReason, End, Error, ErrorCondition, Frame, InputHandle,
+    LinkFrame, OutputHandle, Payload, SessionState, SessionStopReason, Text, TransactionError,
+    TryClone,
 };
 use std::alloc::Global;
 
-fn transfer_frame() -> SessionFrame {
-    frame(SessionFrameBody::Link(Frame::Transfer {
+fn transfer_frame() -> SessionFrameBody {
+    SessionFrameBody::Link(Frame::Transfer {
         transfer: transfer(),
         payload: Payload::new(),
-    }))
+    })
 }
 
 /// The engine of a mapped session with a receiving link of the peer's handle 5.
@@ -46,11 +48,6 @@ fn transfers(engine: &SessionEngine<PlainSession>) -> Option<u64> {
     }
 }
 
-/// Whether the session stopped for this reason.
-fn stopped_for(session: &PlainSession, reason: SessionStopReason) -> bool {
-    session.session_stop_reason() == Some(&reason)
-}
-
 fn is_window(answer: Result<Turn, SessionInnerError>) -> bool {
     match answer {
         Ok(turn) => turn.running == Running::Continue && turn.sent.window.is_some(),
@@ -64,7 +61,7 @@ fn is_window(answer: Result<Turn, SessionInnerError>) -> bool {
 #[test]
 fn a_transfer_reaches_the_session(rt: HostRuntime) {
     let mut engine = with_link(rt.alloc()).expect(&rt, "a session");
-    assert!(rt; is_window(engine.on_incoming(transfer_frame())));
+    assert!(rt; is_window(taken(&mut engine, transfer_frame())));
     assert_eq!(rt; transfers(&engine), Some(1));
     drop(engine);
 }
@@ -73,13 +70,13 @@ fn a_transfer_reaches_the_session(rt: HostRuntime) {
 fn an_unknown_id_ends_the_session(rt: HostRuntime) {
     let alloc = rt.alloc();
     let mut engine = mapped(alloc).expect(&rt, "a session");
-    let answer = engine.on_error(&SessionInnerError::UnknownTxnId);
+    let answer = failed(&mut engine, &SessionInnerError::UnknownTxnId);
     let unknown = ErrorCondition::TransactionError(TransactionError::UnknownId);
     let ended = Some(End {
         error: Some(error(unknown)),
     });
     assert!(rt; gives(answer, turn(alloc, Running::Waiting, ended)));
-    assert!(rt; engine.session().local_state() == SessionState::Discarding);
+    assert!(rt; state(&engine) == SessionState::Discarding);
     drop(engine);
 }
 
@@ -87,10 +84,10 @@ fn an_unknown_id_ends_the_session(rt: HostRuntime) {
 fn what_comes_before_the_awaited_end_is_dropped(rt: HostRuntime) {
     let alloc = rt.alloc();
     let mut engine = with_link(alloc).expect(&rt, "a session");
-    drop(engine.on_error(&SessionInnerError::UnknownTxnId));
-    let dropped = engine.on_incoming(transfer_frame());
+    drop(failed(&mut engine, &SessionInnerError::UnknownTxnId));
+    let dropped = taken(&mut engine, transfer_frame());
     assert!(rt; gives(dropped, quiet(alloc, Running::Waiting)));
-    let over = engine.on_incoming(plain_end());
+    let over = taken(&mut engine, plain_end());
     assert!(rt; gives(over, quiet(alloc, Running::Stop)));
     assert_eq!(rt; transfers(&engine), Some(0));
     drop(engine);
@@ -100,7 +97,7 @@ fn what_comes_before_the_awaited_end_is_dropped(rt: HostRuntime) {
 fn the_peers_end_is_answered(rt: HostRuntime) {
     let alloc = rt.alloc();
     let mut engine = mapped(alloc).expect(&rt, "a session");
-    let answer = engine.on_incoming(plain_end());
+    let answer = taken(&mut engine, plain_end());
     let ended = Some(End { error: None });
     assert!(rt; gives(answer, turn(alloc, Running::Stop, ended)));
     assert!(rt; stopped_for(engine.session(), SessionStopReason::RemoteEnded));
@@ -114,8 +111,8 @@ fn remote_close() -> SessionStopReason {
 #[test]
 fn a_connection_that_stopped_is_the_reason(rt: HostRuntime) {
     let mut engine = mapped(rt.alloc()).expect(&rt, "a session");
-    engine.note_connection_stop(ConnectionStopReason::RemoteClosed);
-    drop(engine.on_incoming(plain_end()));
+    cut_off(&mut engine);
+    drop(taken(&mut engine, plain_end()));
     assert!(rt; stopped_for(engine.session(), remote_close()));
     drop(engine);
 }
@@ -123,7 +120,7 @@ fn a_connection_that_stopped_is_the_reason(rt: HostRuntime) {
 #[test]
 fn no_link_sends_after_the_end(rt: HostRuntime) {
     let mut engine = ended(rt.alloc()).expect(&rt, "a session");
-    let refused = engine.on_outgoing_link_frames(LinkFrame::Detach(detach()));
+    let refused = sent(&mut engine, LinkFrame::Detach(detach()));
     drop(engine);
     assert!(rt; refuses(refused, SessionInnerError::IllegalState));
 }
@@ -132,11 +129,11 @@ fn no_link_sends_after_the_end(rt: HostRuntime) {
 fn a_session_runs_from_its_begin_to_its_stop(rt: HostRuntime) {
     let alloc = rt.alloc();
     let mut engine = ended(alloc).expect(&rt, "a session");
-    let over = engine.on_incoming(plain_end());
+    let over = taken(&mut engine, plain_end());
     assert!(rt; gives(over, quiet(alloc, Running::Stop)));
-    let nothing_owed = engine.end_session(None);
+    let nothing_owed = told_to_end(&mut engine);
     assert!(rt; gives(nothing_owed, quiet(alloc, Running::Stop)));
-    let (session, outcome) = engine.finish(Ok(()));
+    let (session, outcome) = finished(engine, Ok(()));
     assert!(rt; gives(outcome, ()));
     assert!(rt; stopped_for(&session, SessionStopReason::Ended));
     drop(session);
@@ -158,13 +155,19 @@ fn listener(alloc: Global) -> Option<SessionEngine<ListenerSession<PlainSession>
     }
 }
 
+fn heard(
+    engine: &mut SessionEngine<ListenerSession<PlainSession>>,
+    attach: Attach,
+) -> Result<Turn, SessionInnerError> {
+    engine.on_incoming(frame(SessionFrameBody::Link(Frame::Attach(attach))))
+}
+
 #[test]
 fn an_attach_waits_in_a_listener(rt: HostRuntime) {
     let alloc = rt.alloc();
     let mut engine = listener(alloc).expect(&rt, "a session");
-    let attach = frame(SessionFrameBody::Link(Frame::Attach(attach(alloc))));
-    let taken = engine.on_incoming(attach);
-    assert!(rt; gives(taken, quiet(alloc, Running::Continue)));
+    let answer = heard(&mut engine, attach(alloc));
+    assert!(rt; gives(answer, quiet(alloc, Running::Continue)));
     assert!(rt; engine.session().local_state() == SessionState::Mapped);
     drop(engine);
 }
@@ -172,7 +175,7 @@ fn an_attach_waits_in_a_listener(rt: HostRuntime) {
 /// The error of the end that is sent for a fault.
 fn error_sent(alloc: Global, fault: &SessionInnerError) -> Option<Error> {
     let mut engine = mapped(alloc)?;
-    let answer = engine.on_error(fault);
+    let answer = failed(&mut engine, fault);
     drop(engine);
     match answer {
         Ok(turn) => error_of(turn.ended),
@@ -221,7 +224,7 @@ fn some_faults_are_told_by_a_text(rt: HostRuntime) {
 fn a_stopped_connection_is_no_fault_of_the_session(rt: HostRuntime) {
     let engine = mapped(rt.alloc()).expect(&rt, "a session");
     let stopped = SessionInnerError::ConnectionStopped(ConnectionStopReason::RemoteClosed);
-    let (session, outcome) = engine.finish(Err(stopped));
+    let (session, outcome) = finished(engine, Err(stopped));
     assert!(rt; gives(outcome, ()));
     assert!(rt; stopped_for(&session, remote_close()));
     drop(session);
@@ -247,7 +250,7 @@ fn came_back(
 #[test]
 fn the_peers_begin_makes_the_session_ready(rt: HostRuntime) {
     let engine = mapped(rt.alloc()).expect(&rt, "a session");
-    assert!(rt; engine.session().local_state() == SessionState::Mapped);
+    assert!(rt; state(&engine) == SessionState::Mapped);
     drop(engine);
 }
 
@@ -255,7 +258,7 @@ fn the_peers_begin_makes_the_session_ready(rt: HostRuntime) {
 fn an_early_end_is_told(rt: HostRuntime) {
     let begun = begun(rt.alloc()).expect(&rt, "a session");
     assert!(rt; begun.session().local_state() == SessionState::BeginSent);
-    assert!(rt; came_back(begun.on_frame(plain_end()), BeginError::RemoteEnded));
+    assert!(rt; came_back(begun.on_frame(frame(plain_end())), BeginError::RemoteEnded));
 }
 
 #[test]
@@ -271,10 +274,10 @@ fn a_connection_may_stop_early(rt: HostRuntime) {
 #[test]
 fn the_peers_error_is_the_reason(rt: HostRuntime) {
     let mut engine = mapped(rt.alloc()).expect(&rt, "a session");
-    let failed = frame(SessionFrameBody::End(End {
+    let end = SessionFrameBody::End(End {
         error: Some(not_allowed()),
-    }));
-    drop(engine.on_incoming(failed));
+    });
+    drop(taken(&mut engine, end));
     let reason = SessionStopReason::RemoteEndedWithError(not_allowed());
     assert!(rt; stopped_for(engine.session(), reason));
     drop(engine);
@@ -286,14 +289,14 @@ fn this_sides_error_is_the_reason(rt: HostRuntime) {
     drop(asked(&mut engine, SessionControl::End(Some(not_allowed()))));
     let reason = SessionStopReason::EndedWithError(not_allowed());
     assert!(rt; stopped_for(engine.session(), reason));
-    assert!(rt; engine.session().local_state() == SessionState::Discarding);
+    assert!(rt; state(&engine) == SessionState::Discarding);
     drop(engine);
 }
 
 #[test]
 fn an_end_after_the_connection_stopped_tells_it(rt: HostRuntime) {
     let mut engine = mapped(rt.alloc()).expect(&rt, "a session");
-    engine.note_connection_stop(ConnectionStopReason::RemoteClosed);
+    cut_off(&mut engine);
     drop(asked(&mut engine, SessionControl::End(None)));
     assert!(rt; stopped_for(engine.session(), remote_close()));
     drop(engine);
@@ -303,8 +306,8 @@ fn an_end_after_the_connection_stopped_tells_it(rt: HostRuntime) {
 fn a_connection_that_stopped_is_answered(rt: HostRuntime) {
     let mut engine = mapped(rt.alloc()).expect(&rt, "a session");
     let stopped = SessionInnerError::ConnectionStopped(ConnectionStopReason::RemoteClosed);
-    let refused = engine.on_error(&stopped);
-    assert!(rt; engine.session().local_state() == SessionState::Mapped);
+    let refused = failed(&mut engine, &stopped);
+    assert!(rt; state(&engine) == SessionState::Mapped);
     drop(engine);
     assert!(rt; refuses(refused, stopped));
 }
@@ -317,17 +320,17 @@ fn finishes(
     reason: SessionStopReason,
 ) -> bool {
     match mapped(alloc) {
-        Some(engine) => is_finished(engine.finish(outcome), wanted, reason),
+        Some(engine) => is_finished(finished(engine, outcome), wanted, reason),
         None => false,
     }
 }
 
 fn is_finished(
-    finished: (PlainSession, Result<(), SessionInnerError>),
+    ended: (PlainSession, Result<(), SessionInnerError>),
     wanted: Result<(), SessionInnerError>,
     reason: SessionStopReason,
 ) -> bool {
-    let (session, answer) = finished;
+    let (session, answer) = ended;
     let stopped = stopped_for(&session, reason);
     drop(session);
     stopped && answer == wanted
@@ -345,20 +348,20 @@ fn an_outcome_is_answered_and_kept(rt: HostRuntime) {
 #[test]
 fn the_error_of_an_outcome_is_answered_and_kept(rt: HostRuntime) {
     let alloc = rt.alloc();
-    let failed = Err(SessionInnerError::RemoteEndedWithError(not_allowed()));
+    let outcome = Err(SessionInnerError::RemoteEndedWithError(not_allowed()));
     let wanted = Err(SessionInnerError::RemoteEndedWithError(not_allowed()));
     let reason = SessionStopReason::RemoteEndedWithError(not_allowed());
-    assert!(rt; finishes(alloc, failed, wanted, reason));
+    assert!(rt; finishes(alloc, outcome, wanted, reason));
 }
 
 #[test]
 fn the_first_reason_is_kept(rt: HostRuntime) {
     let mut engine = mapped(rt.alloc()).expect(&rt, "a session");
-    drop(engine.on_incoming(plain_end()));
-    let failed = Err(SessionInnerError::RemoteEndedWithError(not_allowed()));
+    drop(taken(&mut engine, plain_end()));
+    let outcome = Err(SessionInnerError::RemoteEndedWithError(not_allowed()));
     let wanted = Err(SessionInnerError::RemoteEndedWithError(not_allowed()));
-    let finished = engine.finish(failed);
-    assert!(rt; is_finished(finished, wanted, SessionStopReason::RemoteEnded));
+    let ended = finished(engine, outcome);
+    assert!(rt; is_finished(ended, wanted, SessionStopReason::RemoteEnded));
 }
 
 #[test]
@@ -380,6 +383,6 @@ fn copies(frame: SessionFrame) -> bool {
 #[test]
 fn frames_are_copied(rt: HostRuntime) {
     assert!(rt; copies(frame(SessionFrameBody::Begin(begin()))));
-    assert!(rt; copies(plain_end()));
-    assert!(rt; copies(transfer_frame()));
+    assert!(rt; copies(frame(plain_end())));
+    assert!(rt; copies(frame(transfer_frame())));
 }

@@ -1,13 +1,13 @@
 //! What the tests call the engine with, and compare its answers to.
 
 use amqp_ids::CountIds;
-use amqp_layer::{Answers, SessionInnerError};
+use amqp_layer::{Answers, LayerBelow, SessionInnerError};
 use amqp_session_engine::*;
-use amqp_sessions::{PlainSession, Relay};
+use amqp_sessions::{PlainSession, Relay, Session};
 use amqp_txn_types::{
-    Attach, Begin, Detach, Disposition, End, Error, ErrorCondition, Frame, Frames, Handle,
-    LinkFlows, OutgoingChannel, ReceiverSettleMode, Role, SenderSettleMode, SessionState, Text,
-    Transfer,
+    Attach, Begin, ConnectionStopReason, Detach, Disposition, End, Error, ErrorCondition, Frame,
+    Frames, Handle, LinkFlows, LinkFrame, OutgoingChannel, ReceiverSettleMode, Role,
+    SenderSettleMode, SessionState, SessionStopReason, Text, Transfer,
 };
 use std::alloc::Global;
 
@@ -56,8 +56,8 @@ pub fn frame(body: SessionFrameBody) -> SessionFrame {
 }
 
 /// An end without an error.
-pub fn plain_end() -> SessionFrame {
-    frame(SessionFrameBody::End(End { error: None }))
+pub fn plain_end() -> SessionFrameBody {
+    SessionFrameBody::End(End { error: None })
 }
 
 /// A session of this side that sent its begin.
@@ -95,16 +95,69 @@ fn made_ready(begun: ClientBegin<PlainSession>) -> Option<SessionEngine<PlainSes
 /// The engine of a session that sent its end.
 pub fn ended(alloc: Global) -> Option<SessionEngine<PlainSession>> {
     let mut engine = mapped(alloc)?;
-    drop(engine.end_session(None));
+    drop(told_to_end(&mut engine));
     Some(engine)
 }
 
-/// What the engine answers to a control.
+/// What the engine answers to a control. Like those below it says nothing of the session, so that
+/// each call of the engine is proved once.
 pub fn asked(
     engine: &mut SessionEngine<PlainSession>,
     control: SessionControl,
 ) -> Result<Turn, SessionInnerError> {
     engine.on_control(control, &mut CountIds::new())
+}
+
+/// What the engine answers to a frame that comes.
+pub fn taken(
+    engine: &mut SessionEngine<PlainSession>,
+    body: SessionFrameBody,
+) -> Result<Turn, SessionInnerError> {
+    engine.on_incoming(frame(body))
+}
+
+/// What the engine answers to a frame of a link.
+pub fn sent(
+    engine: &mut SessionEngine<PlainSession>,
+    frame: LinkFrame,
+) -> Result<Turn, SessionInnerError> {
+    engine.on_outgoing_link_frames(frame)
+}
+
+/// What the engine answers to a fault.
+pub fn failed(
+    engine: &mut SessionEngine<PlainSession>,
+    fault: &SessionInnerError,
+) -> Result<Turn, SessionInnerError> {
+    engine.on_error(fault)
+}
+
+/// What the engine answers where it is told to end the session.
+pub fn told_to_end(engine: &mut SessionEngine<PlainSession>) -> Result<Turn, SessionInnerError> {
+    engine.end_session(None)
+}
+
+/// The connection of the engine's session was closed by the peer.
+pub fn cut_off(engine: &mut SessionEngine<PlainSession>) {
+    engine.note_connection_stop(ConnectionStopReason::RemoteClosed);
+}
+
+/// The session of the engine, and the outcome that it answers.
+pub fn finished(
+    engine: SessionEngine<PlainSession>,
+    outcome: Result<(), SessionInnerError>,
+) -> (PlainSession, Result<(), SessionInnerError>) {
+    engine.finish(outcome)
+}
+
+/// The state of the engine's session.
+pub fn state(engine: &SessionEngine<PlainSession>) -> SessionState {
+    engine.session().local_state()
+}
+
+/// Whether the session stopped for this reason.
+pub fn stopped_for(session: &PlainSession, reason: SessionStopReason) -> bool {
+    session.session_stop_reason() == Some(&reason)
 }
 
 pub fn attach(alloc: Global) -> Attach {
