@@ -12,6 +12,7 @@ use amqp_txn_types::{
     LinkFrame, OutputHandle, Payload, SessionStopReason, Text, TransactionError, TransactionId,
 };
 use std::alloc::Global;
+use std::process::Abort;
 use std::test::Fail;
 
 /// Whether the engine answers a control so.
@@ -22,11 +23,9 @@ fn answers(mut engine: SessionEngine<PlainSession>, control: SessionControl, wan
 }
 
 /// Whether a mapped session gives this reply.
-fn replies(alloc: Global, control: SessionControl, reply: ControlReply) -> bool {
-    match mapped(alloc) {
-        Some(engine) => answers(engine, control, replied(alloc, reply)),
-        None => false,
-    }
+fn replies<R: Abort>(rt: &R, alloc: Global, control: SessionControl, reply: ControlReply) -> bool {
+    let engine = mapped(alloc).expect(rt, "a session");
+    answers(engine, control, replied(alloc, reply))
 }
 
 #[test]
@@ -36,7 +35,14 @@ fn links_are_allocated(rt: HostRuntime) {
         link_name: Text::new(alloc),
         link_relay: relay(alloc),
     };
-    assert!(rt; replies(alloc, control, ControlReply::Linked(Ok(OutputHandle(0)))));
+    assert!(rt;
+        replies(
+            &rt,
+            alloc,
+            control,
+            ControlReply::Linked(Ok(OutputHandle(0)))
+        )
+    );
 }
 
 #[test]
@@ -47,7 +53,14 @@ fn incoming_links_are_allocated(rt: HostRuntime) {
         link_relay: relay(alloc),
         input_handle: InputHandle(1),
     };
-    assert!(rt; replies(alloc, control, ControlReply::Linked(Ok(OutputHandle(0)))));
+    assert!(rt;
+        replies(
+            &rt,
+            alloc,
+            control,
+            ControlReply::Linked(Ok(OutputHandle(0)))
+        )
+    );
 }
 
 #[test]
@@ -55,13 +68,27 @@ fn a_connection_is_to_be_closed(rt: HostRuntime) {
     let condition = ConnectionError::FramingError;
     let control = SessionControl::CloseConnectionWithError(condition, None);
     let closing = error(ErrorCondition::ConnectionError(condition));
-    assert!(rt; replies(rt.alloc(), control, ControlReply::CloseConnection(closing)));
+    assert!(rt;
+        replies(
+            &rt,
+            rt.alloc(),
+            control,
+            ControlReply::CloseConnection(closing)
+        )
+    );
 }
 
 #[test]
 fn a_plain_session_allocates_no_ids(rt: HostRuntime) {
     let refused = ControlReply::Allocated(Err(AllocTxnIdError::NotImplemented));
-    assert!(rt; replies(rt.alloc(), SessionControl::AllocateTransactionId, refused));
+    assert!(rt;
+        replies(
+            &rt,
+            rt.alloc(),
+            SessionControl::AllocateTransactionId,
+            refused
+        )
+    );
 }
 
 #[test]
@@ -70,6 +97,7 @@ fn a_plain_session_discharges_nothing(rt: HostRuntime) -> Result<(), Fail> {
     let uncommitted = ControlReply::Committed(Err(TransactionError::UnknownId));
     assert!(rt;
         replies(
+            &rt,
             rt.alloc(),
             SessionControl::CommitTransaction { txn_id },
             uncommitted
@@ -78,6 +106,7 @@ fn a_plain_session_discharges_nothing(rt: HostRuntime) -> Result<(), Fail> {
     let unended = ControlReply::RolledBack(Err(TransactionError::UnknownId));
     assert!(rt;
         replies(
+            &rt,
             rt.alloc(),
             SessionControl::RollbackTransaction { txn_id },
             unended
@@ -89,9 +118,9 @@ fn a_plain_session_discharges_nothing(rt: HostRuntime) -> Result<(), Fail> {
 #[test]
 fn some_controls_have_no_reply(rt: HostRuntime) -> Result<(), Fail> {
     let abort = SessionControl::AbortTransaction(TransactionId::new(b"t")?);
-    assert!(rt; replies(rt.alloc(), abort, ControlReply::Nothing));
+    assert!(rt; replies(&rt, rt.alloc(), abort, ControlReply::Nothing));
     let free = SessionControl::DeallocateLink(OutputHandle(0));
-    assert!(rt; replies(rt.alloc(), free, ControlReply::Nothing));
+    assert!(rt; replies(&rt, rt.alloc(), free, ControlReply::Nothing));
     Ok(())
 }
 
@@ -136,14 +165,8 @@ fn a_disposition_is_sent(rt: HostRuntime) {
 }
 
 /// Whether a mapped session sends this frame for that of a link.
-fn sends(alloc: Global, frame: LinkFrame, wanted: Frame) -> bool {
-    match mapped(alloc) {
-        Some(engine) => sends_by(engine, frame, wanted),
-        None => false,
-    }
-}
-
-fn sends_by(mut engine: SessionEngine<PlainSession>, frame: LinkFrame, wanted: Frame) -> bool {
+fn sends<R: Abort>(rt: &R, alloc: Global, frame: LinkFrame, wanted: Frame) -> bool {
+    let mut engine = mapped(alloc).expect(rt, "a session");
     let only = only_frame(sent(&mut engine, frame));
     drop(engine);
     only == Some(wanted)
@@ -153,19 +176,26 @@ fn sends_by(mut engine: SessionEngine<PlainSession>, frame: LinkFrame, wanted: F
 fn an_attach_is_sent(rt: HostRuntime) {
     let alloc = rt.alloc();
     let wanted = Frame::Attach(attach(alloc));
-    assert!(rt; sends(alloc, LinkFrame::Attach(attach(alloc)), wanted));
+    assert!(rt; sends(&rt, alloc, LinkFrame::Attach(attach(alloc)), wanted));
 }
 
 #[test]
 fn a_links_disposition_is_sent(rt: HostRuntime) {
     let wanted = Frame::Disposition(disposition());
-    assert!(rt; sends(rt.alloc(), LinkFrame::Disposition(disposition()), wanted));
+    assert!(rt;
+        sends(
+            &rt,
+            rt.alloc(),
+            LinkFrame::Disposition(disposition()),
+            wanted
+        )
+    );
 }
 
 #[test]
 fn a_detach_is_sent(rt: HostRuntime) {
     let wanted = Frame::Detach(detach());
-    assert!(rt; sends(rt.alloc(), LinkFrame::Detach(detach()), wanted));
+    assert!(rt; sends(&rt, rt.alloc(), LinkFrame::Detach(detach()), wanted));
 }
 
 #[test]
@@ -180,7 +210,7 @@ fn a_continuation_is_sent_as_it_is(rt: HostRuntime) {
         transfer: transfer(),
         payload: Payload::new(),
     };
-    assert!(rt; sends(rt.alloc(), frame, wanted));
+    assert!(rt; sends(&rt, rt.alloc(), frame, wanted));
 }
 
 /// A first transfer with this tag.
@@ -246,5 +276,5 @@ fn a_flow_gets_the_sessions_numbers(rt: HostRuntime) {
         echo: false,
         properties: None,
     });
-    assert!(rt; sends(rt.alloc(), frame, Frame::Flow(flow())));
+    assert!(rt; sends(&rt, rt.alloc(), frame, Frame::Flow(flow())));
 }

@@ -16,6 +16,7 @@ use amqp_txn_types::{
     TryClone,
 };
 use std::alloc::Global;
+use std::process::Abort;
 
 fn transfer_frame() -> SessionFrameBody {
     SessionFrameBody::Link(Frame::Transfer {
@@ -313,16 +314,15 @@ fn a_connection_that_stopped_is_answered(rt: HostRuntime) {
 }
 
 /// Whether a mapped session whose outcome is this answers it and stopped for this reason.
-fn finishes(
+fn finishes<R: Abort>(
+    rt: &R,
     alloc: Global,
     outcome: Result<(), SessionInnerError>,
     wanted: Result<(), SessionInnerError>,
     reason: SessionStopReason,
 ) -> bool {
-    match mapped(alloc) {
-        Some(engine) => is_finished(finished(engine, outcome), wanted, reason),
-        None => false,
-    }
+    let engine = mapped(alloc).expect(rt, "a session");
+    is_finished(finished(engine, outcome), wanted, reason)
 }
 
 fn is_finished(
@@ -339,10 +339,10 @@ fn is_finished(
 #[test]
 fn an_outcome_is_answered_and_kept(rt: HostRuntime) {
     let alloc = rt.alloc();
-    assert!(rt; finishes(alloc, Ok(()), Ok(()), SessionStopReason::Ended));
+    assert!(rt; finishes(&rt, alloc, Ok(()), Ok(()), SessionStopReason::Ended));
     let fault = Err(SessionInnerError::IllegalState);
     let wanted = Err(SessionInnerError::IllegalState);
-    assert!(rt; finishes(alloc, fault, wanted, SessionStopReason::Ended));
+    assert!(rt; finishes(&rt, alloc, fault, wanted, SessionStopReason::Ended));
 }
 
 #[test]
@@ -351,7 +351,7 @@ fn the_error_of_an_outcome_is_answered_and_kept(rt: HostRuntime) {
     let outcome = Err(SessionInnerError::RemoteEndedWithError(not_allowed()));
     let wanted = Err(SessionInnerError::RemoteEndedWithError(not_allowed()));
     let reason = SessionStopReason::RemoteEndedWithError(not_allowed());
-    assert!(rt; finishes(alloc, outcome, wanted, reason));
+    assert!(rt; finishes(&rt, alloc, outcome, wanted, reason));
 }
 
 #[test]
