@@ -1,5 +1,6 @@
 pub use Rattle.amqp_layer.specs.Taking
 pub use Rattle.amqp_session_engine.specs.States
+pub use Rattle.amqp_session_engine.specs.Texts
 pub use Rattle.amqp_session_engine.specs.Turns
 pub use Rattle.amqp_session_engine.specs.Asking
 pub use Rattle.amqp_session_engine.specs.Reasons

@@ -202,7 +202,8 @@ impl Builder {
         self
     }
 
-    /// The session that is built, in this state. It makes its lists on `alloc`, and takes no memory.
+    /// The session that is built, in this state. It makes its lists on `alloc`, and takes no
+    /// memory.
     pub fn into_session(
         self,
         alloc: Global,

@@ -1,5 +1,5 @@
 -- How a session begins. Part 2 of the standard, section 2.5.1 (establishing a session).
-use Rattle.std.specs.Prelude.{◌≡◌, ◌⊎◌, Option, Some, None, Result, Ok, Err}
+use Rattle.std.specs.Prelude.{◌≡◌, ◌⊎◌, true, Option, Some, None, Result, Ok, Err, is_some}
 use Rattle.amqp_txn_types.specs.declared.delivery.ConnectionStopReason.{ConnectionStopReason}
 use Rattle.amqp_txn_types.specs.declared.delivery.Error.{Error}
 use Rattle.amqp_txn_types.specs.declared.performatives.Begin.{Begin}
@@ -73,7 +73,7 @@ FirstFrame told kept names Received old channel (bodies.Link frame) result =
 FirstFrame told kept names Received old channel (bodies.End end) result =
     result ≡ Err (old, ended_early end.error)
 
--- the connection stopped, for the reason that is kept; its copy may want memory
+-- the connection stopped, for the reason that is kept, whose copy may want memory
 abbrev pub StoppedEarly : Option ConnectionStopReason → BeginError → Type 0
-StoppedEarly reason error =
-    (error ≡ refusals.ConnectionStopped (reason_or_closed reason)) ⊎ (error ≡ refusals.NoMemory)
+StoppedEarly reason error = (error ≡ refusals.ConnectionStopped (reason_or_closed reason))
+    ⊎ ((is_some reason ≡ true) × (error ≡ refusals.NoMemory))

@@ -35,9 +35,10 @@ use Rattle.amqp_session_engine.specs.declared.controls.SessionControl.{SessionCo
 use Rattle.amqp_session_engine.specs.declared.controls.SessionControl.TheVariants as controls
 use Rattle.amqp_session_engine.specs.declared.turn.Running.TheVariants.{Continue}
 use Rattle.amqp_session_engine.specs.declared.turn.Turn.{Turn}
-use Rattle.amqp_session_engine.specs.Asking.{OrNoMemory}
+use Rattle.amqp_session_engine.specs.Asking.{OrNoCopy, OrNoMemory}
 use Rattle.amqp_session_engine.specs.Ending.{KeepsAndEnds}
 use Rattle.amqp_session_engine.specs.Outgoing.{Passes}
+use Rattle.amqp_session_engine.specs.Reasons.{copies_local}
 use Rattle.amqp_session_engine.specs.States.{is_mapped}
 use Rattle.amqp_session_engine.specs.Turns.{Unasked, quiet, replying}
 
@@ -51,7 +52,8 @@ abbrev pub ControlsEnd : {S : Type 0} → (S → Told) → (S → Kept) → (S �
     → (S → S → SessionStopReason → Type 0)
     → (S → S → Option Error → Result End SessionInnerError → Type 0)
     → S → S → SessionControl → Result Turn SessionInnerError → Type 0
-ControlsEnd told kept names Stops Sent old new (controls.End error) result = OrNoMemory old new
+ControlsEnd told kept names Stops Sent old new (controls.End error) result =
+    OrNoCopy (copies_local error (kept old).connection) old new
     (KeepsAndEnds told kept names Stops Sent old new error result) result
 ControlsEnd told kept names Stops Sent old new _ result = Unit {0}
 
@@ -208,14 +210,16 @@ closing_error condition text = record {
 }
 
 -- the controls that ask no more of the session than a check
-abbrev pub ControlsOthers : {S : Type 0} → (S → Told)
+abbrev pub ControlsOthers : {S : Type 0} → (S → Told) → (S → Kept) → (S → Names)
     → (S → S → Disposition → Result Unit SessionInnerError → Type 0)
     → S → S → SessionControl → Result Turn SessionInnerError → Type 0
-ControlsOthers told Settles old new (controls.Disposition settled) result = OrNoMemory old new
-    (Passes told (Settles old new settled) old new (frames.Disposition settled) result) result
-ControlsOthers told Settles old new (controls.CloseConnectionWithError condition text) result =
+ControlsOthers told kept names Settles old new (controls.Disposition settled) result =
+    OrNoMemory old new (Passes told kept names (Settles old new settled) old new
+    (frames.Disposition settled) result) result
+ControlsOthers told kept names Settles old new
+    (controls.CloseConnectionWithError condition text) result =
     Unasked old new (Ok (replying (replies.CloseConnection (closing_error condition text)))) result
-ControlsOthers told Settles old new _ result = Unit {0}
+ControlsOthers told kept names Settles old new _ result = Unit {0}
 
 -- whether a control is served: all are where frames pass, and the end always is
 abbrev pub is_served : SessionState → SessionControl → Bool

@@ -1,5 +1,5 @@
 -- How a session ends. Part 2 of the standard, section 2.5.2 (ending a session).
-use Rattle.std.specs.Prelude.{◌≡◌, ◌⊎◌, MatchBool, Option, None, Result, Ok, Err, is_some}
+use Rattle.std.specs.Prelude.{◌≡◌, ◌⊎◌, Bool, true, false, MatchBool, Option, None, Result, Ok, Err, is_some}
 use Rattle.amqp_txn_types.specs.declared.delivery.Error.{Error}
 use Rattle.amqp_txn_types.specs.declared.delivery.SessionStopReason.{SessionStopReason}
 use Rattle.amqp_txn_types.specs.declared.performatives.End.{End}
@@ -15,8 +15,8 @@ use Rattle.amqp_sessions.specs.SessionStates.{end_received, end_sent}
 use Rattle.amqp_session_engine.specs.declared.turn.Running.{Running}
 use Rattle.amqp_session_engine.specs.declared.turn.Running.TheVariants.{Stop}
 use Rattle.amqp_session_engine.specs.declared.turn.Turn.{Turn}
-use Rattle.amqp_session_engine.specs.Asking.{Moved, OrNoMemory, Then}
-use Rattle.amqp_session_engine.specs.Reasons.{KeepsStop, local_stop, remote_stop}
+use Rattle.amqp_session_engine.specs.Asking.{Moved, OrNoCopy, Then}
+use Rattle.amqp_session_engine.specs.Reasons.{KeepsStop, copies_remote, local_stop, remote_stop, stop_of_outcome}
 use Rattle.amqp_session_engine.specs.States.{owes_end, running_once_ended}
 use Rattle.amqp_session_engine.specs.Turns.{Unasked, quiet, sending_end}
 
@@ -81,7 +81,7 @@ abbrev pub PeerEnds : {S : Type 0} → (S → Told) → (S → Kept) → (S → 
     → (S → S → Option Error → Result End SessionInnerError → Type 0)
     → S → S → IncomingChannel → End → Result Turn SessionInnerError → Type 0
 PeerEnds told kept names Received Stops Sent old new channel end result =
-    OrNoMemory old new
+    OrNoCopy (copies_remote end.error (kept old).connection) old new
     (Then (EndGiven told kept names Received old channel end)
     (λ m answer. KeepsAndAnswers told kept names Stops Sent m new
     (remote_stop end.error (kept old).connection) answer) new result) result
@@ -114,10 +114,24 @@ TakesEnd told kept names Received Stops Sent old new channel end result =
     (PeerAnswersEnd told kept names Received old new channel end result)
     (Unasked old new (Err faults.IllegalState) result)
 
--- what is answered for the outcome of a session: that the connection stopped is no fault of it;
--- the error is in the reason that is kept, and a copy of it may want memory
-abbrev pub AnswersOutcome : Result Unit SessionInnerError → Result Unit SessionInnerError → Type 0
-AnswersOutcome (Err (faults.ConnectionStopped reason)) answer = answer ≡ Ok tt
-AnswersOutcome (Err (faults.RemoteEndedWithError error)) answer =
-    (answer ≡ Err (faults.RemoteEndedWithError error)) ⊎ (answer ≡ Err faults.NoMemory)
-AnswersOutcome outcome answer = answer ≡ outcome
+-- what is answered for the outcome of a session: that the connection stopped is no fault of it
+abbrev pub answer_of : Result Unit SessionInnerError → Result Unit SessionInnerError
+answer_of (Err (faults.ConnectionStopped reason)) = Ok tt
+answer_of outcome = outcome
+
+-- the error of the outcome goes into the reason that is kept, where none is, and is copied
+abbrev pub copies_outcome : Bool → Result Unit SessionInnerError → Bool
+copies_outcome false (Err (faults.RemoteEndedWithError error)) = true
+copies_outcome kept outcome = false
+
+-- that is answered; a copy may want memory
+abbrev pub AnswersOutcome : Bool → Result Unit SessionInnerError → Result Unit SessionInnerError
+    → Type 0
+AnswersOutcome kept outcome answer = (answer ≡ answer_of outcome)
+    ⊎ ((copies_outcome kept outcome ≡ true) × (answer ≡ Err faults.NoMemory))
+
+-- the reason that the outcome tells is kept, where none is; else the session isn't asked
+abbrev pub Finishes : {S : Type 0} → (S → Told) → (S → Kept) → (S → Names)
+    → (S → S → SessionStopReason → Type 0) → S → S → Result Unit SessionInnerError → Type 0
+Finishes told kept names Stops old new outcome = MatchBool (is_some (kept old).stop)
+    (new ≡ old) (KeepsStop told kept names Stops old new (stop_of_outcome outcome))

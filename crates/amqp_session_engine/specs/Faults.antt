@@ -9,7 +9,7 @@ use Rattle.amqp_txn_types.specs.declared.small.TransactionError.TheVariants as t
 use Rattle.amqp_layer.specs.declared.inner_error.SessionInnerError.{SessionInnerError}
 use Rattle.amqp_layer.specs.declared.inner_error.SessionInnerError.TheVariants as faults
 use Rattle.amqp_session_engine.specs.declared.turn.Turn.{Turn}
-use Rattle.amqp_session_engine.specs.Asking.{OrNoMemory}
+use Rattle.amqp_session_engine.specs.Asking.{OrNoCopy, OrNoMemory}
 use Rattle.amqp_session_engine.specs.Turns.{Unasked}
 
 -- an error without a text
@@ -48,9 +48,16 @@ abbrev pub is_cut_off : SessionInnerError → Bool
 is_cut_off (faults.ConnectionStopped reason) = true
 is_cut_off _ = false
 
+-- something is made or copied for the fault: the text of an error, or why the connection stopped
+abbrev pub copies_for : SessionInnerError → Bool
+copies_for faults.RemoteAttachingLinkNameNotFound = true
+copies_for faults.TransferFrameToSender = true
+copies_for (faults.ConnectionStopped reason) = true
+copies_for _ = false
+
 -- a session is ended for a fault, but where its connection stopped: then that is answered
 abbrev pub EndsFor : {S : Type 0} → S → S → (Result Turn SessionInnerError → Type 0)
     → SessionInnerError → Result Turn SessionInnerError → Type 0
 EndsFor old new Ends (faults.ConnectionStopped reason) result =
     OrNoMemory old new (Unasked old new (Err (faults.ConnectionStopped reason)) result) result
-EndsFor old new Ends fault result = OrNoMemory old new (Ends result) result
+EndsFor old new Ends fault result = OrNoCopy (copies_for fault) old new (Ends result) result

@@ -1,4 +1,5 @@
 pub mod States
+pub mod Texts
 pub mod Turns
 pub mod Asking
 pub mod Reasons

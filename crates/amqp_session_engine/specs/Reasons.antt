@@ -1,5 +1,5 @@
 -- Why a session stops.
-use Rattle.std.specs.Prelude.{◌≡◌, Option, Some, None, Result, Err}
+use Rattle.std.specs.Prelude.{◌≡◌, ◌||◌, Bool, false, Option, Some, None, Result, Err, is_some}
 use Rattle.amqp_txn_types.specs.declared.delivery.Error.{Error}
 use Rattle.amqp_txn_types.specs.declared.delivery.ConnectionStopReason.{ConnectionStopReason}
 use Rattle.amqp_txn_types.specs.declared.delivery.ConnectionStopReason.TheVariants as cut_offs
@@ -22,6 +22,15 @@ abbrev pub remote_stop : Option Error → Option ConnectionStopReason → Sessio
 remote_stop (Some error) connection = reasons.RemoteEndedWithError error
 remote_stop None (Some reason) = reasons.ConnectionStopped reason
 remote_stop None None = reasons.RemoteEnded
+
+-- what a reason of this side is copied from: its error, or the connection's reason
+abbrev pub copies_local : Option Error → Option ConnectionStopReason → Bool
+copies_local error connection = is_some error || is_some connection
+
+-- what a reason of the peer is copied from: the connection's reason, where its end has no error
+abbrev pub copies_remote : Option Error → Option ConnectionStopReason → Bool
+copies_remote (Some error) connection = false
+copies_remote None connection = is_some connection
 
 -- why the connection stopped, where that is known
 abbrev pub reason_or_closed : Option ConnectionStopReason → ConnectionStopReason

@@ -142,8 +142,8 @@ pub(crate) fn serve<S: Session + HandleDeclare + HandleDischarge, G: IdSource>(
         result }
     ensures transactions { ControlsTransactions ⟦<S as Tells>⟧.told S.allocate_gives S.commit_gives
         S.rollback_gives session.old session.new (G.next ids.old) (G.next ids.new) control result }
-    ensures others { ControlsOthers ⟦<S as Tells>⟧.told S.check_gives session.old session.new
-        control result }
+    ensures others { ControlsOthers ⟦<S as Tells>⟧.told S.kept S.names S.check_gives session.old
+        session.new control result }
     ensures start { G.start ids.new ≡ G.start ids.old }
     ensures draws { OnFalse (is_allocation control) (ids.new ≡ ids.old) }
     ensures cause { CausedBy false (Rose (⟦<S as Tells>⟧.told session.old).refusals

@@ -21,6 +21,10 @@ pub enum ConnectionControl {
 }
 
 impl fmt::Display for ConnectionControl {
+    ghost use Rattle.amqp_session_engine.specs.Texts.{text_of_connection_control};
+
+    ghost output = { text_of_connection_control };
+
     fn fmt<W: fmt::Write>(&self, f: &mut fmt::Formatter<W>) -> fmt::Result {
         match self {
             ConnectionControl::Close(error) => write!(f, "Close({error:?})"),
@@ -77,6 +81,10 @@ pub enum SessionControl {
 }
 
 impl fmt::Display for SessionControl {
+    ghost use Rattle.amqp_session_engine.specs.Texts.{text_of_control};
+
+    ghost output = { text_of_control };
+
     fn fmt<W: fmt::Write>(&self, f: &mut fmt::Formatter<W>) -> fmt::Result {
         match self {
             SessionControl::End(error) => write!(f, "End({error:?})"),

@@ -1,10 +1,10 @@
 //! How a session ends. Part 2 of the standard, section 2.5.2 (ending a session).
 
-ghost use Rattle.std.specs.Prelude.{◌≡◌, false, not};
+ghost use Rattle.std.specs.Prelude.{◌≡◌, false, is_some, not};
 ghost use Rattle.amqp_txn_types.specs.Counts.{Rose};
-ghost use Rattle.amqp_session_engine.specs.Asking.{OrNoMemory};
-ghost use Rattle.amqp_session_engine.specs.Ending.{AnswersOutcome, EndsSession, KeepsAndAnswers, KeepsAndEnds, PeerAnswersEnd, PeerEnds, SendsEnd, TakesEnd};
-ghost use Rattle.amqp_session_engine.specs.Reasons.{KeepsStop, stop_of_outcome};
+ghost use Rattle.amqp_session_engine.specs.Asking.{OrNoCopy};
+ghost use Rattle.amqp_session_engine.specs.Ending.{AnswersOutcome, EndsSession, Finishes, KeepsAndAnswers, KeepsAndEnds, PeerAnswersEnd, PeerEnds, SendsEnd, TakesEnd, answer_of};
+ghost use Rattle.amqp_session_engine.specs.Reasons.{copies_local, stop_of_outcome};
 ghost use Rattle.amqp_session_engine.specs.States.{takes_end};
 ghost use Rattle.amqp_session_engine.specs.Turns.{CausedBy};
 
@@ -60,7 +60,8 @@ pub(crate) fn end_by_control<S: Session>(
     session: &mut S,
     error: Option<Error>,
 ) -> Result<Turn, SessionInnerError>
-    ensures ends { OrNoMemory session.old session.new
+    ensures ends { OrNoCopy (copies_local error (S.kept session.old).connection) session.old
+        session.new
         (KeepsAndEnds S.told S.kept S.names S.stop_gives S.end_sent_gives session.old session.new
         error result) result }
     ensures cause { CausedBy false (Rose (S.told session.old).refusals
@@ -146,12 +147,22 @@ pub(crate) fn take_end<S: Session>(
     }
 }
 
+/// What is answered for an outcome: that the connection stopped is no fault of the session.
+fn answer_of(outcome: Result<(), SessionInnerError>) -> Result<(), SessionInnerError>
+    ensures { result ≡ answer_of outcome }
+{
+    match outcome {
+        Err(SessionInnerError::ConnectionStopped(_)) => Ok(()),
+        other => other,
+    }
+}
+
 /// The reason that an outcome tells, and what is answered for it.
 fn reason_and_answer(
     outcome: Result<(), SessionInnerError>,
 ) -> (SessionStopReason, Result<(), SessionInnerError>)
     ensures reason { result.0 ≡ stop_of_outcome outcome }
-    ensures answer { AnswersOutcome outcome result.1 }
+    ensures answer { AnswersOutcome false outcome result.1 }
 {
     match outcome {
         Err(SessionInnerError::ConnectionStopped(reason)) => {
@@ -172,15 +183,27 @@ fn reason_and_answer(
     }
 }
 
+/// Whether it is kept why the session stopped.
+fn has_stopped<S: Session>(session: &S) -> bool
+    ensures { result ≡ is_some (S.kept session.now).stop }
+{
+    match session.session_stop_reason() {
+        None => false,
+        Some(_) => true,
+    }
+}
+
 /// Keeps the reason that the outcome tells, where none is kept.
 pub(crate) fn finish<S: Session>(
     session: &mut S,
     outcome: Result<(), SessionInnerError>,
 ) -> Result<(), SessionInnerError>
-    ensures keeps { KeepsStop S.told S.kept S.names S.stop_gives session.old session.new
-        (stop_of_outcome outcome) }
-    ensures answer { AnswersOutcome outcome result }
+    ensures keeps { Finishes S.told S.kept S.names S.stop_gives session.old session.new outcome }
+    ensures answer { AnswersOutcome (is_some (S.kept session.old).stop) outcome result }
 {
+    if has_stopped(session) {
+        return answer_of(outcome);
+    }
     let (reason, answer) = reason_and_answer(outcome);
     session.set_session_stop_reason(reason);
     answer

@@ -1,6 +1,6 @@
 //! The engine of a session: one call for each event.
 
-ghost use Rattle.std.specs.Prelude.{◌≡◌, Err, IfErr, MatchBool, Ok, false, not};
+ghost use Rattle.std.specs.Prelude.{◌≡◌, Err, IfErr, MatchBool, Ok, false, is_some, not};
 ghost use Rattle.std.specs.Bool.{OnFalse, OnTrue};
 ghost use Rattle.amqp_txn_types.specs.Counts.{Rose};
 ghost use Rattle.amqp_layer.specs.declared.inner_error.SessionInnerError.TheVariants as faults;
@@ -8,11 +8,11 @@ ghost use Rattle.amqp_session_engine.specs.declared.turn.Running.TheVariants as 
 ghost use Rattle.amqp_session_engine.specs.Asking.{OrNoMemory};
 ghost use Rattle.amqp_session_engine.specs.Beginning.{SendsBegin};
 ghost use Rattle.amqp_session_engine.specs.Controls.{ControlsEnd, ControlsLinks, ControlsOthers, ControlsTransactions, draws_ids, is_served};
-ghost use Rattle.amqp_session_engine.specs.Ending.{AnswersOutcome, EndsSession, TakesEnd};
+ghost use Rattle.amqp_session_engine.specs.Ending.{AnswersOutcome, EndsSession, Finishes, TakesEnd};
 ghost use Rattle.amqp_session_engine.specs.Faults.{EndsFor, error_of_fault, is_cut_off};
 ghost use Rattle.amqp_session_engine.specs.Incoming.{OnBegin, OnEnd, OnLink, TakesBegin, TakesLink, is_unexpected};
 ghost use Rattle.amqp_session_engine.specs.Outgoing.{SendsLink};
-ghost use Rattle.amqp_session_engine.specs.Reasons.{KeepsConnectionStop, KeepsStop, stop_of_outcome};
+ghost use Rattle.amqp_session_engine.specs.Reasons.{KeepsConnectionStop};
 ghost use Rattle.amqp_session_engine.specs.States.{awaits_end, is_mapped};
 ghost use Rattle.amqp_session_engine.specs.Turns.{CausedBy, Unasked, quiet};
 
@@ -94,8 +94,8 @@ impl<S: Session> SessionEngine<S> {
     ///
     /// Errors: `IllegalState` for an end in any other state; what the session refused; `NoMemory`
     /// where the reason why the connection stopped can't be copied, which leaves the session as it
-    /// was. Where the session refuses to send its end, the peer's end has been taken and the reason
-    /// is kept.
+    /// was: the end has to be given again, or the session dropped. Where the session refuses to
+    /// send its end, the peer's end has been taken and the reason is kept.
     pub fn on_incoming(&mut self, frame: SessionFrame) -> Result<Turn, SessionInnerError>
         ensures link { OnLink frame.body (λ link.
             MatchBool (awaits_end (S.told self.old).fixed.state)
@@ -130,7 +130,7 @@ impl<S: Session> SessionEngine<S> {
     /// for want of room for the frame, which is made before the session is asked.
     pub fn on_outgoing_link_frames(&mut self, frame: LinkFrame) -> Result<Turn, SessionInnerError>
         ensures sends { MatchBool (is_mapped (S.told self.old).fixed.state)
-            (OrNoMemory self.old self.new (SendsLink S.told S.outgoing_attach_gives
+            (OrNoMemory self.old self.new (SendsLink S.told S.kept S.names S.outgoing_attach_gives
             S.outgoing_flow_gives S.outgoing_transfer_gives S.check_gives S.outgoing_detach_gives
             self.old self.new frame result) result)
             (Unasked self.old self.new (Err faults.IllegalState) result) }
@@ -180,16 +180,16 @@ impl<S: Session> SessionEngine<S> {
     }
 
     /// The session, once its engine has done its work: the reason that the outcome tells is kept,
-    /// where none is. That the connection stopped is no fault of the session: it is answered Ok.
-    /// The error of a `RemoteEndedWithError` is in the reason and in the answer; where it can't be
-    /// copied, the answer is `NoMemory`.
+    /// where none is; else the session stays as it is. The outcome is answered, but that the
+    /// connection stopped is no fault of the session: that is answered Ok. Where no reason was
+    /// kept, the error of a `RemoteEndedWithError` is in the reason and in the answer; where it
+    /// can't be copied, the answer is `NoMemory`.
     pub fn finish(
         self,
         outcome: Result<(), SessionInnerError>,
     ) -> (S, Result<(), SessionInnerError>)
-        ensures keeps { KeepsStop S.told S.kept S.names S.stop_gives self result.0
-            (stop_of_outcome outcome) }
-        ensures answer { AnswersOutcome outcome result.1 }
+        ensures keeps { Finishes S.told S.kept S.names S.stop_gives self result.0 outcome }
+        ensures answer { AnswersOutcome (is_some (S.kept self).stop) outcome result.1 }
     {
         let SessionEngine {
             mut session,
@@ -209,8 +209,8 @@ impl<S: Session> SessionEngine<S> {
 }
 
 impl<S: ListenerSessionEndpoint> SessionEngine<S> {
-    /// Begins a session that the peer began: its begin is to be sent, and the session is ready. It
-    /// takes no memory of its own; later turns take it from `alloc`.
+    /// Begins a session of a listener: its begin is to be sent, and it is ready where the peer's
+    /// had come. It takes no memory of its own; later turns take it from `alloc`.
     ///
     /// Errors: the session's refusal to send a begin, with the session.
     pub fn begin_listener_session(
@@ -253,7 +253,8 @@ impl<S: Session + HandleDeclare + HandleDischarge> SessionEngine<S> {
             (ControlsTransactions ⟦<S as Tells>⟧.told S.allocate_gives S.commit_gives
             S.rollback_gives self.old self.new (G.next ids.old) (G.next ids.new) control result) }
         ensures others { OnTrue (is_mapped (⟦<S as Tells>⟧.told self.old).fixed.state)
-            (ControlsOthers ⟦<S as Tells>⟧.told S.check_gives self.old self.new control result) }
+            (ControlsOthers ⟦<S as Tells>⟧.told S.kept S.names S.check_gives self.old self.new
+            control result) }
         ensures start { G.start ids.new ≡ G.start ids.old }
         ensures draws { OnFalse (draws_ids (⟦<S as Tells>⟧.told self.old).fixed.state control)
             (ids.new ≡ ids.old) }

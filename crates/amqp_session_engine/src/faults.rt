@@ -1,10 +1,10 @@
 //! With which error a session is ended for a fault.
 
-ghost use Rattle.std.specs.Prelude.{◌≡◌, IfOk, false};
+ghost use Rattle.std.specs.Prelude.{◌≡◌, IfOk, OnErr, false, true};
 ghost use Rattle.std.specs.Bool.{OnFalse};
 ghost use Rattle.amqp_txn_types.specs.Counts.{Rose};
 ghost use Rattle.amqp_session_engine.specs.Ending.{EndsSession};
-ghost use Rattle.amqp_session_engine.specs.Faults.{EndsFor, error_of_fault, is_cut_off, plain_error, told_error};
+ghost use Rattle.amqp_session_engine.specs.Faults.{EndsFor, copies_for, error_of_fault, is_cut_off, plain_error, told_error};
 ghost use Rattle.amqp_session_engine.specs.Turns.{CausedBy};
 
 use crate::ending::end_session;
@@ -44,7 +44,8 @@ fn told_error(
 
 /// The error of the end that is sent for a fault.
 fn error_of_fault(alloc: Global, fault: &SessionInnerError) -> Result<Option<Error>, NoMemory>
-    ensures { IfOk result (λ error. error ≡ error_of_fault fault.now) }
+    ensures value { IfOk result (λ error. error ≡ error_of_fault fault.now) }
+    ensures made { OnErr result (copies_for fault.now ≡ true) }
 {
     match fault {
         SessionInnerError::UnattachedHandle => Ok(plain_error(ErrorCondition::SessionError(

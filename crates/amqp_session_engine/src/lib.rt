@@ -6,7 +6,7 @@
 //! | [`ClientBegin`] | a session of this side whose begin was sent, until the peer's comes |
 //! | [`SessionFrame`] | a frame as it comes |
 //! | [`SessionControl`], [`ConnectionControl`] | what is asked of a session and of a connection |
-//! | [`Turn`], [`Running`], [`ControlReply`] | what an event is answered: what to send, and the reply |
+//! | [`Turn`], [`Running`], [`ControlReply`] | what an event is answered: frames and a reply |
 //!
 //! ```text
 //! let (begun, begin) = SessionEngine::begin_client_session(alloc, session)?; // send the begin
@@ -24,10 +24,11 @@
 //! ```text
 //!  begin_client_session                     begin_listener_session
 //!           │                                         │
-//!       Unmapped                                BeginReceived
+//!       Unmapped ──── on_incoming: begin ─────► BeginReceived
 //!           │ a begin is sent                         │ a begin is sent
 //!           ▼                                         │
-//!       BeginSent ──── on_frame: begin ────► Mapped ◄─┘
+//!       BeginSent ─── on_frame, or ────────► Mapped ◄─┘
+//!                     on_incoming: begin     │    │
 //!                                            │    │
 //!      on_incoming: end. A reason is kept,   │    │  on_control: End (a reason is kept),
 //!      and an end is sent                    │    │  on_error, end_session: an end is sent
@@ -35,8 +36,9 @@
 //!                      ▼                          ▼ no error      ▼ with an error
 //!                 EndReceived                  EndSent        Discarding      Waiting: what comes
 //!                      │                          │               │           is dropped, until
-//!                      │ at once                  └───────┬───────┘           the peer's end
-//!                      ▼                                  │ on_incoming: end
+//!                      │ at once, or              └───────┬───────┘           the peer's end
+//!                      │ end_session                      │ on_incoming: end
+//!                      ▼                                  │
 //!                  Unmapped ◄─────────────────────────────┘
 //!                    Stop
 //! ```
@@ -52,23 +54,15 @@
 #![tactic(auto)]
 
 mod beginning;
-#[cfg(test)]
-mod control_tests;
 mod controlling;
 mod controls;
 mod ending;
 mod engine;
-#[cfg(test)]
-mod engine_tests;
 mod faults;
 mod incoming;
 mod outgoing;
 mod reasons;
 mod states;
-#[cfg(test)]
-mod test_values;
-#[cfg(test)]
-mod text_tests;
 mod turn;
 
 pub use beginning::ClientBegin;

@@ -15,15 +15,16 @@ use amqp_txn_types::{Disposition, Frame, InputHandle, LinkFlow, LinkFrame, Paylo
 use std::alloc::Global;
 
 /// A disposition that the session passes is to be sent.
-fn pass_disposition<S: LayerBelow>(
+fn pass_disposition<S: Session>(
     room: Vec<Frame>,
     session: &mut S,
     disposition: Disposition,
 ) -> Result<Turn, SessionInnerError>
     requires empty { room.items ≡ [] }
     requires room { vec_len room < vec_capacity room }
-    ensures passes { Passes S.told (S.check_gives session.old session.new disposition) session.old
-        session.new (frames.Disposition disposition) result }
+    ensures passes { Passes S.told S.kept S.names
+        (S.check_gives session.old session.new disposition) session.old session.new
+        (frames.Disposition disposition) result }
     ensures cause { CausedBy false (Rose (S.told session.old).refusals
         (S.told session.new).refusals) result }
 {
@@ -32,14 +33,14 @@ fn pass_disposition<S: LayerBelow>(
 }
 
 /// A disposition that the session passes is to be sent. Room is made before the session is asked.
-pub(crate) fn send_disposition<S: LayerBelow>(
+pub(crate) fn send_disposition<S: Session>(
     alloc: Global,
     session: &mut S,
     disposition: Disposition,
 ) -> Result<Turn, SessionInnerError>
     ensures sends { OrNoMemory session.old session.new
-        (Passes S.told (S.check_gives session.old session.new disposition) session.old session.new
-        (frames.Disposition disposition) result) result }
+        (Passes S.told S.kept S.names (S.check_gives session.old session.new disposition)
+        session.old session.new (frames.Disposition disposition) result) result }
     ensures cause { CausedBy false (Rose (S.told session.old).refusals
         (S.told session.new).refusals) result }
 {
@@ -55,8 +56,8 @@ fn pass_flow<S: Session>(
 ) -> Result<Turn, SessionInnerError>
     requires empty { room.items ≡ [] }
     requires room { vec_len room < vec_capacity room }
-    ensures passes { SendsFlow S.told (S.outgoing_flow_gives session.old session.new flow)
-        session.old session.new result }
+    ensures passes { SendsFlow S.told S.kept S.names
+        (S.outgoing_flow_gives session.old session.new flow) session.old session.new result }
     ensures cause { CausedBy false (Rose (S.told session.old).refusals
         (S.told session.new).refusals) result }
 {
@@ -75,7 +76,7 @@ fn pass_transfer<S: Session>(
 ) -> Result<Turn, SessionInnerError>
     requires empty { room.items ≡ [] }
     requires room { vec_len room < vec_capacity room }
-    ensures passes { ((numbered : Numbered) × Passes S.told
+    ensures passes { ((numbered : Numbered) × Passes S.told S.kept S.names
         (S.outgoing_transfer_gives session.old session.new input transfer numbered is_first)
         session.old session.new (frames.Transfer numbered payload) result) }
     ensures cause { CausedBy false (Rose (S.told session.old).refusals
@@ -93,9 +94,9 @@ fn pass_link<S: Session>(
 ) -> Result<Turn, SessionInnerError>
     requires empty { room.items ≡ [] }
     requires room { vec_len room < vec_capacity room }
-    ensures passes { SendsLink S.told S.outgoing_attach_gives S.outgoing_flow_gives
-        S.outgoing_transfer_gives S.check_gives S.outgoing_detach_gives session.old session.new
-        frame result }
+    ensures passes { SendsLink S.told S.kept S.names S.outgoing_attach_gives
+        S.outgoing_flow_gives S.outgoing_transfer_gives S.check_gives S.outgoing_detach_gives
+        session.old session.new frame result }
     ensures cause { CausedBy false (Rose (S.told session.old).refusals
         (S.told session.new).refusals) result }
 {
@@ -127,8 +128,9 @@ pub(crate) fn send_link<S: Session>(
     frame: LinkFrame,
 ) -> Result<Turn, SessionInnerError>
     ensures sends { OrNoMemory session.old session.new
-        (SendsLink S.told S.outgoing_attach_gives S.outgoing_flow_gives S.outgoing_transfer_gives
-        S.check_gives S.outgoing_detach_gives session.old session.new frame result) result }
+        (SendsLink S.told S.kept S.names S.outgoing_attach_gives S.outgoing_flow_gives
+        S.outgoing_transfer_gives S.check_gives S.outgoing_detach_gives session.old session.new
+        frame result) result }
     ensures cause { CausedBy false (Rose (S.told session.old).refusals
         (S.told session.new).refusals) result }
 {

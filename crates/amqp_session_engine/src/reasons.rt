@@ -1,7 +1,7 @@
 //! Why a session stops.
 
-ghost use Rattle.std.specs.Prelude.{◌≡◌, IfOk};
-ghost use Rattle.amqp_session_engine.specs.Reasons.{local_stop, reason_or_closed, remote_stop};
+ghost use Rattle.std.specs.Prelude.{◌≡◌, IfOk, OnErr, is_some, true};
+ghost use Rattle.amqp_session_engine.specs.Reasons.{copies_local, copies_remote, local_stop, reason_or_closed, remote_stop};
 
 use amqp_sessions::Session;
 use amqp_txn_types::{ConnectionStopReason, End, Error, NoMemory, SessionStopReason, TryClone};
@@ -10,7 +10,8 @@ use amqp_txn_types::{ConnectionStopReason, End, Error, NoMemory, SessionStopReas
 pub(crate) fn connection_stop<S: Session>(
     session: &S,
 ) -> Result<Option<ConnectionStopReason>, NoMemory>
-    ensures { IfOk result (λ copy. copy ≡ (S.kept session.now).connection) }
+    ensures value { IfOk result (λ copy. copy ≡ (S.kept session.now).connection) }
+    ensures copied { OnErr result (is_some (S.kept session.now).connection ≡ true) }
 {
     match session.connection_stop_reason() {
         None => Ok(None),
@@ -22,7 +23,9 @@ pub(crate) fn connection_stop<S: Session>(
 pub(crate) fn connection_stop_or_closed<S: Session>(
     session: &S,
 ) -> Result<ConnectionStopReason, NoMemory>
-    ensures { IfOk result (λ copy. copy ≡ reason_or_closed (S.kept session.now).connection) }
+    ensures value { IfOk result (λ copy.
+        copy ≡ reason_or_closed (S.kept session.now).connection) }
+    ensures copied { OnErr result (is_some (S.kept session.now).connection ≡ true) }
 {
     match session.connection_stop_reason() {
         None => Ok(ConnectionStopReason::Closed),
@@ -35,8 +38,10 @@ pub(crate) fn local_stop<S: Session>(
     session: &S,
     error: &Option<Error>,
 ) -> Result<SessionStopReason, NoMemory>
-    ensures { IfOk result (λ reason.
+    ensures value { IfOk result (λ reason.
         reason ≡ local_stop error.now (S.kept session.now).connection) }
+    ensures copied { OnErr result
+        (copies_local error.now (S.kept session.now).connection ≡ true) }
 {
     if let Some(error) = error {
         return Ok(SessionStopReason::EndedWithError(error.try_clone()?));
@@ -53,8 +58,10 @@ pub(crate) fn connection_stop_for<S: Session>(
     session: &S,
     end: &End,
 ) -> Result<Option<ConnectionStopReason>, NoMemory>
-    ensures { IfOk result (λ copy. remote_stop end.now.error copy
+    ensures value { IfOk result (λ copy. remote_stop end.now.error copy
         ≡ remote_stop end.now.error (S.kept session.now).connection) }
+    ensures copied { OnErr result
+        (copies_remote end.now.error (S.kept session.now).connection ≡ true) }
 {
     if end.error.is_some() {
         return Ok(None);

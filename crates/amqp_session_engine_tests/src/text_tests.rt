@@ -1,7 +1,7 @@
 //! The texts of controls.
 
 use crate::test_values::{disposition, error, relay};
-use crate::*;
+use amqp_session_engine::*;
 use amqp_txn_types::{
     AmqpError, ConnectionError, Error, ErrorCondition, InputHandle, OutgoingChannel, OutputHandle,
     Text, TransactionId,

@@ -1,0 +1,280 @@
+//! Each control and each outgoing frame once, over a plain session.
+
+use crate::test_values::{
+    asked, attach, detach, disposition, ended, error, gives, mapped, only_frame, quiet, refuses,
+    relay, replied, sent, stopped_for, transfer, turn,
+};
+use amqp_layer::SessionInnerError;
+use amqp_session_engine::*;
+use amqp_sessions::{AllocTxnIdError, PlainSession};
+use amqp_txn_types::{
+    Binary, ConnectionError, End, ErrorCondition, Flow, Frame, Handle, InputHandle, LinkFlow,
+    LinkFrame, OutputHandle, Payload, SessionStopReason, Text, TransactionError, TransactionId,
+};
+use std::alloc::Global;
+use std::process::Abort;
+use std::test::Fail;
+
+/// Whether the engine answers a control so.
+fn answers(mut engine: SessionEngine<PlainSession>, control: SessionControl, wanted: Turn) -> bool {
+    let answer = asked(&mut engine, control);
+    drop(engine);
+    gives(answer, wanted)
+}
+
+/// Whether a mapped session gives this reply.
+fn replies<R: Abort>(rt: &R, alloc: Global, control: SessionControl, reply: ControlReply) -> bool {
+    let engine = mapped(alloc).expect(rt, "a session");
+    answers(engine, control, replied(alloc, reply))
+}
+
+#[test]
+fn links_are_allocated(rt: HostRuntime) {
+    let alloc = rt.alloc();
+    let control = SessionControl::AllocateLink {
+        link_name: Text::new(alloc),
+        link_relay: relay(alloc),
+    };
+    assert!(rt;
+        replies(
+            &rt,
+            alloc,
+            control,
+            ControlReply::Linked(Ok(OutputHandle(0)))
+        )
+    );
+}
+
+#[test]
+fn incoming_links_are_allocated(rt: HostRuntime) {
+    let alloc = rt.alloc();
+    let control = SessionControl::AllocateIncomingLink {
+        link_name: Text::new(alloc),
+        link_relay: relay(alloc),
+        input_handle: InputHandle(1),
+    };
+    assert!(rt;
+        replies(
+            &rt,
+            alloc,
+            control,
+            ControlReply::Linked(Ok(OutputHandle(0)))
+        )
+    );
+}
+
+#[test]
+fn a_connection_is_to_be_closed(rt: HostRuntime) {
+    let condition = ConnectionError::FramingError;
+    let control = SessionControl::CloseConnectionWithError(condition, None);
+    let closing = error(ErrorCondition::ConnectionError(condition));
+    assert!(rt;
+        replies(
+            &rt,
+            rt.alloc(),
+            control,
+            ControlReply::CloseConnection(closing)
+        )
+    );
+}
+
+#[test]
+fn a_plain_session_allocates_no_ids(rt: HostRuntime) {
+    let refused = ControlReply::Allocated(Err(AllocTxnIdError::NotImplemented));
+    assert!(rt;
+        replies(
+            &rt,
+            rt.alloc(),
+            SessionControl::AllocateTransactionId,
+            refused
+        )
+    );
+}
+
+#[test]
+fn a_plain_session_discharges_nothing(rt: HostRuntime) -> Result<(), Fail> {
+    let txn_id = TransactionId::new(b"t")?;
+    let uncommitted = ControlReply::Committed(Err(TransactionError::UnknownId));
+    assert!(rt;
+        replies(
+            &rt,
+            rt.alloc(),
+            SessionControl::CommitTransaction { txn_id },
+            uncommitted
+        )
+    );
+    let unended = ControlReply::RolledBack(Err(TransactionError::UnknownId));
+    assert!(rt;
+        replies(
+            &rt,
+            rt.alloc(),
+            SessionControl::RollbackTransaction { txn_id },
+            unended
+        )
+    );
+    Ok(())
+}
+
+#[test]
+fn some_controls_have_no_reply(rt: HostRuntime) -> Result<(), Fail> {
+    let abort = SessionControl::AbortTransaction(TransactionId::new(b"t")?);
+    assert!(rt; replies(&rt, rt.alloc(), abort, ControlReply::Nothing));
+    let free = SessionControl::DeallocateLink(OutputHandle(0));
+    assert!(rt; replies(&rt, rt.alloc(), free, ControlReply::Nothing));
+    Ok(())
+}
+
+#[test]
+fn an_end_keeps_its_reason(rt: HostRuntime) {
+    let alloc = rt.alloc();
+    let mut engine = mapped(alloc).expect(&rt, "a session");
+    let answer = asked(&mut engine, SessionControl::End(None));
+    let ended = Some(End { error: None });
+    assert!(rt; gives(answer, turn(alloc, Running::Waiting, ended)));
+    assert!(rt; stopped_for(engine.session(), SessionStopReason::Ended));
+    drop(engine);
+}
+
+#[test]
+fn an_end_is_sent_once(rt: HostRuntime) {
+    let alloc = rt.alloc();
+    let engine = ended(alloc).expect(&rt, "a session");
+    assert!(rt;
+        answers(
+            engine,
+            SessionControl::End(None),
+            quiet(alloc, Running::Waiting)
+        )
+    );
+}
+
+#[test]
+fn a_control_outside_mapped_is_illegal(rt: HostRuntime) {
+    let mut engine = ended(rt.alloc()).expect(&rt, "a session");
+    let refused = asked(&mut engine, SessionControl::DeallocateLink(OutputHandle(0)));
+    drop(engine);
+    assert!(rt; refuses(refused, SessionInnerError::IllegalState));
+}
+
+#[test]
+fn a_disposition_is_sent(rt: HostRuntime) {
+    let mut engine = mapped(rt.alloc()).expect(&rt, "a session");
+    let only = only_frame(asked(&mut engine, SessionControl::Disposition(disposition())));
+    drop(engine);
+    assert!(rt; only == Some(Frame::Disposition(disposition())));
+}
+
+/// Whether a mapped session sends this frame for that of a link.
+fn sends<R: Abort>(rt: &R, alloc: Global, frame: LinkFrame, wanted: Frame) -> bool {
+    let mut engine = mapped(alloc).expect(rt, "a session");
+    let only = only_frame(sent(&mut engine, frame));
+    drop(engine);
+    only == Some(wanted)
+}
+
+#[test]
+fn an_attach_is_sent(rt: HostRuntime) {
+    let alloc = rt.alloc();
+    let wanted = Frame::Attach(attach(alloc));
+    assert!(rt; sends(&rt, alloc, LinkFrame::Attach(attach(alloc)), wanted));
+}
+
+#[test]
+fn a_links_disposition_is_sent(rt: HostRuntime) {
+    let wanted = Frame::Disposition(disposition());
+    assert!(rt;
+        sends(
+            &rt,
+            rt.alloc(),
+            LinkFrame::Disposition(disposition()),
+            wanted
+        )
+    );
+}
+
+#[test]
+fn a_detach_is_sent(rt: HostRuntime) {
+    let wanted = Frame::Detach(detach());
+    assert!(rt; sends(&rt, rt.alloc(), LinkFrame::Detach(detach()), wanted));
+}
+
+#[test]
+fn a_continuation_is_sent_as_it_is(rt: HostRuntime) {
+    let frame = LinkFrame::Transfer {
+        input: InputHandle(5),
+        transfer: transfer(),
+        payload: Payload::new(),
+        is_first: false,
+    };
+    let wanted = Frame::Transfer {
+        transfer: transfer(),
+        payload: Payload::new(),
+    };
+    assert!(rt; sends(&rt, rt.alloc(), frame, wanted));
+}
+
+/// A first transfer with this tag.
+fn first(tag: Option<Binary>) -> LinkFrame {
+    let mut transfer = transfer();
+    transfer.delivery_tag = tag;
+    LinkFrame::Transfer {
+        input: InputHandle(5),
+        transfer,
+        payload: Payload::new(),
+        is_first: true,
+    }
+}
+
+/// The id that the one transfer to be sent has.
+fn delivery_id(answer: Result<Turn, SessionInnerError>) -> Option<u32> {
+    match only_frame(answer) {
+        Some(Frame::Transfer { transfer, .. }) => transfer.delivery_id,
+        _ => None,
+    }
+}
+
+#[test]
+fn a_first_transfer_gets_an_id(rt: HostRuntime) {
+    let mut engine = mapped(rt.alloc()).expect(&rt, "a session");
+    let answer = sent(&mut engine, first(Some(Binary::new(rt.alloc()))));
+    drop(engine);
+    assert_eq!(rt; delivery_id(answer), Some(0));
+}
+
+#[test]
+fn a_first_transfer_without_a_tag_is_illegal(rt: HostRuntime) {
+    let mut engine = mapped(rt.alloc()).expect(&rt, "a session");
+    let refused = sent(&mut engine, first(None));
+    drop(engine);
+    assert!(rt; refuses(refused, SessionInnerError::IllegalState));
+}
+
+fn flow() -> Flow {
+    Flow {
+        next_incoming_id: Some(0),
+        incoming_window: 2,
+        next_outgoing_id: 0,
+        outgoing_window: 2,
+        handle: Some(Handle(0)),
+        delivery_count: None,
+        link_credit: Some(10),
+        available: None,
+        drain: false,
+        echo: false,
+        properties: None,
+    }
+}
+
+#[test]
+fn a_flow_gets_the_sessions_numbers(rt: HostRuntime) {
+    let frame = LinkFrame::Flow(LinkFlow {
+        handle: Handle(0),
+        delivery_count: None,
+        link_credit: Some(10),
+        available: None,
+        drain: false,
+        echo: false,
+        properties: None,
+    });
+    assert!(rt; sends(&rt, rt.alloc(), frame, Frame::Flow(flow())));
+}

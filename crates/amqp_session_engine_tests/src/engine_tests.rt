@@ -1,0 +1,388 @@
+//! The engine over a plain session, called as its users call it.
+
+use crate::test_values::{
+    asked, attach, begin, begun, cut_off, detach, ended, error, failed, finished, frame, gives,
+    mapped, plain, plain_end, quiet, refuses, relay, sent, state, stopped_for, taken, told_to_end,
+    transfer, turn,
+};
+use amqp_acceptors::ControlLinkAcceptor;
+use amqp_layer::{LayerBelow, SessionInnerError};
+use amqp_listener::ListenerSession;
+use amqp_session_engine::*;
+use amqp_sessions::{BeginError, PlainSession, Session};
+use amqp_txn_types::{
+    AmqpError, Attach, ConnectionStopReason, End, Error, ErrorCondition, Frame, InputHandle,
+    LinkFrame, OutputHandle, Payload, SessionState, SessionStopReason, Text, TransactionError,
+    TryClone,
+};
+use std::alloc::Global;
+use std::process::Abort;
+
+fn transfer_frame() -> SessionFrameBody {
+    SessionFrameBody::Link(Frame::Transfer {
+        transfer: transfer(),
+        payload: Payload::new(),
+    })
+}
+
+/// The engine of a mapped session with a receiving link of the peer's handle 5.
+fn with_link(alloc: Global) -> Option<SessionEngine<PlainSession>> {
+    let mut engine = mapped(alloc)?;
+    let control = SessionControl::AllocateIncomingLink {
+        link_name: Text::new(alloc),
+        link_relay: relay(alloc),
+        input_handle: InputHandle(5),
+    };
+    drop(asked(&mut engine, control));
+    Some(engine)
+}
+
+fn not_allowed() -> Error {
+    error(ErrorCondition::AmqpError(AmqpError::NotAllowed))
+}
+
+/// How many transfers came to the link.
+fn transfers(engine: &SessionEngine<PlainSession>) -> Option<u64> {
+    match engine.session().relay(OutputHandle(0)) {
+        None => None,
+        Some(relay) => Some(relay.transfers),
+    }
+}
+
+fn is_window(answer: Result<Turn, SessionInnerError>) -> bool {
+    match answer {
+        Ok(turn) => turn.running == Running::Continue && turn.sent.window.is_some(),
+        Err(fault) => {
+            drop(fault);
+            false
+        }
+    }
+}
+
+#[test]
+fn a_transfer_reaches_the_session(rt: HostRuntime) {
+    let mut engine = with_link(rt.alloc()).expect(&rt, "a session");
+    assert!(rt; is_window(taken(&mut engine, transfer_frame())));
+    assert_eq!(rt; transfers(&engine), Some(1));
+    drop(engine);
+}
+
+#[test]
+fn an_unknown_id_ends_the_session(rt: HostRuntime) {
+    let alloc = rt.alloc();
+    let mut engine = mapped(alloc).expect(&rt, "a session");
+    let answer = failed(&mut engine, &SessionInnerError::UnknownTxnId);
+    let unknown = ErrorCondition::TransactionError(TransactionError::UnknownId);
+    let ended = Some(End {
+        error: Some(error(unknown)),
+    });
+    assert!(rt; gives(answer, turn(alloc, Running::Waiting, ended)));
+    assert!(rt; state(&engine) == SessionState::Discarding);
+    drop(engine);
+}
+
+#[test]
+fn what_comes_before_the_awaited_end_is_dropped(rt: HostRuntime) {
+    let alloc = rt.alloc();
+    let mut engine = with_link(alloc).expect(&rt, "a session");
+    drop(failed(&mut engine, &SessionInnerError::UnknownTxnId));
+    let dropped = taken(&mut engine, transfer_frame());
+    assert!(rt; gives(dropped, quiet(alloc, Running::Waiting)));
+    let over = taken(&mut engine, plain_end());
+    assert!(rt; gives(over, quiet(alloc, Running::Stop)));
+    assert_eq!(rt; transfers(&engine), Some(0));
+    drop(engine);
+}
+
+#[test]
+fn the_peers_end_is_answered(rt: HostRuntime) {
+    let alloc = rt.alloc();
+    let mut engine = mapped(alloc).expect(&rt, "a session");
+    let answer = taken(&mut engine, plain_end());
+    let ended = Some(End { error: None });
+    assert!(rt; gives(answer, turn(alloc, Running::Stop, ended)));
+    assert!(rt; stopped_for(engine.session(), SessionStopReason::RemoteEnded));
+    drop(engine);
+}
+
+fn remote_close() -> SessionStopReason {
+    SessionStopReason::ConnectionStopped(ConnectionStopReason::RemoteClosed)
+}
+
+#[test]
+fn a_connection_that_stopped_is_the_reason(rt: HostRuntime) {
+    let mut engine = mapped(rt.alloc()).expect(&rt, "a session");
+    cut_off(&mut engine);
+    drop(taken(&mut engine, plain_end()));
+    assert!(rt; stopped_for(engine.session(), remote_close()));
+    drop(engine);
+}
+
+#[test]
+fn no_link_sends_after_the_end(rt: HostRuntime) {
+    let mut engine = ended(rt.alloc()).expect(&rt, "a session");
+    let refused = sent(&mut engine, LinkFrame::Detach(detach()));
+    drop(engine);
+    assert!(rt; refuses(refused, SessionInnerError::IllegalState));
+}
+
+#[test]
+fn a_session_runs_from_its_begin_to_its_stop(rt: HostRuntime) {
+    let alloc = rt.alloc();
+    let mut engine = ended(alloc).expect(&rt, "a session");
+    let over = taken(&mut engine, plain_end());
+    assert!(rt; gives(over, quiet(alloc, Running::Stop)));
+    let nothing_owed = told_to_end(&mut engine);
+    assert!(rt; gives(nothing_owed, quiet(alloc, Running::Stop)));
+    let (session, outcome) = finished(engine, Ok(()));
+    assert!(rt; gives(outcome, ()));
+    assert!(rt; stopped_for(&session, SessionStopReason::Ended));
+    drop(session);
+}
+
+/// The engine of a listener whose peer began the session.
+fn listener(alloc: Global) -> Option<SessionEngine<ListenerSession<PlainSession>>> {
+    let session = plain(alloc, SessionState::BeginReceived);
+    let listener = ListenerSession::new(alloc, session, ControlLinkAcceptor::default());
+    match SessionEngine::begin_listener_session(alloc, listener) {
+        Ok((engine, sent)) => {
+            drop(sent);
+            Some(engine)
+        }
+        Err(refused) => {
+            drop(refused);
+            None
+        }
+    }
+}
+
+fn heard(
+    engine: &mut SessionEngine<ListenerSession<PlainSession>>,
+    attach: Attach,
+) -> Result<Turn, SessionInnerError> {
+    engine.on_incoming(frame(SessionFrameBody::Link(Frame::Attach(attach))))
+}
+
+#[test]
+fn an_attach_waits_in_a_listener(rt: HostRuntime) {
+    let alloc = rt.alloc();
+    let mut engine = listener(alloc).expect(&rt, "a session");
+    let answer = heard(&mut engine, attach(alloc));
+    assert!(rt; gives(answer, quiet(alloc, Running::Continue)));
+    assert!(rt; engine.session().local_state() == SessionState::Mapped);
+    drop(engine);
+}
+
+/// The error of the end that is sent for a fault.
+fn error_sent(alloc: Global, fault: &SessionInnerError) -> Option<Error> {
+    let mut engine = mapped(alloc)?;
+    let answer = failed(&mut engine, fault);
+    drop(engine);
+    match answer {
+        Ok(turn) => error_of(turn.ended),
+        Err(fault) => {
+            drop(fault);
+            None
+        }
+    }
+}
+
+fn error_of(ended: Option<End>) -> Option<Error> {
+    match ended {
+        Some(end) => end.error,
+        None => None,
+    }
+}
+
+fn is_told(error: Option<Error>, condition: AmqpError, text: &str) -> bool {
+    match error {
+        Some(error) => is_error(error, condition, text),
+        None => false,
+    }
+}
+
+fn is_error(error: Error, condition: AmqpError, text: &str) -> bool {
+    let same_text = match &error.description {
+        Some(description) => description.as_str() == text,
+        None => false,
+    };
+    same_text && error.condition == ErrorCondition::AmqpError(condition)
+}
+
+#[test]
+fn some_faults_are_told_by_a_text(rt: HostRuntime) {
+    let unnamed = error_sent(
+        rt.alloc(),
+        &SessionInnerError::RemoteAttachingLinkNameNotFound,
+    );
+    assert!(rt; is_told(unnamed, AmqpError::InternalError, "Link name is not found"));
+    let to_sender = error_sent(rt.alloc(), &SessionInnerError::TransferFrameToSender);
+    let text = "Found Transfer frame sent Sender link";
+    assert!(rt; is_told(to_sender, AmqpError::NotAllowed, text));
+}
+
+#[test]
+fn a_stopped_connection_is_no_fault_of_the_session(rt: HostRuntime) {
+    let engine = mapped(rt.alloc()).expect(&rt, "a session");
+    let stopped = SessionInnerError::ConnectionStopped(ConnectionStopReason::RemoteClosed);
+    let (session, outcome) = finished(engine, Err(stopped));
+    assert!(rt; gives(outcome, ()));
+    assert!(rt; stopped_for(&session, remote_close()));
+    drop(session);
+}
+
+/// Whether the session came back for this error.
+fn came_back(
+    answer: Result<SessionEngine<PlainSession>, (PlainSession, BeginError)>,
+    wanted: BeginError,
+) -> bool {
+    match answer {
+        Ok(engine) => {
+            drop(engine);
+            false
+        }
+        Err((session, error)) => {
+            drop(session);
+            error == wanted
+        }
+    }
+}
+
+#[test]
+fn the_peers_begin_makes_the_session_ready(rt: HostRuntime) {
+    let engine = mapped(rt.alloc()).expect(&rt, "a session");
+    assert!(rt; state(&engine) == SessionState::Mapped);
+    drop(engine);
+}
+
+#[test]
+fn an_early_end_is_told(rt: HostRuntime) {
+    let begun = begun(rt.alloc()).expect(&rt, "a session");
+    assert!(rt; begun.session().local_state() == SessionState::BeginSent);
+    assert!(rt; came_back(begun.on_frame(frame(plain_end())), BeginError::RemoteEnded));
+}
+
+#[test]
+fn a_connection_may_stop_early(rt: HostRuntime) {
+    let mut begun = begun(rt.alloc()).expect(&rt, "a session");
+    begun.note_connection_stop(ConnectionStopReason::RemoteClosed);
+    let (session, error) = begun.connection_stopped();
+    drop(session);
+    let stopped = BeginError::ConnectionStopped(ConnectionStopReason::RemoteClosed);
+    assert!(rt; error == stopped);
+}
+
+#[test]
+fn the_peers_error_is_the_reason(rt: HostRuntime) {
+    let mut engine = mapped(rt.alloc()).expect(&rt, "a session");
+    let end = SessionFrameBody::End(End {
+        error: Some(not_allowed()),
+    });
+    drop(taken(&mut engine, end));
+    let reason = SessionStopReason::RemoteEndedWithError(not_allowed());
+    assert!(rt; stopped_for(engine.session(), reason));
+    drop(engine);
+}
+
+#[test]
+fn this_sides_error_is_the_reason(rt: HostRuntime) {
+    let mut engine = mapped(rt.alloc()).expect(&rt, "a session");
+    drop(asked(&mut engine, SessionControl::End(Some(not_allowed()))));
+    let reason = SessionStopReason::EndedWithError(not_allowed());
+    assert!(rt; stopped_for(engine.session(), reason));
+    assert!(rt; state(&engine) == SessionState::Discarding);
+    drop(engine);
+}
+
+#[test]
+fn an_end_after_the_connection_stopped_tells_it(rt: HostRuntime) {
+    let mut engine = mapped(rt.alloc()).expect(&rt, "a session");
+    cut_off(&mut engine);
+    drop(asked(&mut engine, SessionControl::End(None)));
+    assert!(rt; stopped_for(engine.session(), remote_close()));
+    drop(engine);
+}
+
+#[test]
+fn a_connection_that_stopped_is_answered(rt: HostRuntime) {
+    let mut engine = mapped(rt.alloc()).expect(&rt, "a session");
+    let stopped = SessionInnerError::ConnectionStopped(ConnectionStopReason::RemoteClosed);
+    let refused = failed(&mut engine, &stopped);
+    assert!(rt; state(&engine) == SessionState::Mapped);
+    drop(engine);
+    assert!(rt; refuses(refused, stopped));
+}
+
+/// Whether a mapped session whose outcome is this answers it and stopped for this reason.
+fn finishes<R: Abort>(
+    rt: &R,
+    alloc: Global,
+    outcome: Result<(), SessionInnerError>,
+    wanted: Result<(), SessionInnerError>,
+    reason: SessionStopReason,
+) -> bool {
+    let engine = mapped(alloc).expect(rt, "a session");
+    is_finished(finished(engine, outcome), wanted, reason)
+}
+
+fn is_finished(
+    ended: (PlainSession, Result<(), SessionInnerError>),
+    wanted: Result<(), SessionInnerError>,
+    reason: SessionStopReason,
+) -> bool {
+    let (session, answer) = ended;
+    let stopped = stopped_for(&session, reason);
+    drop(session);
+    stopped && answer == wanted
+}
+
+#[test]
+fn an_outcome_is_answered_and_kept(rt: HostRuntime) {
+    let alloc = rt.alloc();
+    assert!(rt; finishes(&rt, alloc, Ok(()), Ok(()), SessionStopReason::Ended));
+    let fault = Err(SessionInnerError::IllegalState);
+    let wanted = Err(SessionInnerError::IllegalState);
+    assert!(rt; finishes(&rt, alloc, fault, wanted, SessionStopReason::Ended));
+}
+
+#[test]
+fn the_error_of_an_outcome_is_answered_and_kept(rt: HostRuntime) {
+    let alloc = rt.alloc();
+    let outcome = Err(SessionInnerError::RemoteEndedWithError(not_allowed()));
+    let wanted = Err(SessionInnerError::RemoteEndedWithError(not_allowed()));
+    let reason = SessionStopReason::RemoteEndedWithError(not_allowed());
+    assert!(rt; finishes(&rt, alloc, outcome, wanted, reason));
+}
+
+#[test]
+fn the_first_reason_is_kept(rt: HostRuntime) {
+    let mut engine = mapped(rt.alloc()).expect(&rt, "a session");
+    drop(taken(&mut engine, plain_end()));
+    let outcome = Err(SessionInnerError::RemoteEndedWithError(not_allowed()));
+    let wanted = Err(SessionInnerError::RemoteEndedWithError(not_allowed()));
+    let ended = finished(engine, outcome);
+    assert!(rt; is_finished(ended, wanted, SessionStopReason::RemoteEnded));
+}
+
+#[test]
+fn a_connection_may_close_early(rt: HostRuntime) {
+    let begun = begun(rt.alloc()).expect(&rt, "a session");
+    let (session, error) = begun.connection_stopped();
+    drop(session);
+    assert!(rt; error == BeginError::ConnectionStopped(ConnectionStopReason::Closed));
+}
+
+/// Whether a copy of the frame equals it.
+fn copies(frame: SessionFrame) -> bool {
+    match frame.try_clone() {
+        Ok(copy) => copy == frame,
+        Err(_) => false,
+    }
+}
+
+#[test]
+fn frames_are_copied(rt: HostRuntime) {
+    assert!(rt; copies(frame(SessionFrameBody::Begin(begin()))));
+    assert!(rt; copies(frame(plain_end())));
+    assert!(rt; copies(frame(transfer_frame())));
+}

@@ -1,0 +1,274 @@
+//! What the tests call the engine with, and compare its answers to.
+
+use amqp_ids::CountIds;
+use amqp_layer::{Answers, LayerBelow, SessionInnerError};
+use amqp_session_engine::*;
+use amqp_sessions::{PlainSession, Relay, Session};
+use amqp_txn_types::{
+    Attach, Begin, ConnectionStopReason, Detach, Disposition, End, Error, ErrorCondition, Frame,
+    Frames, Handle, LinkFlows, LinkFrame, OutgoingChannel, ReceiverSettleMode, Role,
+    SenderSettleMode, SessionState, SessionStopReason, Text, Transfer,
+};
+use std::alloc::Global;
+
+/// Whether the answer is this Ok.
+pub fn gives<T: PartialEq + Drop, E: Drop>(answer: Result<T, E>, wanted: T) -> bool {
+    match answer {
+        Ok(value) => value == wanted,
+        Err(error) => {
+            drop(error);
+            false
+        }
+    }
+}
+
+/// Whether the answer is this Err.
+pub fn refuses<T: Drop, E: PartialEq + Drop>(answer: Result<T, E>, wanted: E) -> bool {
+    match answer {
+        Ok(value) => {
+            drop(value);
+            false
+        }
+        Err(error) => error == wanted,
+    }
+}
+
+pub fn begin() -> Begin {
+    Begin {
+        remote_channel: None,
+        next_outgoing_id: 0,
+        incoming_window: 2,
+        outgoing_window: 2,
+        handle_max: Handle(7),
+        offered_capabilities: None,
+        desired_capabilities: None,
+        properties: None,
+    }
+}
+
+pub fn plain(alloc: Global, state: SessionState) -> PlainSession {
+    PlainSession::new(alloc, OutgoingChannel(7), state, begin())
+}
+
+/// A frame of the session, on its channel.
+pub fn frame(body: SessionFrameBody) -> SessionFrame {
+    SessionFrame { channel: 3, body }
+}
+
+/// An end without an error.
+pub fn plain_end() -> SessionFrameBody {
+    SessionFrameBody::End(End { error: None })
+}
+
+/// A session of this side that sent its begin.
+pub fn begun(alloc: Global) -> Option<ClientBegin<PlainSession>> {
+    match SessionEngine::begin_client_session(alloc, plain(alloc, SessionState::Unmapped)) {
+        Ok((begun, sent)) => {
+            drop(sent);
+            Some(begun)
+        }
+        Err(refused) => {
+            drop(refused);
+            None
+        }
+    }
+}
+
+/// The engine of a session that the peer's begin made ready.
+pub fn mapped(alloc: Global) -> Option<SessionEngine<PlainSession>> {
+    match begun(alloc) {
+        Some(begun) => made_ready(begun),
+        None => None,
+    }
+}
+
+fn made_ready(begun: ClientBegin<PlainSession>) -> Option<SessionEngine<PlainSession>> {
+    match begun.on_frame(frame(SessionFrameBody::Begin(begin()))) {
+        Ok(engine) => Some(engine),
+        Err(refused) => {
+            drop(refused);
+            None
+        }
+    }
+}
+
+/// The engine of a session that sent its end.
+pub fn ended(alloc: Global) -> Option<SessionEngine<PlainSession>> {
+    let mut engine = mapped(alloc)?;
+    drop(told_to_end(&mut engine));
+    Some(engine)
+}
+
+/// What the engine answers to a control. Like those below it says nothing of the session, so that
+/// each call of the engine is proved once.
+pub fn asked(
+    engine: &mut SessionEngine<PlainSession>,
+    control: SessionControl,
+) -> Result<Turn, SessionInnerError> {
+    engine.on_control(control, &mut CountIds::new())
+}
+
+/// What the engine answers to a frame that comes.
+pub fn taken(
+    engine: &mut SessionEngine<PlainSession>,
+    body: SessionFrameBody,
+) -> Result<Turn, SessionInnerError> {
+    engine.on_incoming(frame(body))
+}
+
+/// What the engine answers to a frame of a link.
+pub fn sent(
+    engine: &mut SessionEngine<PlainSession>,
+    frame: LinkFrame,
+) -> Result<Turn, SessionInnerError> {
+    engine.on_outgoing_link_frames(frame)
+}
+
+/// What the engine answers to a fault.
+pub fn failed(
+    engine: &mut SessionEngine<PlainSession>,
+    fault: &SessionInnerError,
+) -> Result<Turn, SessionInnerError> {
+    engine.on_error(fault)
+}
+
+/// What the engine answers where it is told to end the session.
+pub fn told_to_end(engine: &mut SessionEngine<PlainSession>) -> Result<Turn, SessionInnerError> {
+    engine.end_session(None)
+}
+
+/// The connection of the engine's session was closed by the peer.
+pub fn cut_off(engine: &mut SessionEngine<PlainSession>) {
+    engine.note_connection_stop(ConnectionStopReason::RemoteClosed);
+}
+
+/// The session of the engine, and the outcome that it answers.
+pub fn finished(
+    engine: SessionEngine<PlainSession>,
+    outcome: Result<(), SessionInnerError>,
+) -> (PlainSession, Result<(), SessionInnerError>) {
+    engine.finish(outcome)
+}
+
+/// The state of the engine's session.
+pub fn state(engine: &SessionEngine<PlainSession>) -> SessionState {
+    engine.session().local_state()
+}
+
+/// Whether the session stopped for this reason.
+pub fn stopped_for(session: &PlainSession, reason: SessionStopReason) -> bool {
+    session.session_stop_reason() == Some(&reason)
+}
+
+pub fn attach(alloc: Global) -> Attach {
+    Attach {
+        name: Text::new(alloc),
+        handle: Handle(0),
+        role: Role::Sender,
+        snd_settle_mode: SenderSettleMode::Mixed,
+        rcv_settle_mode: ReceiverSettleMode::First,
+        source: None,
+        target: None,
+        initial_delivery_count: None,
+        max_message_size: None,
+        offered_capabilities: None,
+        desired_capabilities: None,
+        properties: None,
+    }
+}
+
+pub fn relay(alloc: Global) -> Relay {
+    Relay {
+        name: Text::new(alloc),
+        role: Role::Receiver,
+        rcv_settle_mode: ReceiverSettleMode::First,
+        flows: LinkFlows::new(alloc),
+        transfers: 0,
+    }
+}
+
+pub fn transfer() -> Transfer {
+    Transfer {
+        handle: Handle(5),
+        delivery_id: None,
+        delivery_tag: None,
+        message_format: None,
+        settled: None,
+        more: false,
+        rcv_settle_mode: None,
+        state: None,
+        resume: false,
+        aborted: false,
+        batchable: false,
+    }
+}
+
+pub fn disposition() -> Disposition {
+    Disposition {
+        role: Role::Receiver,
+        first: 0,
+        last: None,
+        settled: true,
+        state: None,
+        batchable: false,
+    }
+}
+
+pub fn detach() -> Detach {
+    Detach {
+        handle: Handle(0),
+        closed: true,
+        error: None,
+    }
+}
+
+/// An error without a text.
+pub fn error(condition: ErrorCondition) -> Error {
+    Error {
+        condition,
+        description: None,
+        info: None,
+    }
+}
+
+/// A turn that sends nothing.
+pub fn quiet(alloc: Global, running: Running) -> Turn {
+    turn(alloc, running, None)
+}
+
+/// A turn with an end to be sent.
+pub fn turn(alloc: Global, running: Running, ended: Option<End>) -> Turn {
+    Turn {
+        running,
+        sent: Answers {
+            given: Frames::new(alloc),
+            window: None,
+        },
+        ended,
+        reply: ControlReply::Nothing,
+    }
+}
+
+/// A turn with a reply.
+pub fn replied(alloc: Global, reply: ControlReply) -> Turn {
+    Turn {
+        running: Running::Continue,
+        sent: Answers {
+            given: Frames::new(alloc),
+            window: None,
+        },
+        ended: None,
+        reply,
+    }
+}
+
+/// The one frame that is to be sent.
+pub fn only_frame(answer: Result<Turn, SessionInnerError>) -> Option<Frame> {
+    match answer {
+        Ok(turn) => turn.sent.given.into_vec().pop(),
+        Err(fault) => {
+            drop(fault);
+            None
+        }
+    }
+}
