@@ -12,7 +12,8 @@ use Rattle.amqp_acquisition.specs.Acquiring.{CleansUp}
 use Rattle.amqp_acquisition.specs.Acquisitions.{lent_to}
 
 -- the acquisition whose discharge is awaited
-abbrev pub acquisition_of : {Txn R E W : Type 0} → AcquisitionDischarging Txn R E W → TxnAcquisition Txn R
+abbrev pub acquisition_of : {Txn R E W : Type 0} → AcquisitionDischarging Txn R E W
+    → TxnAcquisition Txn R
 acquisition_of discharging = discharging.acquisition
 
 -- the flow of the cleanup was refused, and so is the end

@@ -55,7 +55,8 @@ impl<'r, Txn: TransactionBase, R: ReceiverLink> TxnAcquisition<'r, Txn, R> {
 
     /// Gives the receiver's next delivery: see [`ReceiverLink::recv`].
     pub fn recv(&mut self) -> Poll<Result<Delivery, RecvError>>
-        ensures recver { Receives (R.told (recver_of self.old)) (R.told (recver_of self.new)) result }
+        ensures recver { Receives (R.told (recver_of self.old)) (R.told (recver_of self.new))
+            result }
         ensures txn { txn_of self.new ≡ txn_of self.old }
     {
         self.recver.recv()
@@ -74,7 +75,8 @@ impl<'r, Txn: TransactionBase, R: ReceiverLink> TxnAcquisition<'r, Txn, R> {
     /// credit, to be drained, to be answered. After an error, which is that of the receiver's
     /// `send_flow`, it is taken out all the same.
     pub fn cleanup(&mut self) -> Result<(), FlowError>
-        ensures recver { CleansUp (R.told (recver_of self.old)) (R.told (recver_of self.new)) result }
+        ensures recver { CleansUp (R.told (recver_of self.old)) (R.told (recver_of self.new))
+            result }
         ensures txn { txn_of self.new ≡ txn_of self.old }
     {
         clean_up(self.recver, &self.key)

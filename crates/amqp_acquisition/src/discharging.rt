@@ -125,7 +125,8 @@ impl<'r, Txn: TransactionBase + TransactionDischarge, R: ReceiverLink> Acquisiti
     /// Looks once for the outcome, and lets the transaction go once it was discharged.
     ///
     /// An error hands the acquisition back: with its transaction discharged, where that couldn't be
-    /// let go, else as it was.
+    /// let go, else as it was. Where it was discharged before, only the first of these comes, and
+    /// it isn't `Pending`.
     pub fn poll<W: Wait>(
         self,
         rt: &W,

@@ -10,6 +10,8 @@
 //! A client that passes messages on, each under a transaction of its own:
 //!
 //! ```text
+//! let declaring = Transaction::declare(&controller, &rt, None)?;
+//! let Progress::Ready(Ok(transaction)) = declaring.poll(&rt) else { .. };
 //! let Ok(mut acquisition) = transaction.acquire(alloc, &mut receiver, 1) else { .. };
 //! let Poll::Ready(Ok(delivery)) = acquisition.recv() else { .. };
 //! let post = acquisition.txn().post(&mut sender, sendable_of(&delivery))?;
@@ -22,7 +24,9 @@
 //! Below stand the transactions of `amqp_transactions` and the work under them of `amqp_posting`.
 //! The promise that this crate carries: an acquisition adds the one property `txn-id` and puts one
 //! flow, a cleanup takes that property alone out, whatever the flow is answered, and puts one flow;
-//! each refusal hands back the transaction or the acquisition. 'The standard' is OASIS AMQP 1.0.
+//! each refusal hands back the transaction or the acquisition. What is put on the control link, and
+//! that a discharge is put after the flow of the cleanup, is only tested: no contract can say what
+//! a link under a lock holds. 'The standard' is OASIS AMQP 1.0.
 #![tactic(auto)]
 
 mod acquiring;

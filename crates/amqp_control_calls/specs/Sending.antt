@@ -20,7 +20,8 @@ control_sendable message = record {
 }
 
 -- the link was asked to send the message, without a state and not batchable, and answered that
-abbrev pub SendsMessage : SenderTold → SenderTold → ControlMessageBody → Result Sent SendError → Type 0
+abbrev pub SendsMessage : SenderTold → SenderTold → ControlMessageBody → Result Sent SendError
+    → Type 0
 SendsMessage old new message answer =
     Sends old new (control_sendable message) None false answer
 

@@ -26,8 +26,8 @@ pub enum Abandoned {
 }
 
 /// Gives a transaction up: puts one rollback, and looks for its outcome until it is there, at most
-/// `trials` times. It doesn't wait between looks. Part 4 of the standard, section 4.3 (discharging a
-/// transaction).
+/// `trials` times. It doesn't wait between looks. Part 4 of the standard, section 4.3 (discharging
+/// a transaction).
 ///
 /// `Answered` with the outcome that was found; `Unanswered` exactly where each of `trials` looks
 /// found none; `Failed` with the link's fault where `send` or a look answered one, or with

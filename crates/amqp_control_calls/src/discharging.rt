@@ -34,9 +34,9 @@ impl Model for DischargeOnLink {
 /// Ends a transaction: puts one discharge, unsettled, without a state, not batchable. Part 4 of the
 /// standard, section 4.3 (discharging a transaction).
 ///
-/// A `fail` of `Some(true)` asks for a rollback, `Some(false)` and `None` for a commit. Errors: what
-/// the link's `send` answered, by its name; `NoMemory` also where there is none for the octets, and
-/// nothing is put then.
+/// A `fail` of `Some(true)` asks for a rollback, `Some(false)` and `None` for a commit. Errors:
+/// what the link's `send` answered, by its name; `NoMemory` also where there is none for the
+/// octets, and nothing is put then.
 pub fn discharge_on_link<L: SenderLink>(
     alloc: Global,
     link: &mut L,

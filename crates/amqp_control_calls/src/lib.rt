@@ -6,7 +6,8 @@
 //! | [`discharge_on_link`] | a commit or a rollback | [`DischargeOnLink`], polled for its outcome |
 //! | [`abandon_on_link`] | a rollback | [`Abandoned`], after a number of looks |
 //!
-//! No call waits, and none takes a lock: a control link is any [`SenderLink`] that the caller lends.
+//! No call waits, and none takes a lock: a control link is any [`SenderLink`] that the caller
+//! lends.
 //!
 //! ```text
 //! let declare = declare_on_link(alloc, &mut link, None)?;
@@ -15,11 +16,13 @@
 //! let Progress::Ready(Ok(Accepted)) = commit.poll(&mut link) else { .. };
 //! ```
 //!
-//! Below stand the messages of `amqp_txn_codec` and the links of `amqp_links`. The promise that this
-//! crate carries: each call puts its one message, in its canonical spelling, unsettled, without a
-//! state and not batchable, and nothing else; a poll makes one look, is pending exactly where the
-//! link has no answer for its message, and answers by what the link has; every fault is one that the
-//! link answered. 'The standard' is OASIS AMQP 1.0.
+//! Below stand the messages of `amqp_txn_codec` and the links of `amqp_links`. The promise that
+//! this crate carries: each call puts its one message, in its canonical spelling, unsettled,
+//! without a state and not batchable, and nothing else; a poll leaves the link as one look does, is
+//! pending exactly where the link has no answer for its message, and answers by what the link has;
+//! every fault is one that the link answered. That a poll makes exactly one look is only tested: a
+//! look that changes nothing can't be counted by what a link tells. 'The standard' is OASIS AMQP
+//! 1.0.
 //!
 //! [`SenderLink`]: amqp_links::SenderLink
 #![tactic(auto)]

@@ -1,6 +1,8 @@
 pub use Rattle.amqp_control_calls.specs.Sending
 pub use Rattle.amqp_control_calls.specs.Polling
 pub use Rattle.amqp_control_calls.specs.Abandoning
+pub use Rattle.amqp_control_calls.specs.Errors as SendErrors
+pub use Rattle.amqp_posting.specs.Errors as PostErrors
 pub use Rattle.amqp_posting.specs.Posting
 pub use Rattle.amqp_posting.specs.Retiring
 pub use Rattle.amqp_transactions.specs.Begun

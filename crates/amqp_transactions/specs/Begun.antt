@@ -61,10 +61,12 @@ abbrev pub after_error : Bool → Begun → Begun
 after_error of_spend begun = if of_spend then discharged begun else begun
 
 -- a poll of a value with its discharge: a wait that goes on keeps the value, and an error hands it
--- back
+-- back; where it was discharged before, only an error of a `spend` comes
 abbrev pub PollsToEnd : {T W E : Type 0} → (T → Begun) → (W → T) → (E → Bool) → Begun
     → Progress W (Result Unit (T × E)) → Type 0
-PollsToEnd begun value_of of_spend old (waits.Pending wait) = begun (value_of wait) ≡ old
+PollsToEnd begun value_of of_spend old (waits.Pending wait) =
+    (begun (value_of wait) ≡ old) × (old.is_discharged ≡ false)
 PollsToEnd begun value_of of_spend old (waits.Ready (Ok done)) = Unit {0}
 PollsToEnd begun value_of of_spend old (waits.Ready (Err refused)) =
-    begun refused.0 ≡ after_error (of_spend refused.1) old
+    (begun refused.0 ≡ after_error (of_spend refused.1) old)
+    × (of_spend refused.1 ≡ false → old.is_discharged ≡ false)

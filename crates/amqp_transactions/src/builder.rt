@@ -141,9 +141,9 @@ impl ControllerBuilder {
     /// Gives the link an output handle on the session, and the attach that is to be sent, which the
     /// session let pass. Part 2 of the standard, section 2.6.3 (establishing a link).
     ///
-    /// Errors: `Alloc` with what the session's allocation answered, `Session` with what its check of
-    /// the attach answered, and the handle is freed again then; `NoMemory` also where there is none
-    /// for the copies of the name, and the session isn't asked then.
+    /// Errors: `Alloc` with what the session's allocation answered, `Session` with what its check
+    /// of the attach answered, and the handle is freed again then; `NoMemory` also where there is
+    /// none for the copies of the name, and the session isn't asked then.
     pub fn attach<S: Session>(
         self,
         session: &mut S,

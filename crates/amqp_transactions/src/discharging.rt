@@ -39,7 +39,8 @@ impl<T: TransactionDischarge> Discharging<T> {
 
     /// Looks once for the outcome, and lets the transaction go once it was discharged.
     ///
-    /// An error hands the transaction back: discharged, where it couldn't be let go, else as it was.
+    /// An error hands the transaction back: discharged, where it couldn't be let go, else as it
+    /// was. Where it was discharged before, only the first of these comes, and it isn't `Pending`.
     pub fn poll<R: Wait>(self, rt: &R) -> Progress<Discharging<T>, Result<(), (T, T::Error)>>
         ensures { PollsToEnd T.begun value_of T.of_spend (T.begun (value_of self)) result }
     {

@@ -34,12 +34,13 @@
 //!                                               discharged ─── spend ──▶ gone
 //! ```
 //!
-//! A transaction must be spent: no value of it is let go but at the end of this diagram. Below stand
-//! the calls on a lent link, of `amqp_control_calls`. The promise that this crate carries is what
-//! values show: a transaction is marked discharged exactly where a poll found its discharge
-//! accepted, a discharged one puts and looks at nothing more, and each refusal hands back the value
-//! or the controller. No contract can say what a link under a lock holds: that the calls under the
-//! lock are those that are named here is tested. 'The standard' is OASIS AMQP 1.0.
+//! A transaction must be spent: no value of it is let go but at the end of this diagram. Below
+//! stand the calls on a lent link, of `amqp_control_calls`. The promise that this crate carries is
+//! what values show: a transaction is marked discharged exactly by a poll that is `Ready(Ok)`, the
+//! poll of a discharged one is `Ready(Ok)` or the error of the close of its link, and each refusal
+//! hands back the value or the controller. No contract can say what a link under a lock holds:
+//! which calls are made under the lock, that a discharged transaction makes none but the close, and
+//! that a poll makes exactly one look, is only tested. 'The standard' is OASIS AMQP 1.0.
 #![tactic(auto)]
 
 mod attaching;

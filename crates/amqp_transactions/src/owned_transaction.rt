@@ -38,8 +38,8 @@ impl<L: SenderLink> Model for OwnedTransaction<L> {
 }
 
 impl<L: SenderLink> OwnedTransaction<L> {
-    /// Asks the coordinator of the link for a transaction: puts one declare. Part 4 of the standard,
-    /// section 4.2 (declaring a transaction).
+    /// Asks the coordinator of the link for a transaction: puts one declare. Part 4 of the
+    /// standard, section 4.2 (declaring a transaction).
     ///
     /// An error is that of [`declare_on_link`](amqp_control_calls::declare_on_link), with the
     /// controller handed back as it was.

@@ -28,8 +28,8 @@ pub struct Transaction<'t, L: SenderLink> {
 }
 
 impl<'t, L: SenderLink> Transaction<'t, L> {
-    /// Asks the coordinator for a transaction: puts one declare. Part 4 of the standard, section 4.2
-    /// (declaring a transaction).
+    /// Asks the coordinator for a transaction: puts one declare. Part 4 of the standard, section
+    /// 4.2 (declaring a transaction).
     ///
     /// Errors are those of [`declare_on_link`](amqp_control_calls::declare_on_link).
     pub fn declare<R: Wait>(
