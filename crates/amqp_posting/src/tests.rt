@@ -8,9 +8,9 @@ use amqp_links::{
     MessageSizeExceeded, SendError, Sendable, WireReceiver, WireSender,
 };
 use amqp_txn_types::{
-    Binary, DeliveryState, LinkEnd, Modified, NoMemory, Outcome, OutputHandle, Payload,
-    ReceiverSettleMode, Role, SenderSettleMode, SessionStopReason, Text, Token, TransactionId,
-    TransactionalState,
+    Binary, CallNumbers, DeliveryState, LinkEnd, Modified, NoMemory, Outcome, OutputHandle,
+    Payload, ReceiverSettleMode, Role, SenderSettleMode, SessionStopReason, Text, Token,
+    TransactionId, TransactionalState,
 };
 use std::alloc::Global;
 use std::fmt::Display;
@@ -101,7 +101,10 @@ fn released() -> DeliveryState {
 }
 
 /// Whether a post is pending, and then released.
-fn is_released(sender: &mut WireSender, post: DeliveryFut) -> bool {
+fn is_released(sender: &mut WireSender) -> bool {
+    let Ok(post) = transaction().post(sender, sendable(None)) else {
+        return false;
+    };
     let Progress::Pending(post) = post.poll(sender) else {
         return false;
     };
@@ -113,26 +116,51 @@ fn is_released(sender: &mut WireSender, post: DeliveryFut) -> bool {
 fn a_post_is_answered(rt: HostRuntime) -> Result<(), Fail> {
     let end = end(rt.alloc(), Role::Sender)?;
     let mut sender = WireSender::new(rt.alloc(), end);
-    let done = match transaction().post(&mut sender, sendable(None)) {
-        Ok(post) => is_released(&mut sender, post),
-        Err(_) => false,
-    };
+    let done = is_released(&mut sender);
     drop(sender);
     assert!(rt; done);
     Ok(())
+}
+
+/// Whether the link's third call fails at the second poll of a post: each poll looks once.
+fn looks_once(sender: &mut WireSender) -> bool {
+    let Ok(post) = transaction().post(sender, sendable(None)) else {
+        return false;
+    };
+    let Progress::Pending(post) = post.poll(sender) else {
+        return false;
+    };
+    let fault = LinkStateError::IllegalState;
+    let want = Progress::Ready(Err(PostError::LinkStateError(fault)));
+    same(post.poll(sender), want)
+}
+
+#[test]
+fn each_poll_of_a_post_looks_once(rt: HostRuntime) -> Result<(), Fail> {
+    let end = end(rt.alloc(), Role::Sender)?;
+    let failing = Vec::from_slice(rt.alloc(), &[3])?;
+    let mut sender = WireSender::new(rt.alloc(), end);
+    sender.set_failing(CallNumbers::from_vec(failing));
+    let once = looks_once(&mut sender);
+    drop(sender);
+    assert!(rt; once);
+    Ok(())
+}
+
+/// Whether a post that was settled is accepted at its first poll.
+fn is_accepted(sender: &mut WireSender) -> bool {
+    let Ok(post) = transaction().post(sender, sendable(Some(true))) else {
+        return false;
+    };
+    let want = Progress::Ready(Ok(Outcome::Accepted));
+    same(post.poll(sender), want)
 }
 
 #[test]
 fn a_post_that_was_settled_is_accepted(rt: HostRuntime) -> Result<(), Fail> {
     let end = end(rt.alloc(), Role::Sender)?;
     let mut sender = WireSender::new(rt.alloc(), end);
-    let done = match transaction().post(&mut sender, sendable(Some(true))) {
-        Ok(post) => same(
-            post.poll(&mut sender),
-            Progress::Ready(Ok(Outcome::Accepted)),
-        ),
-        Err(_) => false,
-    };
+    let done = is_accepted(&mut sender);
     drop(sender);
     assert!(rt; done);
     Ok(())

@@ -3,6 +3,9 @@
 
 mod attaching;
 mod borrowed;
+mod closing;
 mod links;
+mod orders;
 mod owned;
 mod rows;
+mod texts;

@@ -1,6 +1,7 @@
 //! Control links that are attached over a plain session.
 
-use super::links::{id, same};
+use super::links::{declaration, id, put_is, same};
+use super::rows::GLOBAL_DECLARE;
 use crate::{Attaching, Controller, OwnedDeclaring, OwnedTransaction, TransactionDischarge};
 use amqp_control_calls::{Abandoned, TransactionBase};
 use amqp_endpoints::{Progress, SenderAttachError};
@@ -8,7 +9,7 @@ use amqp_layer::LayerBelow;
 use amqp_links::WireSender;
 use amqp_sessions::{AllocLinkError, PlainSession, Session};
 use amqp_txn_types::{
-    Attach, Begin, Coordinator, Declared, DeliveryState, Handle, NoMemory, OutgoingChannel,
+    Attach, Begin, Coordinator, DeliveryState, Handle, NoMemory, OutgoingChannel,
     ReceiverSettleMode, Role, SenderSettleMode, SessionState, SessionStopReason, Text, Token,
 };
 use std::alloc::Global;
@@ -60,8 +61,25 @@ fn peer_attaches(session: &mut PlainSession, alloc: Global) -> bool {
     }
 }
 
+/// The control link of that name, whose attach a sender is to send.
+fn attach(session: &mut PlainSession, alloc: Global) -> Option<Attaching> {
+    let Ok(name) = name(alloc) else {
+        return None;
+    };
+    let Ok(begun) = Controller::attach(alloc, session, name) else {
+        return None;
+    };
+    let (attaching, attach) = begun;
+    let sender = attach.role == Role::Sender;
+    drop(attach);
+    if sender { Some(attaching) } else { None }
+}
+
 /// Whether a link is pending first, and attached once the peer attached it.
-fn is_attached(session: &mut PlainSession, alloc: Global, attaching: Attaching) -> bool {
+fn is_attached(session: &mut PlainSession, alloc: Global) -> bool {
+    let Some(attaching) = attach(session, alloc) else {
+        return false;
+    };
     let Progress::Pending(attaching) = attaching.poll(session) else {
         return false;
     };
@@ -69,24 +87,16 @@ fn is_attached(session: &mut PlainSession, alloc: Global, attaching: Attaching) 
     taken && matches!(attaching.poll(session), Progress::Ready(Ok(_)))
 }
 
-fn attaches(alloc: Global) -> Result<bool, NoMemory> {
+fn attaches(alloc: Global) -> bool {
     let mut session = session(alloc);
-    let name = name(alloc)?;
-    let attached = match Controller::attach(alloc, &mut session, name) {
-        Ok((attaching, attach)) => {
-            let sender = attach.role == Role::Sender;
-            drop(attach);
-            is_attached(&mut session, alloc, attaching) && sender
-        }
-        Err(_) => false,
-    };
+    let attached = is_attached(&mut session, alloc);
     drop(session);
-    Ok(attached)
+    attached
 }
 
 #[test]
 fn a_control_link_is_attached(rt: HostRuntime) -> Result<(), Fail> {
-    assert!(rt; attaches(rt.alloc())?);
+    assert!(rt; attaches(rt.alloc()));
     Ok(())
 }
 
@@ -119,29 +129,32 @@ fn a_name_is_attached_once(rt: HostRuntime) -> Result<(), Fail> {
     Ok(())
 }
 
-fn stops(alloc: Global) -> Result<bool, NoMemory> {
-    let mut session = session(alloc);
-    let name = name(alloc)?;
-    let told = match Controller::attach(alloc, &mut session, name) {
-        Ok((attaching, _)) => {
-            session.set_session_stop_reason(SessionStopReason::Ended);
-            match attaching.poll(&mut session) {
-                Progress::Ready(Err(error)) => same(
-                    error,
-                    SenderAttachError::SessionStopped(SessionStopReason::Ended),
-                ),
-                _ => false,
-            }
-        }
-        Err(_) => false,
+/// Whether the poll of an attach ends with the stop of its session.
+fn is_stopped(session: &mut PlainSession, alloc: Global) -> bool {
+    let Some(attaching) = attach(session, alloc) else {
+        return false;
     };
+    session.set_session_stop_reason(SessionStopReason::Ended);
+    let want = SenderAttachError::SessionStopped(SessionStopReason::Ended);
+    match attaching.poll(session) {
+        Progress::Ready(Err(error)) => same(error, want),
+        Progress::Ready(Ok(_)) | Progress::Pending(_) => {
+            drop(want);
+            false
+        }
+    }
+}
+
+fn stops(alloc: Global) -> bool {
+    let mut session = session(alloc);
+    let told = is_stopped(&mut session, alloc);
     drop(session);
-    Ok(told)
+    told
 }
 
 #[test]
 fn a_stopped_session_ends_the_attach(rt: HostRuntime) -> Result<(), Fail> {
-    assert!(rt; stops(rt.alloc())?);
+    assert!(rt; stops(rt.alloc()));
     Ok(())
 }
 
@@ -153,13 +166,18 @@ fn declares<R: Wait>(rt: &R, transaction: OwnedTransaction<WireSender>) -> bool 
 }
 
 /// Whether an owned transaction whose link was attached is pending with one put, and then declared.
-fn is_declared<R: Wait>(rt: &R, session: &mut PlainSession, declaring: OwnedDeclaring) -> bool {
+fn is_declared<R: Wait>(
+    rt: &R,
+    alloc: Global,
+    session: &mut PlainSession,
+    declaring: OwnedDeclaring,
+) -> bool {
     let Some(controller) = declaring.controller() else {
         return false;
     };
     let mut link = controller.link(rt);
-    let one = link.put().len() == 1;
-    let state = DeliveryState::Declared(Declared { txn_id: id() });
+    let one = link.put().len() == 1 && put_is(&link, alloc, &GLOBAL_DECLARE);
+    let state = DeliveryState::Declared(declaration());
     let awaited = link.answer(Token(0), Ok(Some(state)));
     drop(link);
     match declaring.poll(rt, session) {
@@ -169,9 +187,14 @@ fn is_declared<R: Wait>(rt: &R, session: &mut PlainSession, declaring: OwnedDecl
 }
 
 /// Whether the poll that finds the link attached is pending, and what follows goes as it must.
-fn puts_declare<R: Wait>(rt: &R, session: &mut PlainSession, declaring: OwnedDeclaring) -> bool {
+fn puts_declare<R: Wait>(
+    rt: &R,
+    alloc: Global,
+    session: &mut PlainSession,
+    declaring: OwnedDeclaring,
+) -> bool {
     match declaring.poll(rt, session) {
-        Progress::Pending(declaring) => is_declared(rt, session, declaring),
+        Progress::Pending(declaring) => is_declared(rt, alloc, session, declaring),
         Progress::Ready(Ok(transaction)) => {
             drop(declares(rt, transaction));
             false
@@ -180,23 +203,37 @@ fn puts_declare<R: Wait>(rt: &R, session: &mut PlainSession, declaring: OwnedDec
     }
 }
 
-fn owns<R: Wait>(rt: &R, alloc: Global) -> Result<bool, NoMemory> {
-    let mut session = session(alloc);
-    let name = name(alloc)?;
-    let done = match OwnedTransaction::declare(alloc, &mut session, name, None) {
-        Ok((declaring, _)) => {
-            let unattached = declaring.controller().is_none();
-            let taken = peer_attaches(&mut session, alloc);
-            puts_declare(rt, &mut session, declaring) && unattached && taken
-        }
-        Err(_) => false,
+/// The owned transaction 010203 that waits for its link.
+fn declare(session: &mut PlainSession, alloc: Global) -> Option<OwnedDeclaring> {
+    let Ok(name) = name(alloc) else {
+        return None;
     };
+    let Ok(begun) = OwnedTransaction::declare(alloc, session, name, Some(id())) else {
+        return None;
+    };
+    let (declaring, _) = begun;
+    Some(declaring)
+}
+
+/// Whether an owned transaction is declared once its link is attached.
+fn is_owned<R: Wait>(rt: &R, session: &mut PlainSession, alloc: Global) -> bool {
+    let Some(declaring) = declare(session, alloc) else {
+        return false;
+    };
+    let unattached = declaring.controller().is_none();
+    let taken = peer_attaches(session, alloc);
+    puts_declare(rt, alloc, session, declaring) && unattached && taken
+}
+
+fn owns<R: Wait>(rt: &R, alloc: Global) -> bool {
+    let mut session = session(alloc);
+    let owned = is_owned(rt, &mut session, alloc);
     drop(session);
-    Ok(done)
+    owned
 }
 
 #[test]
 fn an_owned_transaction_is_declared_once_its_link_is_attached(rt: HostRuntime) -> Result<(), Fail> {
-    assert!(rt; owns(&rt, rt.alloc())?);
+    assert!(rt; owns(&rt, rt.alloc()));
     Ok(())
 }

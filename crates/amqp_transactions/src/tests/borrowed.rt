@@ -1,81 +1,90 @@
 //! Calls over the lock, on transactions that borrow their controller.
 
-use super::links::{CountingLink, counting, counts, fills, id, last_is, late, same};
-use super::rows::{ROLLBACK, accepted_row, gives_up, rejected_row, rollback_row};
+use super::links::{
+    CountingLink, counting, counts, declaration, fills, id, illegal, last_is, late, same,
+};
+use super::rows::{
+    DECLARE, GLOBAL_DECLARE, ROLLBACK, accepted_row, discharged_row, gives_up, lets_go,
+    rejected_row, unknown_id, unsent_row,
+};
 use crate::{
     Controller, DEFAULT_ROLLBACK_ON_DROP_TRIALS, Declaring, Transaction, TransactionDischarge,
 };
 use amqp_control_calls::{Abandoned, ControllerSendError, TransactionBase};
 use amqp_endpoints::Progress;
-use amqp_links::DetachError;
-use amqp_txn_types::{AmqpError, Declared, DeliveryState, Error, ErrorCondition, NoMemory};
+use amqp_txn_types::{DeliveryState, NoMemory, TransactionId};
 use std::alloc::Global;
 use std::sync::Wait;
 use std::test::Fail;
 
-const DECLARE: [u8; 7] = [0, 0x53, 0x77, 0, 0x53, 0x31, 0x45];
-
 /// The transaction 010203 over the controller, after one put and two looks.
-fn begun<'t, R: Wait>(
+pub fn begun<'t, R: Wait>(
     rt: &R,
     controller: &'t Controller<CountingLink>,
 ) -> Option<Transaction<'t, CountingLink>> {
     let Ok(declaring) = Transaction::declare(controller, rt, None) else {
         return None;
     };
-    declared(rt, controller, declaring)
+    let Progress::Pending(declaring) = pends(rt, declaring) else {
+        return None;
+    };
+    let pending = counts(rt, controller) == (1, 1, 0);
+    let awaited = fills(rt, controller, 0, DeliveryState::Declared(declaration()));
+    answered(rt, declaring, pending && awaited)
 }
 
-/// The transaction of a declare that is pending first, and then answered.
-fn declared<'t, R: Wait>(
+/// A declare, polled; a transaction that comes too soon is let go.
+fn pends<'t, R: Wait>(
     rt: &R,
-    controller: &'t Controller<CountingLink>,
     declaring: Declaring<'t, CountingLink>,
-) -> Option<Transaction<'t, CountingLink>> {
+) -> Progress<Declaring<'t, CountingLink>, ()> {
     match declaring.poll(rt) {
-        Progress::Pending(declaring) => {
-            let state = DeliveryState::Declared(Declared { txn_id: id() });
-            let awaited = fills(rt, controller, 0, state);
-            answered(rt, declaring, awaited)
-        }
+        Progress::Pending(declaring) => Progress::Pending(declaring),
         Progress::Ready(Ok(transaction)) => {
-            let _ = gives_up(rt, transaction, 0, Abandoned::Skipped);
-            None
+            lets_go(rt, transaction);
+            Progress::Ready(())
         }
-        Progress::Ready(Err(_)) => None,
+        Progress::Ready(Err(_)) => Progress::Ready(()),
     }
 }
 
-fn answered<'t, R: Wait>(
+/// The transaction of a declare that is answered, where all went as it must.
+pub fn answered<'t, R: Wait>(
     rt: &R,
     declaring: Declaring<'t, CountingLink>,
-    awaited: bool,
+    went: bool,
 ) -> Option<Transaction<'t, CountingLink>> {
     match declaring.poll(rt) {
         Progress::Ready(Ok(transaction)) => {
-            if awaited {
+            if went {
                 return Some(transaction);
             }
-            let _ = gives_up(rt, transaction, 0, Abandoned::Skipped);
+            lets_go(rt, transaction);
             None
         }
         Progress::Ready(Err(_)) | Progress::Pending(_) => None,
     }
 }
 
-fn declare_row<R: Wait>(rt: &R, alloc: Global) -> Result<bool, NoMemory> {
+fn declare_row<R: Wait>(
+    rt: &R,
+    alloc: Global,
+    global_id: Option<TransactionId>,
+    octets: &[u8],
+) -> Result<bool, NoMemory> {
     let controller = counting(alloc, &[])?;
-    let Ok(declaring) = Transaction::declare(&controller, rt, None) else {
+    let Ok(declaring) = Transaction::declare(&controller, rt, global_id) else {
         return Ok(false);
     };
     drop(declaring);
-    let put = last_is(rt, alloc, &controller, &DECLARE);
+    let put = last_is(rt, alloc, &controller, octets);
     Ok(put && counts(rt, &controller) == (1, 0, 0))
 }
 
 #[test]
 fn a_declare_is_put_once(rt: HostRuntime) -> Result<(), Fail> {
-    assert!(rt; declare_row(&rt, rt.alloc())?);
+    assert!(rt; declare_row(&rt, rt.alloc(), None, &DECLARE)?);
+    assert!(rt; declare_row(&rt, rt.alloc(), Some(id()), &GLOBAL_DECLARE)?);
     Ok(())
 }
 
@@ -98,42 +107,104 @@ fn each_poll_of_a_declare_looks_once(rt: HostRuntime) -> Result<(), Fail> {
     Ok(())
 }
 
-fn row_of<R: Wait>(rt: &R, alloc: Global, accepts: bool) -> Result<bool, NoMemory> {
+fn discharges_once<R: Wait>(rt: &R, alloc: Global) -> Result<bool, NoMemory> {
     let controller = counting(alloc, &[])?;
     let Some(transaction) = begun(rt, &controller) else {
         return Ok(false);
     };
-    if accepts {
-        Ok(accepted_row(rt, alloc, transaction))
-    } else {
-        Ok(rejected_row(rt, alloc, transaction))
-    }
-}
-
-#[test]
-fn a_commit_that_is_accepted_marks_the_value(rt: HostRuntime) -> Result<(), Fail> {
-    assert!(rt; row_of(&rt, rt.alloc(), true)?);
-    Ok(())
-}
-
-#[test]
-fn a_commit_that_is_rejected_leaves_the_value(rt: HostRuntime) -> Result<(), Fail> {
-    assert!(rt; row_of(&rt, rt.alloc(), false)?);
-    Ok(())
-}
-
-fn rolls_back<R: Wait>(rt: &R, alloc: Global) -> Result<bool, NoMemory> {
-    let controller = counting(alloc, &[])?;
-    let Some(transaction) = begun(rt, &controller) else {
-        return Ok(false);
-    };
-    let done = rollback_row(rt, alloc, transaction);
+    let done = discharged_row(rt, alloc, transaction);
     Ok(done && counts(rt, &controller) == (2, 4, 0))
 }
 
 #[test]
-fn a_rollback_is_polled_to_its_end(rt: HostRuntime) -> Result<(), Fail> {
-    assert!(rt; rolls_back(&rt, rt.alloc())?);
+fn a_discharged_value_puts_nothing_more(rt: HostRuntime) -> Result<(), Fail> {
+    assert!(rt; discharges_once(&rt, rt.alloc())?);
+    Ok(())
+}
+
+fn accepted<R: Wait>(rt: &R, alloc: Global, fail: bool) -> Result<bool, NoMemory> {
+    let controller = counting(alloc, &[])?;
+    let Some(transaction) = begun(rt, &controller) else {
+        return Ok(false);
+    };
+    let done = accepted_row(rt, alloc, transaction, fail);
+    Ok(done && counts(rt, &controller) == (2, 4, 0))
+}
+
+#[test]
+fn a_discharge_is_polled_to_its_end(rt: HostRuntime) -> Result<(), Fail> {
+    assert!(rt; accepted(&rt, rt.alloc(), false)?);
+    assert!(rt; accepted(&rt, rt.alloc(), true)?);
+    Ok(())
+}
+
+fn rejected<R: Wait>(rt: &R, alloc: Global) -> Result<bool, NoMemory> {
+    let controller = counting(alloc, &[])?;
+    let Some(transaction) = begun(rt, &controller) else {
+        return Ok(false);
+    };
+    match rejected_row(rt, alloc, transaction) {
+        None => Ok(false),
+        Some(error) => Ok(same(error, ControllerSendError::Rejected(unknown_id()))),
+    }
+}
+
+#[test]
+fn a_commit_that_is_rejected_leaves_the_value(rt: HostRuntime) -> Result<(), Fail> {
+    assert!(rt; rejected(&rt, rt.alloc())?);
+    Ok(())
+}
+
+fn undeclared<R: Wait>(rt: &R, alloc: Global) -> Result<bool, NoMemory> {
+    let controller = counting(alloc, &[1])?;
+    let refused = match Transaction::declare(&controller, rt, None) {
+        Ok(_) => false,
+        Err(error) => same(error, illegal()),
+    };
+    Ok(refused && counts(rt, &controller) == (0, 0, 0))
+}
+
+#[test]
+fn a_refused_declare_is_no_transaction(rt: HostRuntime) -> Result<(), Fail> {
+    assert!(rt; undeclared(&rt, rt.alloc())?);
+    Ok(())
+}
+
+/// The calls of the link: a declare, two looks, and the commit, which fails.
+fn unsent<R: Wait>(rt: &R, alloc: Global) -> Result<bool, NoMemory> {
+    let controller = counting(alloc, &[4])?;
+    let Some(transaction) = begun(rt, &controller) else {
+        return Ok(false);
+    };
+    match unsent_row(rt, transaction) {
+        None => Ok(false),
+        Some(error) => Ok(same(error, illegal())),
+    }
+}
+
+#[test]
+fn a_refused_commit_hands_the_value_back(rt: HostRuntime) -> Result<(), Fail> {
+    assert!(rt; unsent(&rt, rt.alloc())?);
+    Ok(())
+}
+
+fn undischarged<R: Wait>(rt: &R, alloc: Global) -> Result<bool, NoMemory> {
+    let controller = counting(alloc, &[4])?;
+    let Some(mut transaction) = begun(rt, &controller) else {
+        return Ok(false);
+    };
+    let refused = match transaction.discharge(rt, false) {
+        Ok(_) => false,
+        Err(error) => same(error, illegal()),
+    };
+    let left = !transaction.is_discharged();
+    lets_go(rt, transaction);
+    Ok(refused && left && counts(rt, &controller) == (1, 2, 0))
+}
+
+#[test]
+fn a_refused_discharge_leaves_the_value(rt: HostRuntime) -> Result<(), Fail> {
+    assert!(rt; undischarged(&rt, rt.alloc())?);
     Ok(())
 }
 
@@ -143,7 +214,7 @@ fn abandon_row<R: Wait>(rt: &R, alloc: Global) -> Result<bool, NoMemory> {
         return Ok(false);
     };
     let unanswered = gives_up(rt, transaction, 2, Abandoned::Unanswered);
-    let put = last_is(rt, alloc, &controller, &ROLLBACK[..15]);
+    let put = last_is(rt, alloc, &controller, &ROLLBACK);
     Ok(unanswered && put && counts(rt, &controller) == (2, 4, 0))
 }
 
@@ -155,7 +226,7 @@ fn giving_up_looks_as_often_as_it_may(rt: HostRuntime) -> Result<(), Fail> {
 
 /// The transaction of a declare over a late link, which is answered by a state that isn't Declared.
 fn not_declared<R: Wait>(rt: &R, alloc: Global) -> Result<bool, NoMemory> {
-    let controller = late(alloc, None, 0)?;
+    let controller = Controller::new(alloc, late(alloc, None, 0, &[])?);
     let Ok(declaring) = Transaction::declare(&controller, rt, None) else {
         return Ok(false);
     };
@@ -175,47 +246,10 @@ fn a_declare_that_is_accepted_is_no_transaction(rt: HostRuntime) -> Result<(), F
     Ok(())
 }
 
-/// Whether a close is refused with the controller handed back, after one close.
-fn close_row<R: Wait>(rt: &R, alloc: Global, error: Option<Error>) -> Result<bool, NoMemory> {
-    let controller = counting(alloc, &[1])?;
-    let closed = match error {
-        None => controller.close(rt),
-        Some(error) => controller.close_with_error(rt, error),
-    };
-    match closed {
-        Ok(()) => Ok(false),
-        Err((controller, fault)) => {
-            let refused = same(fault, DetachError::IllegalState);
-            Ok(refused && counts(rt, &controller) == (0, 0, 1))
-        }
-    }
-}
-
-#[test]
-fn a_refused_close_hands_the_controller_back(rt: HostRuntime) -> Result<(), Fail> {
-    let error = Error {
-        condition: ErrorCondition::AmqpError(AmqpError::InternalError),
-        description: None,
-        info: None,
-    };
-    let with_error = close_row(&rt, rt.alloc(), Some(error))?;
-    let without = close_row(&rt, rt.alloc(), None)?;
-    assert!(rt; with_error && without);
-    Ok(())
-}
-
-#[test]
-fn a_controller_is_closed(rt: HostRuntime) -> Result<(), Fail> {
-    let controller = counting(rt.alloc(), &[])?;
-    let closed = controller.close(&rt).is_ok();
-    assert!(rt; closed);
-    Ok(())
-}
-
 /// The end of a transaction that is given up with three trials, over a link that is pending at two
 /// looks.
 fn answered_late<R: Wait>(rt: &R, alloc: Global) -> Result<bool, NoMemory> {
-    let controller = late(alloc, Some(Declared { txn_id: id() }), 2)?;
+    let controller = Controller::new(alloc, late(alloc, Some(declaration()), 2, &[])?);
     let Ok(declaring) = Transaction::declare(&controller, rt, None) else {
         return Ok(false);
     };

@@ -1,6 +1,7 @@
 //! Links that count what is done to them.
 
 use crate::Controller;
+use amqp_control_calls::ControllerSendError;
 use amqp_links::{
     DetachError, LinkStateError, Poll, SendError, Sendable, SenderLink, Sent, WireSender,
 };
@@ -44,11 +45,38 @@ impl SenderLink for CountingLink {
     }
 }
 
+/// A link that is lent to the one who owns the controller, and outlives it.
+#[derive(Drop)]
+pub struct Lent<'l, L: SenderLink> {
+    pub link: &'l mut L,
+}
+
+impl<L: SenderLink> SenderLink for Lent<'_, L> {
+    ghost told = { λ lent. L.told lent.link.now };
+
+    fn send(
+        &mut self,
+        sendable: Sendable,
+        state: Option<DeliveryState>,
+        batchable: bool,
+    ) -> Result<Sent, SendError> {
+        self.link.send(sendable, state, batchable)
+    }
+
+    fn outcome(&mut self, token: &Token) -> Poll<Result<Option<DeliveryState>, LinkStateError>> {
+        self.link.outcome(token)
+    }
+
+    fn close(&mut self, error: Option<Error>) -> Result<(), DetachError> {
+        self.link.close(error)
+    }
+}
+
 /// A link on which the first look finds a declared transaction, where there is one, and then every
 /// message is accepted, once it was looked for so many times in vain.
 #[derive(Drop)]
 pub struct LateLink {
-    wire: WireSender,
+    pub wire: WireSender,
     declared: Option<Declared>,
     pending: u32,
 }
@@ -61,7 +89,7 @@ impl SenderLink for LateLink {
     ghost told = { λ link. record {
       put = link.wire.put;
       ready = λ _. option_map_or (λ declared. Some (Ok (Some (states.Declared declared))))
-          (if link.pending == 0 then Some (Ok (Some states.Accepted)) else None) link.declared;
+          link.declared (if link.pending == 0 then Some (Ok (Some states.Accepted)) else None);
       faults = link.wire.calls.faults;
     } };
 
@@ -90,7 +118,9 @@ impl SenderLink for LateLink {
     }
 }
 
-fn wire(alloc: Global) -> Result<WireSender, NoMemory> {
+/// A wire of whose calls those of the numbers are to fail.
+fn wire(alloc: Global, failing: &[u64]) -> Result<WireSender, NoMemory> {
+    let failing = Vec::from_slice(alloc, failing)?;
     let name = Text::from_str(alloc, "c")?;
     let end = LinkEnd {
         name,
@@ -99,35 +129,33 @@ fn wire(alloc: Global) -> Result<WireSender, NoMemory> {
         snd_settle_mode: SenderSettleMode::Unsettled,
         rcv_settle_mode: ReceiverSettleMode::First,
     };
-    Ok(WireSender::new(alloc, end))
+    let mut wire = WireSender::new(alloc, end);
+    wire.set_failing(CallNumbers::from_vec(failing));
+    Ok(wire)
 }
 
 /// A controller over a counting link, of whose calls those of the numbers are to fail.
 pub fn counting(alloc: Global, failing: &[u64]) -> Result<Controller<CountingLink>, NoMemory> {
-    let mut wire = wire(alloc)?;
-    let failing = Vec::from_slice(alloc, failing)?;
-    wire.set_failing(CallNumbers::from_vec(failing));
     let link = CountingLink {
-        wire,
+        wire: wire(alloc, failing)?,
         looks: 0,
         closes: 0,
     };
     Ok(Controller::new(alloc, link))
 }
 
-/// A controller over a late link.
+/// A late link, of whose sends and closes those of the numbers are to fail.
 pub fn late(
     alloc: Global,
     declared: Option<Declared>,
     pending: u32,
-) -> Result<Controller<LateLink>, NoMemory> {
-    let wire = wire(alloc)?;
-    let link = LateLink {
-        wire,
+    failing: &[u64],
+) -> Result<LateLink, NoMemory> {
+    Ok(LateLink {
+        wire: wire(alloc, failing)?,
         declared,
         pending,
-    };
-    Ok(Controller::new(alloc, link))
+    })
 }
 
 /// How often was put, looked and closed.
@@ -148,12 +176,7 @@ pub fn fills<R: Wait>(
 }
 
 /// Whether the last message that was put is that, unsettled, without a state, not batchable.
-pub fn last_is<R: Wait>(
-    rt: &R,
-    alloc: Global,
-    controller: &Controller<CountingLink>,
-    octets: &[u8],
-) -> bool {
+pub fn put_is(wire: &WireSender, alloc: Global, octets: &[u8]) -> bool {
     let Ok(payload) = Payload::from_slice(alloc, octets) else {
         return false;
     };
@@ -162,8 +185,7 @@ pub fn last_is<R: Wait>(
         message_format: 0,
         settled: Some(false),
     };
-    let link = controller.link(rt);
-    let equal = match link.wire.put().as_slice().last() {
+    let equal = match wire.put().as_slice().last() {
         None => false,
         Some(message) => {
             message.sendable == want
@@ -176,12 +198,33 @@ pub fn last_is<R: Wait>(
     equal
 }
 
+/// Whether the last message that was put on a controller's link is that.
+pub fn last_is<R: Wait>(
+    rt: &R,
+    alloc: Global,
+    controller: &Controller<CountingLink>,
+    octets: &[u8],
+) -> bool {
+    let link = controller.link(rt);
+    put_is(&link.wire, alloc, octets)
+}
+
 /// The id 010203.
 pub fn id() -> TransactionId {
     match TransactionId::new(&[1, 2, 3]) {
         Ok(id) => id,
         Err(_) => TransactionId::from([0; 16]),
     }
+}
+
+/// The declare of the id 010203, answered.
+pub fn declaration() -> Declared {
+    Declared { txn_id: id() }
+}
+
+/// What a link says of a call that is to fail.
+pub fn illegal() -> ControllerSendError {
+    ControllerSendError::LinkStateError(LinkStateError::IllegalState)
 }
 
 /// Whether the two are equal.

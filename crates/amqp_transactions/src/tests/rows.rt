@@ -8,14 +8,20 @@ use amqp_txn_types::{DeliveryState, Error, ErrorCondition, Rejected, Transaction
 use std::alloc::Global;
 use std::sync::Wait;
 
+/// The declare of no global id.
+pub const DECLARE: [u8; 7] = [0, 0x53, 0x77, 0, 0x53, 0x31, 0x45];
+
+/// The declare of the global id 010203.
+pub const GLOBAL_DECLARE: [u8; 14] = [0, 0x53, 0x77, 0, 0x53, 0x31, 0xc0, 6, 1, 0xa0, 3, 1, 2, 3];
+
 /// The commit of the id 010203.
-pub const COMMIT: [u8; 16] = [
-    0, 0x53, 0x77, 0, 0x53, 0x32, 0xc0, 7, 2, 0xa0, 3, 1, 2, 3, 0x42, 0,
+pub const COMMIT: [u8; 15] = [
+    0, 0x53, 0x77, 0, 0x53, 0x32, 0xc0, 7, 2, 0xa0, 3, 1, 2, 3, 0x42,
 ];
 
 /// The rollback of the id 010203.
-pub const ROLLBACK: [u8; 16] = [
-    0, 0x53, 0x77, 0, 0x53, 0x32, 0xc0, 7, 2, 0xa0, 3, 1, 2, 3, 0x41, 0,
+pub const ROLLBACK: [u8; 15] = [
+    0, 0x53, 0x77, 0, 0x53, 0x32, 0xc0, 7, 2, 0xa0, 3, 1, 2, 3, 0x41,
 ];
 
 /// A transaction over a counting link.
@@ -56,146 +62,172 @@ pub fn gives_up<T: OverCounting, R: Wait>(
     same(value.abandon(rt), want)
 }
 
-/// Whether the poll of the discharge is over with an Ok.
-fn is_done<T: OverCounting, R: Wait>(rt: &R, value: &mut T, waiting: T::Waiting) -> bool {
-    matches!(value.poll_discharge(rt, waiting), Progress::Ready(Ok(())))
+/// Gives it up without a rollback.
+pub fn lets_go<T: OverCounting, R: Wait>(rt: &R, value: T) {
+    let _ = gives_up(rt, value, 0, Abandoned::Skipped);
 }
 
-/// Whether the poll of the discharge is over with an error.
-fn is_refused<T: OverCounting, R: Wait>(rt: &R, value: &mut T, waiting: T::Waiting) -> bool {
-    matches!(value.poll_discharge(rt, waiting), Progress::Ready(Err(_)))
-}
-
-pub fn unknown_id() -> DeliveryState {
-    DeliveryState::Rejected(Rejected {
+pub fn unknown_id() -> Rejected {
+    Rejected {
         error: Some(Error {
             condition: ErrorCondition::TransactionError(TransactionError::UnknownId),
             description: None,
             info: None,
         }),
-    })
+    }
 }
 
-/// A commit: one put and no look; a poll without an answer, pending, one look; then that answer to
-/// the message of the number, one look more.
-fn commits<T: OverCounting, R: Wait>(
-    rt: &R,
-    alloc: Global,
-    value: &mut T,
-    answer: DeliveryState,
-) -> bool {
-    let accepts = answer == DeliveryState::Accepted;
+/// Whether the poll of the discharge is over with an Ok.
+fn is_done<T: OverCounting, R: Wait>(rt: &R, value: &mut T, waiting: T::Waiting) -> bool {
+    matches!(value.poll_discharge(rt, waiting), Progress::Ready(Ok(())))
+}
+
+/// A commit that is accepted marks the value: one put and no look; a poll without an answer,
+/// pending, one look; then the answer, one look more.
+fn is_committed<T: OverCounting, R: Wait>(rt: &R, alloc: Global, value: &mut T) -> bool {
     let Ok(waiting) = value.discharge(rt, false) else {
-        drop(answer);
         return false;
     };
-    let put = counts(rt, value.over()) == (2, 2, 0)
-        && last_is(rt, alloc, value.over(), &COMMIT[..15]);
+    let put = counts(rt, value.over()) == (2, 2, 0) && last_is(rt, alloc, value.over(), &COMMIT);
     let Progress::Pending(waiting) = value.poll_discharge(rt, waiting) else {
-        drop(answer);
         return false;
     };
     let pending = counts(rt, value.over()) == (2, 3, 0) && !value.is_discharged();
-    let awaited = fills(rt, value.over(), 1, answer);
-    let ended = if accepts {
-        is_done(rt, value, waiting)
-    } else {
-        is_refused(rt, value, waiting)
-    };
-    put && pending && awaited && ended && counts(rt, value.over()) == (2, 4, 0)
+    let awaited = fills(rt, value.over(), 1, DeliveryState::Accepted);
+    let done = is_done(rt, value, waiting) && value.is_discharged();
+    put && pending && awaited && done && counts(rt, value.over()) == (2, 4, 0)
 }
 
-/// A commit that is accepted marks the value; a discharge of it puts nothing, its poll is done at
-/// once, and giving it up puts nothing.
-pub fn accepted_row<T: OverCounting, R: Wait>(rt: &R, alloc: Global, mut value: T) -> bool {
-    let committed = commits(rt, alloc, &mut value, DeliveryState::Accepted);
-    let discharged = value.is_discharged();
+/// After a commit that is accepted a discharge of the value puts nothing, its poll is done at once,
+/// and so is giving it up.
+pub fn discharged_row<T: OverCounting, R: Wait>(rt: &R, alloc: Global, mut value: T) -> bool {
+    let committed = is_committed(rt, alloc, &mut value);
     let again = match value.discharge(rt, true) {
         Ok(waiting) => is_done(rt, &mut value, waiting),
         Err(_) => false,
     };
     let untouched = counts(rt, value.over()) == (2, 4, 0);
     let gone = gives_up(rt, value, 20, Abandoned::Discharged);
-    committed && discharged && again && untouched && gone
+    committed && again && untouched && gone
 }
 
-/// A commit that is rejected leaves the value undischarged.
-pub fn rejected_row<T: OverCounting, R: Wait>(rt: &R, alloc: Global, mut value: T) -> bool {
-    let committed = commits(rt, alloc, &mut value, unknown_id());
-    let undischarged = !value.is_discharged();
-    let gone = gives_up(rt, value, 0, Abandoned::Skipped);
-    committed && undischarged && gone
+/// A commit, or a rollback where `fail` is true.
+fn begins<T: OverCounting, R: Wait>(
+    rt: &R,
+    value: T,
+    fail: bool,
+) -> Result<Discharging<T>, (T, T::Error)> {
+    if fail {
+        value.rollback(rt)
+    } else {
+        value.commit(rt)
+    }
 }
 
-/// A rollback: one put and no look; pending, one look; then its answer, with what the call after
-/// that shows.
-fn rolled_back<T: OverCounting, R: Wait>(
+/// A discharge that was put: pending, one look.
+fn pends<T: OverCounting, R: Wait>(rt: &R, discharge: Discharging<T>) -> Option<Discharging<T>> {
+    match discharge.poll(rt) {
+        Progress::Pending(discharge) => Some(discharge),
+        Progress::Ready(Ok(())) => None,
+        Progress::Ready(Err((value, _))) => {
+            lets_go(rt, value);
+            None
+        }
+    }
+}
+
+/// A discharge: one put of its octets and no look; pending, one look; then the answer is there.
+pub fn asks<T: OverCounting, R: Wait>(
     rt: &R,
     alloc: Global,
     value: T,
+    fail: bool,
+    accepts: bool,
 ) -> Option<Discharging<T>> {
-    let rollback = match value.rollback(rt) {
-        Ok(rollback) => rollback,
+    let discharge = match begins(rt, value, fail) {
+        Ok(discharge) => discharge,
         Err((value, _)) => {
-            let _ = gives_up(rt, value, 0, Abandoned::Skipped);
+            lets_go(rt, value);
             return None;
         }
     };
-    let put = counts(rt, rollback.value().over()) == (2, 2, 0)
-        && last_is(rt, alloc, rollback.value().over(), &ROLLBACK[..15]);
-    match rollback.poll(rt) {
-        Progress::Pending(rollback) => {
-            let pending = counts(rt, rollback.value().over()) == (2, 3, 0);
-            let awaited = fills(rt, rollback.value().over(), 1, DeliveryState::Accepted);
-            if put && pending && awaited {
-                return Some(rollback);
-            }
-            let _ = gives_up(rt, rollback.into_value(), 0, Abandoned::Skipped);
-            None
-        }
-        Progress::Ready(Ok(())) => None,
-        Progress::Ready(Err((value, _))) => {
-            let _ = gives_up(rt, value, 0, Abandoned::Skipped);
-            None
-        }
+    let octets = if fail { ROLLBACK } else { COMMIT };
+    let put = counts(rt, discharge.value().over()) == (2, 2, 0)
+        && last_is(rt, alloc, discharge.value().over(), &octets);
+    let discharge = pends(rt, discharge)?;
+    let pending = counts(rt, discharge.value().over()) == (2, 3, 0);
+    let answer = if accepts {
+        DeliveryState::Accepted
+    } else {
+        DeliveryState::Rejected(unknown_id())
+    };
+    let awaited = fills(rt, discharge.value().over(), 1, answer);
+    if put && pending && awaited {
+        return Some(discharge);
     }
+    lets_go(rt, discharge.into_value());
+    None
 }
 
-/// A rollback that is accepted, to its end.
-pub fn rollback_row<T: OverCounting, R: Wait>(rt: &R, alloc: Global, value: T) -> bool {
-    let Some(rollback) = rolled_back(rt, alloc, value) else {
-        return false;
-    };
-    match rollback.poll(rt) {
+/// Whether the poll of the discharge is over with an Ok.
+pub fn ends<T: OverCounting, R: Wait>(rt: &R, discharge: Discharging<T>) -> bool {
+    match discharge.poll(rt) {
         Progress::Ready(Ok(())) => true,
         Progress::Ready(Err((value, _))) => {
-            let _ = gives_up(rt, value, 0, Abandoned::Skipped);
+            lets_go(rt, value);
             false
         }
-        Progress::Pending(rollback) => {
-            let _ = gives_up(rt, rollback.into_value(), 0, Abandoned::Skipped);
+        Progress::Pending(discharge) => {
+            lets_go(rt, discharge.into_value());
             false
         }
     }
 }
 
-/// A rollback that is accepted, on a link that then refuses to be closed: one look, one close, and
-/// the value is handed back discharged.
-pub fn refused_close_row<T: OverCounting, R: Wait>(rt: &R, alloc: Global, value: T) -> bool {
-    let Some(rollback) = rolled_back(rt, alloc, value) else {
-        return false;
-    };
-    match rollback.poll(rt) {
-        Progress::Ready(Ok(())) => false,
-        Progress::Ready(Err((value, _))) => {
-            let closed = counts(rt, value.over()) == (2, 4, 1);
-            let discharged = value.is_discharged();
-            let gone = gives_up(rt, value, 20, Abandoned::Discharged);
-            closed && discharged && gone
+/// The value that the poll of the discharge hands back, and why.
+pub fn refused<T: OverCounting, R: Wait>(
+    rt: &R,
+    discharge: Discharging<T>,
+) -> Option<(T, T::Error)> {
+    match discharge.poll(rt) {
+        Progress::Ready(Ok(())) => None,
+        Progress::Ready(Err(refused)) => Some(refused),
+        Progress::Pending(discharge) => {
+            lets_go(rt, discharge.into_value());
+            None
         }
-        Progress::Pending(rollback) => {
-            let _ = gives_up(rt, rollback.into_value(), 0, Abandoned::Skipped);
-            false
+    }
+}
+
+/// A discharge that is accepted, to its end.
+pub fn accepted_row<T: OverCounting, R: Wait>(rt: &R, alloc: Global, value: T, fail: bool) -> bool {
+    match asks(rt, alloc, value, fail, true) {
+        Some(discharge) => ends(rt, discharge),
+        None => false,
+    }
+}
+
+/// The error of a commit that is rejected: one look, and the value is handed back undischarged.
+pub fn rejected_row<T: OverCounting, R: Wait>(rt: &R, alloc: Global, value: T) -> Option<T::Error> {
+    let commit = asks(rt, alloc, value, false, false)?;
+    let (value, error) = refused(rt, commit)?;
+    let looked = counts(rt, value.over()) == (2, 4, 0);
+    let left = looked && !value.is_discharged();
+    lets_go(rt, value);
+    left.then_some(error)
+}
+
+/// The error of a discharge that the link refuses to send: the value is handed back as it was.
+pub fn unsent_row<T: OverCounting, R: Wait>(rt: &R, value: T) -> Option<T::Error> {
+    match begins(rt, value, false) {
+        Ok(commit) => {
+            lets_go(rt, commit.into_value());
+            None
+        }
+        Err((value, error)) => {
+            let left = counts(rt, value.over()) == (1, 2, 0) && !value.is_discharged();
+            lets_go(rt, value);
+            left.then_some(error)
         }
     }
 }
