@@ -1,8 +1,7 @@
 //! The acceptor for links of both roles.
 
 ghost use Rattle.std.specs.Prelude.{◌≡◌, Some, codes, option_copied};
-ghost use Rattle.amqp_txn_types.specs.declared.small.Role.TheVariants as roles;
-ghost use Rattle.amqp_acceptors.specs.Handles.{stop_or_ended};
+ghost use Rattle.amqp_acceptors.specs.Handles.{TellsStopOrEnd};
 ghost use Rattle.amqp_acceptors.specs.LinkAcceptors.{TellsStop};
 
 use crate::builder::{Acceptor, Builder};
@@ -189,7 +188,7 @@ impl<FS: OnDynamic<Source>, FT: OnDynamic<Target>> LinkAcceptor<FS, FT> {
     /// Errors: `SessionStopped` where the queue is closed and empty, with the reason that the session
     /// keeps, or `Ended` where it keeps none; else those of
     /// [`LinkAcceptor::accept_incoming_attach`], and the attach is then out of the queue. Want of
-    /// memory to tell why the session stopped is that of a local receiver.
+    /// memory to copy the kept reason is that of a local receiver.
     ///
     /// # Requires
     ///
@@ -262,10 +261,10 @@ impl<FS: OnDynamic<Source>, FT: OnDynamic<Target>> LinkAcceptor<FS, FT> {
     }
 }
 
-/// That the session had stopped, for the reason that is kept or because it ended; or want of memory
-/// at a local receiver.
+/// That the session had stopped: for the reason that is kept, or want of memory at a local receiver
+/// to tell it; or because it ended, where none is kept.
 fn stopped_or_ended(reason: Option<&SessionStopReason>) -> AcceptorAttachError
-    ensures { TellsStop (stop_or_ended (option_copied reason.entry)) roles.Sender result }
+    ensures { TellsStopOrEnd (option_copied reason.entry) result }
 {
     match reason {
         Some(reason) => stopped(reason, Role::Sender),
