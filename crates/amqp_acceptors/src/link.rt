@@ -145,9 +145,10 @@ impl<FS: OnDynamic<Source>, FT: OnDynamic<Target>> LinkAcceptor<FS, FT> {
     /// Accepts a link: its frames are the attach that answers the peer's and, for a local receiver
     /// that grants credit, the flow that grants it.
     ///
-    /// Errors: `SessionStopped` where the session keeps a reason why it stopped; else `LocalReceiver`
-    /// with `CoordinatorIsNotImplemented` where the target is a coordinator, whatever the peer's
-    /// role; else that of the local end, by the peer's role. Want of memory is that of the local end.
+    /// Errors: `SessionStopped` where the session keeps a reason why it stopped; else
+    /// `LocalReceiver` with `CoordinatorIsNotImplemented` where the target is a coordinator,
+    /// whatever the peer's role; else that of the local end, by the peer's role. Want of memory is
+    /// that of the local end.
     ///
     /// # Requires
     ///
@@ -185,8 +186,8 @@ impl<FS: OnDynamic<Source>, FT: OnDynamic<Target>> LinkAcceptor<FS, FT> {
     /// Takes the attach that came first out of the session's queue, and accepts it. It is `Pending`
     /// exactly where the queue is empty and not closed.
     ///
-    /// Errors: `SessionStopped` where the queue is closed and empty, with the reason that the session
-    /// keeps, or `Ended` where it keeps none; else those of
+    /// Errors: `SessionStopped` where the queue is closed and empty, with the reason that the
+    /// session keeps, or `Ended` where it keeps none; else those of
     /// [`LinkAcceptor::accept_incoming_attach`], and the attach is then out of the queue. Want of
     /// memory to copy the kept reason is that of a local receiver.
     ///

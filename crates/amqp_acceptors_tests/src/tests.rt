@@ -198,24 +198,52 @@ fn a_local_receiver_is_accepted(rt: HostRuntime) -> Result<(), Fail> {
         .credit_mode(CreditMode::Auto(3))
         .build();
     let remote = sender_attach(alloc)?;
-    let (endpoint, frames) = acceptor.accept_incoming_attach(alloc, remote, &mut session)?;
+    let answer = acceptor.accept_incoming_attach(alloc, remote, &mut session);
+    drop(session);
+    let (endpoint, frames) = answer?;
     assert!(rt; matches!(endpoint, LinkEndpoint::Receiver(_)));
     let wanted = reply(alloc, Role::Receiver)?;
     assert!(rt; are_frames(&frames, wanted, Some(granted(3))));
     Ok(())
 }
 
+/// The frames with which a receiver of control links answers, or of other links, by its kind.
+fn frames_of<T: TargetKind>(
+    alloc: Global,
+    receiver: LocalReceiverLinkAcceptor<T, RejectDynamic>,
+    remote: Attach,
+) -> Result<Frames, ReceiverAttachError> {
+    let mut session = session(alloc, SessionState::Mapped);
+    let shared = SharedLinkAcceptorFields::default();
+    let answer = receiver.accept_incoming_attach_inner(alloc, &shared, remote, &mut session);
+    drop(session);
+    drop(shared);
+    drop(receiver);
+    let (wire, frames) = answer?;
+    drop(wire);
+    Ok(frames)
+}
+
+#[test]
+fn a_local_receiver_of_control_links_is_accepted(rt: HostRuntime) -> Result<(), Fail> {
+    let alloc = rt.alloc();
+    let receiver: LocalReceiverLinkAcceptor<Coordinator, RejectDynamic> =
+        LocalReceiverLinkAcceptor::default();
+    let frames = frames_of(alloc, receiver, control_attach(alloc)?)?;
+    let mut wanted = reply(alloc, Role::Receiver)?;
+    wanted.target = Some(TargetArchetype::Coordinator(Coordinator::default()));
+    assert!(rt; are_frames(&frames, wanted, Some(granted(200))));
+    Ok(())
+}
+
 #[test]
 fn a_local_receiver_of_another_kind_is_not(rt: HostRuntime) -> Result<(), Fail> {
     let alloc = rt.alloc();
-    let mut session = session(alloc, SessionState::Mapped);
     let receiver: LocalReceiverLinkAcceptor<Coordinator, RejectDynamic> =
         LocalReceiverLinkAcceptor::default();
-    let shared = SharedLinkAcceptorFields::default();
-    let remote = sender_attach(alloc)?;
-    let answer = receiver.accept_incoming_attach_inner(alloc, &shared, remote, &mut session);
+    let answer = frames_of(alloc, receiver, sender_attach(alloc)?);
     assert!(rt;
-        matches!(
+        same(
             answer,
             Err(ReceiverAttachError::CoordinatorIsNotImplemented)
         )
@@ -223,18 +251,19 @@ fn a_local_receiver_of_another_kind_is_not(rt: HostRuntime) -> Result<(), Fail> 
     Ok(())
 }
 
-/// The attach with which a local sender answers, whose rule is `acceptor`'s.
-fn answer_of<F: OnDynamic<Source>>(
+/// The frames with which an acceptor answers, whose rules may be asked.
+fn answer_of<FS: OnDynamic<Source>, FT: OnDynamic<Target>>(
     alloc: Global,
-    acceptor: &LinkAcceptor<F, RejectDynamic>,
+    acceptor: &LinkAcceptor<FS, FT>,
+    remote: Attach,
 ) -> Result<Frames, AcceptorAttachError>
-    requires { F.can_decide acceptor.now.local_sender_acceptor.on_dynamic_source }
+    requires source { FS.can_decide acceptor.now.local_sender_acceptor.on_dynamic_source }
+    requires target { FT.can_decide acceptor.now.local_receiver_acceptor.on_dynamic_target }
 {
     let mut session = session(alloc, SessionState::Mapped);
-    let Ok(remote) = dynamic_attach(alloc) else {
-        return Err(AcceptorAttachError::LocalSender(SenderAttachError::NoMemory));
-    };
-    let (endpoint, frames) = acceptor.accept_incoming_attach(alloc, remote, &mut session)?;
+    let answer = acceptor.accept_incoming_attach(alloc, remote, &mut session);
+    drop(session);
+    let (endpoint, frames) = answer?;
     drop(endpoint);
     Ok(frames)
 }
@@ -253,7 +282,7 @@ fn a_closure_is_asked_for_a_node(rt: HostRuntime) -> Result<(), Fail> {
         })
     });
     let acceptor = LinkAcceptor::builder().on_dynamic_source(ask).build();
-    let frames = answer_of(alloc, &acceptor)?;
+    let frames = answer_of(alloc, &acceptor, dynamic_attach(alloc)?)?;
     assert!(rt; are_frames(&frames, reply(alloc, Role::Sender)?, None));
     Ok(())
 }
@@ -266,12 +295,34 @@ fn a_link_without_its_node_is_accepted(rt: HostRuntime) -> Result<(), Fail> {
         None
     });
     let acceptor = LinkAcceptor::builder().on_dynamic_source(ask).build();
-    let frames = answer_of(alloc, &acceptor)?;
+    let frames = answer_of(alloc, &acceptor, dynamic_attach(alloc)?)?;
     let mut wanted = reply(alloc, Role::Sender)?;
     wanted.source = None;
     assert!(rt; are_frames(&frames, wanted, None));
-    let frames = answer_of(alloc, &LinkAcceptor::new())?;
+    let frames = answer_of(alloc, &LinkAcceptor::new(), dynamic_attach(alloc)?)?;
     assert!(rt; frames.len() == 1);
+    Ok(())
+}
+
+/// The attach of a sender whose target is dynamic.
+fn dynamic_target_attach(alloc: Global) -> Result<Attach, NoMemory> {
+    let node = TargetArchetype::Target(target(true));
+    attach(alloc, Role::Sender, source(false), node)
+}
+
+#[test]
+fn a_closure_is_asked_for_a_target(rt: HostRuntime) -> Result<(), Fail> {
+    let alloc = rt.alloc();
+    let ask = Ask::new(|target: Target| {
+        Some(Target {
+            dynamic: false,
+            ..target
+        })
+    });
+    let acceptor = LinkAcceptor::builder().on_dynamic_target(ask).build();
+    let frames = answer_of(alloc, &acceptor, dynamic_target_attach(alloc)?)?;
+    let wanted = reply(alloc, Role::Receiver)?;
+    assert!(rt; are_frames(&frames, wanted, Some(granted(200))));
     Ok(())
 }
 
@@ -377,7 +428,6 @@ fn local_ends_are_built(rt: HostRuntime) -> Result<(), Fail> {
         .into_builder()
         .initial_delivery_count(1)
         .source_capabilities(symbols(alloc, "s")?)
-        .on_dynamic_target(RejectDynamic)
         .credit_mode(CreditMode::Manual)
         .target_capabilities(symbols(alloc, "t")?)
         .auto_accept(true)

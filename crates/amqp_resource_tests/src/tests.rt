@@ -1,9 +1,9 @@
 //! What no clause says: what goes out is checked by the layer below. And the life of an id of no
 //! link, step by step.
 
-use amqp_resource::*;
 use amqp_layer::{LayerBelow, OpenSession, SessionInnerError, Tells};
 use amqp_recorder::Recorder;
+use amqp_resource::*;
 use amqp_sessions::{HandleDeclare, HandleDischarge};
 use amqp_txn_codec::{ControlMessageBody, Declare, Discharge};
 use amqp_txn_types::{

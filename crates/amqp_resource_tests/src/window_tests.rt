@@ -1,9 +1,9 @@
 //! The window of a plain session, through a recorder: asked for after each transfer.
 
 use crate::tests::{answer_of, attach, begin_transaction, discharge, post, transfer};
-use amqp_resource::*;
 use amqp_layer::{Answers, LayerBelow};
 use amqp_recorder::Recorder;
+use amqp_resource::*;
 use amqp_sessions::{PlainSession, Relay, Session};
 use amqp_txn_types::{
     Begin, Handle, Items, NoMemory, OutgoingChannel, ReceiverSettleMode, Role, SessionState, Text,
