@@ -2,12 +2,13 @@
 //! that it drops count as taken.
 
 use crate::tests::{attach, transfer};
+use crate::window_tests::mapped;
 use amqp_acceptors::ControlLinkAcceptor;
 use amqp_listener::ListenerSession;
 use amqp_recorder::Recorder;
 use amqp_resource::*;
 use amqp_sessions::PlainSession;
-use amqp_txn_types::{Begin, Flow, Frame, Handle, NoMemory, OutgoingChannel, SessionState, Text};
+use amqp_txn_types::{Flow, Frame, Handle, NoMemory, Text};
 use std::alloc::Global;
 use std::test::Fail;
 
@@ -16,18 +17,7 @@ type Listening = TxnSession<Recorder<ListenerSession<PlainSession>>>;
 
 /// Such a session, over a mapped one without links.
 fn listening(alloc: Global) -> Listening {
-    let begin = Begin {
-        remote_channel: None,
-        next_outgoing_id: 0,
-        incoming_window: 2,
-        outgoing_window: 2,
-        handle_max: Handle(9),
-        offered_capabilities: None,
-        desired_capabilities: None,
-        properties: None,
-    };
-    let plain = PlainSession::new(alloc, OutgoingChannel(0), SessionState::Mapped, begin);
-    let listener = ListenerSession::new(alloc, plain, ControlLinkAcceptor::default());
+    let listener = ListenerSession::new(alloc, mapped(alloc), ControlLinkAcceptor::default());
     TxnSession::new(alloc, Recorder::new(alloc, listener))
 }
 
