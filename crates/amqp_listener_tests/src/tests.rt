@@ -99,16 +99,12 @@ fn is_stopped(accepted: Accepted, reason: SessionStopReason) -> bool {
 
 /// Whether a local receiver was made, with so many frames.
 fn is_receiver(accepted: Accepted, count: usize) -> bool {
-    match accepted {
-        Poll::Ready(Ok((LinkEndpoint::Receiver(receiver), frames))) => {
-            drop(receiver);
-            frames.len() == count
-        }
-        other => {
-            drop(other);
-            false
-        }
-    }
+    let is_one = match &accepted {
+        Poll::Ready(Ok((LinkEndpoint::Receiver(_), frames))) => frames.len() == count,
+        _ => false,
+    };
+    drop(accepted);
+    is_one
 }
 
 #[test]
