@@ -7,7 +7,7 @@ use amqp_sessions::{AllocLinkError, NameState, PlainSession, Session};
 use amqp_txn_types::{
     Attach, Begin, Coordinator, Fields, Flow, Frame, Frames, Handle, NoMemory, OutgoingChannel,
     ReceiverSettleMode, Role, SenderSettleMode, SessionState, SessionStopReason, Source, Symbol,
-    Symbols, Target, TargetArchetype, Text, TryClone,
+    Symbols, Target, TargetArchetype, Text, TryClone, is_coordinator,
 };
 use std::alloc::Global;
 use std::test::Fail;
@@ -163,41 +163,57 @@ fn a_set_supports_the_modes_of_its_name(rt: HostRuntime) {
     assert!(rt; SupportedReceiverSettleModes::default().supports(&ReceiverSettleMode::Second));
 }
 
+/// The frames with which an acceptor answers the attach of a control link.
+fn control_frames(
+    alloc: Global,
+    acceptor: &ControlLinkAcceptor,
+    remote: &Attach,
+    session: &mut PlainSession,
+) -> Result<Frames, ReceiverAttachError> {
+    if !is_coordinator(remote) {
+        return Err(ReceiverAttachError::CoordinatorIsNotImplemented);
+    }
+    acceptor.accept_incoming_attach(alloc, remote, session)
+}
+
 #[test]
 fn a_control_link_is_accepted(rt: HostRuntime) -> Result<(), Fail> {
     let alloc = rt.alloc();
+    let remote = control_attach(alloc)?;
     let mut session = session(alloc, SessionState::Mapped);
     let acceptor = ControlLinkAcceptor::builder().build();
-    let remote = control_attach(alloc)?;
-    let frames = acceptor.accept_incoming_attach(alloc, &remote, &mut session)?;
+    let answer = control_frames(alloc, &acceptor, &remote, &mut session);
+    assert_eq!(rt; session.name_state(&remote.name), NameState::Taken);
+    drop(session);
+    drop(acceptor);
+    let frames = answer?;
     let mut wanted = reply(alloc, Role::Receiver)?;
     wanted.target = Some(TargetArchetype::Coordinator(Coordinator::default()));
     assert!(rt; are_frames(&frames, wanted, Some(granted(200))));
-    assert_eq!(rt; session.name_state(&remote.name), NameState::Taken);
     Ok(())
 }
 
 #[test]
 fn a_refused_flow_frees_the_link(rt: HostRuntime) -> Result<(), Fail> {
     let alloc = rt.alloc();
+    let remote = control_attach(alloc)?;
     let mut session = session(alloc, SessionState::Unmapped);
     let acceptor = ControlLinkAcceptor::default();
-    let remote = control_attach(alloc)?;
-    let answer = acceptor.accept_incoming_attach(alloc, &remote, &mut session);
+    let answer = control_frames(alloc, &acceptor, &remote, &mut session);
+    assert_eq!(rt; session.name_state(&remote.name), NameState::Unknown);
     let refused = ReceiverAttachError::Session(SessionInnerError::IllegalState);
     assert!(rt; same(answer, Err(refused)));
-    assert_eq!(rt; session.name_state(&remote.name), NameState::Unknown);
     Ok(())
 }
 
 #[test]
 fn a_local_receiver_is_accepted(rt: HostRuntime) -> Result<(), Fail> {
     let alloc = rt.alloc();
+    let remote = sender_attach(alloc)?;
     let mut session = session(alloc, SessionState::Mapped);
     let acceptor = LinkAcceptor::builder()
         .credit_mode(CreditMode::Auto(3))
         .build();
-    let remote = sender_attach(alloc)?;
     let answer = acceptor.accept_incoming_attach(alloc, remote, &mut session);
     drop(session);
     let (endpoint, frames) = answer?;
@@ -329,8 +345,8 @@ fn a_closure_is_asked_for_a_target(rt: HostRuntime) -> Result<(), Fail> {
 #[test]
 fn a_coordinator_is_not_taken(rt: HostRuntime) -> Result<(), Fail> {
     let alloc = rt.alloc();
-    let mut session = session(alloc, SessionState::Mapped);
     let remote = control_attach(alloc)?;
+    let mut session = session(alloc, SessionState::Mapped);
     let answer = LinkAcceptor::new().accept_incoming_attach(alloc, remote, &mut session);
     let refused = ReceiverAttachError::CoordinatorIsNotImplemented;
     assert!(rt; is_refused(answer, AcceptorAttachError::LocalReceiver(refused)));
@@ -340,9 +356,9 @@ fn a_coordinator_is_not_taken(rt: HostRuntime) -> Result<(), Fail> {
 #[test]
 fn a_stopped_session_accepts_nothing(rt: HostRuntime) -> Result<(), Fail> {
     let alloc = rt.alloc();
+    let remote = control_attach(alloc)?;
     let mut session = session(alloc, SessionState::Mapped);
     session.set_session_stop_reason(SessionStopReason::RemoteEnded);
-    let remote = control_attach(alloc)?;
     let answer = LinkAcceptor::new().accept_incoming_attach(alloc, remote, &mut session);
     let stopped = AcceptorAttachError::SessionStopped(SessionStopReason::RemoteEnded);
     assert!(rt; is_refused(answer, stopped));
