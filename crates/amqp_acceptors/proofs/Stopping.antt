@@ -1,5 +1,5 @@
 -- That a session had stopped is no refusal that a session counts.
-use Rattle.std.proofs.Common.{◌≡◌, ◌⊎◌, Err, inl, inr}
+use Rattle.std.proofs.Common.{Err, inl, inr}
 use Rattle.amqp_txn_types.specs.declared.delivery.SessionStopReason.{SessionStopReason}
 use Rattle.amqp_txn_types.specs.declared.small.Role.{Role}
 use Rattle.amqp_txn_types.specs.declared.small.Role.TheVariants as roles

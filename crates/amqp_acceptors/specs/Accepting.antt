@@ -1,13 +1,11 @@
 -- What an acceptor answers, and what that leaves of the session.
-use Rattle.std.specs.Prelude.{ℕ, ◌≡◌, ◌⊎◌, Option, Some, None, Result, Ok, Err, List, []}
+use Rattle.std.specs.Prelude.{◌≡◌, ◌⊎◌, Result, Ok, Err, List}
 use Rattle.amqp_txn_types.specs.declared.small.OutputHandle.{OutputHandle}
 use Rattle.amqp_txn_types.specs.declared.performatives.Frame.{Frame}
-use Rattle.amqp_txn_types.specs.declared.performatives.LinkEnd.{LinkEnd}
 use Rattle.amqp_txn_types.specs.declared.text.Text.{Text}
 use Rattle.amqp_txn_types.specs.Counts.{Rose}
 use Rattle.amqp_layer.specs.declared.inner_error.SessionInnerError.TheVariants as faults
 use Rattle.amqp_layer.specs.Told.{Steady, Told}
-use Rattle.amqp_sessions.specs.declared.relay.NameState.TheVariants.{Taken}
 use Rattle.amqp_sessions.specs.Names.{Names, OpensLink, SameNames}
 use Rattle.amqp_endpoints.specs.declared.attach_errors.ReceiverAttachError.{ReceiverAttachError}
 use Rattle.amqp_endpoints.specs.declared.attach_errors.ReceiverAttachError.TheVariants as receivers

@@ -1,5 +1,5 @@
 -- What the links that an acceptor accepts have in common.
-use Rattle.std.specs.Prelude.{if◌then◌else◌, Option, None}
+use Rattle.std.specs.Prelude.{if◌then◌else◌, None}
 use Rattle.amqp_txn_types.specs.declared.small.SenderSettleMode.{SenderSettleMode}
 use Rattle.amqp_txn_types.specs.declared.small.SenderSettleMode.TheVariants as sender_modes
 use Rattle.amqp_txn_types.specs.declared.small.ReceiverSettleMode.{ReceiverSettleMode}

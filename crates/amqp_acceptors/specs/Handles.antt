@@ -1,5 +1,5 @@
 -- What accepting from a queue answers. Part 2 of the standard, section 2.6.3 (establishing a link).
-use Rattle.std.specs.Prelude.{◌≡◌, Bool, true, false, Option, Some, None, Result, Err, List, [], ◌∷◌, unwrap_or}
+use Rattle.std.specs.Prelude.{◌≡◌, Bool, true, false, Option, Some, None, Result, Err, List, [], ◌∷◌}
 use Rattle.amqp_txn_types.specs.declared.delivery.SessionStopReason.{SessionStopReason}
 use Rattle.amqp_txn_types.specs.declared.delivery.SessionStopReason.TheVariants as reasons
 use Rattle.amqp_txn_types.specs.declared.performatives.Attach.{Attach}
@@ -11,6 +11,7 @@ use Rattle.amqp_links.specs.declared.poll.Poll.{Poll}
 use Rattle.amqp_links.specs.declared.poll.Poll.TheVariants as polls
 use Rattle.amqp_endpoints.specs.Queues.{Queue, first_waiting}
 use Rattle.amqp_acceptors.specs.declared.endpoint.AcceptorAttachError.{AcceptorAttachError}
+use Rattle.amqp_acceptors.specs.declared.endpoint.AcceptorAttachError.TheVariants as errors
 use Rattle.amqp_acceptors.specs.declared.endpoint.LinkEndpoint.{LinkEndpoint}
 use Rattle.amqp_acceptors.specs.LinkAcceptors.{OnLinkRefusal, TellsStop}
 
@@ -28,19 +29,21 @@ next_of (attach ∷ rest) closed = polls.Ready (Some attach)
 abbrev pub next_incoming : Queue → Poll (Option Attach)
 next_incoming queue = next_of queue.waiting queue.closed
 
--- the reason why a session stopped, or that it ended where none is kept
-abbrev pub stop_or_ended : Option SessionStopReason → SessionStopReason
-stop_or_ended stop = unwrap_or stop reasons.Ended
+-- the session stopped: for the reason that is kept, whose copy may want memory as a local receiver
+-- does; or because it ended, where none is kept
+abbrev pub TellsStopOrEnd : Option SessionStopReason → AcceptorAttachError → Type 0
+TellsStopOrEnd (Some reason) error = TellsStop reason roles.Sender error
+TellsStopOrEnd None error = error ≡ errors.SessionStopped reasons.Ended
 
 -- what is answered to what the queue gave: to an attach what the acceptor answers; to a closed and
--- empty queue that the session stopped, which may want memory as a local receiver does
+-- empty queue that the session stopped
 abbrev pub AnswersNext : {S : Type 0} → Poll (Option Attach) → Option SessionStopReason
     → (Attach → S → S → Result (LinkEndpoint × List Frame) AcceptorAttachError → Type 0)
     → S → S → Poll (Result (LinkEndpoint × List Frame) AcceptorAttachError) → Type 0
 AnswersNext polls.Pending stop Accepts taken new result =
     (result ≡ polls.Pending) × (new ≡ taken)
 AnswersNext (polls.Ready None) stop Accepts taken new result =
-    (error : AcceptorAttachError) × TellsStop (stop_or_ended stop) roles.Sender error
+    (error : AcceptorAttachError) × TellsStopOrEnd stop error
     × (result ≡ polls.Ready (Err error)) × (new ≡ taken)
 AnswersNext (polls.Ready (Some attach)) stop Accepts taken new result =
     (answer : Result (LinkEndpoint × List Frame) AcceptorAttachError)

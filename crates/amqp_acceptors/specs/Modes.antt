@@ -1,6 +1,6 @@
 -- The settle modes that an acceptor supports, and the one that a link settles on. Part 2 of the
 -- standard, sections 2.8.2 (sender settle mode) and 2.8.3 (receiver settle mode).
-use Rattle.std.specs.Prelude.{Bool, true, false, if◌then◌else◌, List, [], ◌∷◌}
+use Rattle.std.specs.Prelude.{Bool, true, false, List, [], ◌∷◌}
 use Rattle.std.specs.List.{list_any}
 use Rattle.amqp_txn_types.specs.declared.small.SenderSettleMode.{SenderSettleMode}
 use Rattle.amqp_txn_types.specs.declared.small.SenderSettleMode.TheVariants as senders

@@ -104,8 +104,8 @@ abbrev pub control_answer : Opening → Result (OutputHandle × List Frame) Open
 control_answer opening (Ok opened) = Ok opened.1
 control_answer opening (Err error) = Err (receiver_refusal error)
 
--- it grants 200 once the link is accepted, has no capabilities, doesn't accept deliveries by itself,
--- and wants the peer's termini verified
+-- it grants 200 once the link is accepted, has no capabilities, doesn't accept deliveries by
+-- itself, and wants the peer's termini verified
 pub record IsDefaultReceiver {T : Type 0} (receiver : LocalReceiverLinkAcceptor T RejectDynamic)
     : Type 0 where
   pub credit : receiver.credit_mode ≡ credits.Auto 200

@@ -1,6 +1,7 @@
 //! How a receiving end grants credit.
 
-/// How a receiving end grants its peer credit. Part 2 of the standard, section 2.6.7 (flow control).
+/// How a receiving end grants its peer credit. Part 2 of the standard, section 2.6.7 (flow
+/// control).
 #[derive(Clone, Copy, Debug, PartialEq, Eq)]
 pub enum CreditMode {
     /// It grants that much once the link is accepted; 200 by default.

@@ -81,8 +81,8 @@ impl SharedLinkAcceptorFields {
         }
     }
 
-    /// The settle mode of a link's receiver for the one that the peer asks for: that one where it is
-    /// supported, else the fallback.
+    /// The settle mode of a link's receiver for the one that the peer asks for: that one where it
+    /// is supported, else the fallback.
     pub fn receiver_mode_for(&self, mode: ReceiverSettleMode) -> ReceiverSettleMode
         ensures { result ≡ receiver_mode_for self.now mode }
     {

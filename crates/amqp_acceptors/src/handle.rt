@@ -10,6 +10,7 @@ use amqp_links::Poll;
 use amqp_txn_types::Attach;
 
 /// A session that is lent to accept its links.
+#[derive(Drop)]
 pub struct SessionHandle<'s, E> {
     /// The session.
     pub session: &'s mut E,
@@ -29,8 +30,8 @@ impl<'s, E> SessionHandle<'s, E> {
 }
 
 impl<E: ListenerSessionEndpoint> SessionHandle<'_, E> {
-    /// Takes the attach that came first out of the queue. It is `Pending` exactly where the queue is
-    /// empty and not closed, and `Ready(None)` exactly where it is empty and closed. It takes no
+    /// Takes the attach that came first out of the queue. It is `Pending` exactly where the queue
+    /// is empty and not closed, and `Ready(None)` exactly where it is empty and closed. It takes no
     /// memory.
     pub fn next_incoming_attach(&mut self) -> Poll<Option<Attach>>
         ensures same { self.new.session.ghost_name ≡ self.old.session.ghost_name }

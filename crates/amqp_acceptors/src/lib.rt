@@ -30,10 +30,10 @@
 //! ```
 //!
 //! Below stand the types of `amqp_txn_types`, the sessions of `amqp_sessions`, the links of
-//! `amqp_links` and the ends of `amqp_endpoints`. The promise that this crate carries: a settle mode
-//! that isn't supported becomes the fallback; the local termini, the attach that answers the peer's
-//! and the flow are exactly those that the acceptor's fields say, with the answer of the caller's
-//! rule; each refusal has its cause. 'The standard' is OASIS AMQP 1.0.
+//! `amqp_links` and the ends of `amqp_endpoints`. The promise that this crate carries: a settle
+//! mode that isn't supported becomes the fallback; the local termini, the attach that answers the
+//! peer's and the flow are exactly those that the acceptor's fields say, with the answer of the
+//! caller's rule; each refusal has its cause. 'The standard' is OASIS AMQP 1.0.
 #![tactic(auto)]
 
 mod builder;

@@ -1,8 +1,7 @@
 //! The acceptor for links of both roles.
 
 ghost use Rattle.std.specs.Prelude.{◌≡◌, Some, codes, option_copied};
-ghost use Rattle.amqp_txn_types.specs.declared.small.Role.TheVariants as roles;
-ghost use Rattle.amqp_acceptors.specs.Handles.{stop_or_ended};
+ghost use Rattle.amqp_acceptors.specs.Handles.{TellsStopOrEnd};
 ghost use Rattle.amqp_acceptors.specs.LinkAcceptors.{TellsStop};
 
 use crate::builder::{Acceptor, Builder};
@@ -146,9 +145,10 @@ impl<FS: OnDynamic<Source>, FT: OnDynamic<Target>> LinkAcceptor<FS, FT> {
     /// Accepts a link: its frames are the attach that answers the peer's and, for a local receiver
     /// that grants credit, the flow that grants it.
     ///
-    /// Errors: `SessionStopped` where the session keeps a reason why it stopped; else `LocalReceiver`
-    /// with `CoordinatorIsNotImplemented` where the target is a coordinator, whatever the peer's
-    /// role; else that of the local end, by the peer's role. Want of memory is that of the local end.
+    /// Errors: `SessionStopped` where the session keeps a reason why it stopped; else
+    /// `LocalReceiver` with `CoordinatorIsNotImplemented` where the target is a coordinator,
+    /// whatever the peer's role; else that of the local end, by the peer's role. Want of memory is
+    /// that of the local end.
     ///
     /// # Requires
     ///
@@ -186,10 +186,10 @@ impl<FS: OnDynamic<Source>, FT: OnDynamic<Target>> LinkAcceptor<FS, FT> {
     /// Takes the attach that came first out of the session's queue, and accepts it. It is `Pending`
     /// exactly where the queue is empty and not closed.
     ///
-    /// Errors: `SessionStopped` where the queue is closed and empty, with the reason that the session
-    /// keeps, or `Ended` where it keeps none; else those of
+    /// Errors: `SessionStopped` where the queue is closed and empty, with the reason that the
+    /// session keeps, or `Ended` where it keeps none; else those of
     /// [`LinkAcceptor::accept_incoming_attach`], and the attach is then out of the queue. Want of
-    /// memory to tell why the session stopped is that of a local receiver.
+    /// memory to copy the kept reason is that of a local receiver.
     ///
     /// # Requires
     ///
@@ -262,10 +262,10 @@ impl<FS: OnDynamic<Source>, FT: OnDynamic<Target>> LinkAcceptor<FS, FT> {
     }
 }
 
-/// That the session had stopped, for the reason that is kept or because it ended; or want of memory
-/// at a local receiver.
+/// That the session had stopped: for the reason that is kept, or want of memory at a local receiver
+/// to tell it; or because it ended, where none is kept.
 fn stopped_or_ended(reason: Option<&SessionStopReason>) -> AcceptorAttachError
-    ensures { TellsStop (stop_or_ended (option_copied reason.entry)) roles.Sender result }
+    ensures { TellsStopOrEnd (option_copied reason.entry) result }
 {
     match reason {
         Some(reason) => stopped(reason, Role::Sender),

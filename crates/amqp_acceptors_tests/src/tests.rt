@@ -7,7 +7,7 @@ use amqp_sessions::{AllocLinkError, NameState, PlainSession, Session};
 use amqp_txn_types::{
     Attach, Begin, Coordinator, Fields, Flow, Frame, Frames, Handle, NoMemory, OutgoingChannel,
     ReceiverSettleMode, Role, SenderSettleMode, SessionState, SessionStopReason, Source, Symbol,
-    Symbols, Target, TargetArchetype, Text, TryClone,
+    Symbols, Target, TargetArchetype, Text, TryClone, is_coordinator,
 };
 use std::alloc::Global;
 use std::test::Fail;
@@ -163,59 +163,103 @@ fn a_set_supports_the_modes_of_its_name(rt: HostRuntime) {
     assert!(rt; SupportedReceiverSettleModes::default().supports(&ReceiverSettleMode::Second));
 }
 
+/// The frames with which an acceptor answers the attach of a control link.
+fn control_frames(
+    alloc: Global,
+    acceptor: &ControlLinkAcceptor,
+    remote: &Attach,
+    session: &mut PlainSession,
+) -> Result<Frames, ReceiverAttachError> {
+    if !is_coordinator(remote) {
+        return Err(ReceiverAttachError::CoordinatorIsNotImplemented);
+    }
+    acceptor.accept_incoming_attach(alloc, remote, session)
+}
+
 #[test]
 fn a_control_link_is_accepted(rt: HostRuntime) -> Result<(), Fail> {
     let alloc = rt.alloc();
+    let remote = control_attach(alloc)?;
     let mut session = session(alloc, SessionState::Mapped);
     let acceptor = ControlLinkAcceptor::builder().build();
-    let remote = control_attach(alloc)?;
-    let frames = acceptor.accept_incoming_attach(alloc, &remote, &mut session)?;
+    let answer = control_frames(alloc, &acceptor, &remote, &mut session);
+    assert_eq!(rt; session.name_state(&remote.name), NameState::Taken);
+    drop(session);
+    drop(acceptor);
+    let frames = answer?;
     let mut wanted = reply(alloc, Role::Receiver)?;
     wanted.target = Some(TargetArchetype::Coordinator(Coordinator::default()));
     assert!(rt; are_frames(&frames, wanted, Some(granted(200))));
-    assert_eq!(rt; session.name_state(&remote.name), NameState::Taken);
     Ok(())
 }
 
 #[test]
 fn a_refused_flow_frees_the_link(rt: HostRuntime) -> Result<(), Fail> {
     let alloc = rt.alloc();
+    let remote = control_attach(alloc)?;
     let mut session = session(alloc, SessionState::Unmapped);
     let acceptor = ControlLinkAcceptor::default();
-    let remote = control_attach(alloc)?;
-    let answer = acceptor.accept_incoming_attach(alloc, &remote, &mut session);
+    let answer = control_frames(alloc, &acceptor, &remote, &mut session);
+    assert_eq!(rt; session.name_state(&remote.name), NameState::Unknown);
     let refused = ReceiverAttachError::Session(SessionInnerError::IllegalState);
     assert!(rt; same(answer, Err(refused)));
-    assert_eq!(rt; session.name_state(&remote.name), NameState::Unknown);
     Ok(())
 }
 
 #[test]
 fn a_local_receiver_is_accepted(rt: HostRuntime) -> Result<(), Fail> {
     let alloc = rt.alloc();
+    let remote = sender_attach(alloc)?;
     let mut session = session(alloc, SessionState::Mapped);
     let acceptor = LinkAcceptor::builder()
         .credit_mode(CreditMode::Auto(3))
         .build();
-    let remote = sender_attach(alloc)?;
-    let (endpoint, frames) = acceptor.accept_incoming_attach(alloc, remote, &mut session)?;
+    let answer = acceptor.accept_incoming_attach(alloc, remote, &mut session);
+    drop(session);
+    let (endpoint, frames) = answer?;
     assert!(rt; matches!(endpoint, LinkEndpoint::Receiver(_)));
     let wanted = reply(alloc, Role::Receiver)?;
     assert!(rt; are_frames(&frames, wanted, Some(granted(3))));
     Ok(())
 }
 
+/// The frames with which a receiver of control links answers, or of other links, by its kind.
+fn frames_of<T: TargetKind>(
+    alloc: Global,
+    receiver: LocalReceiverLinkAcceptor<T, RejectDynamic>,
+    remote: Attach,
+) -> Result<Frames, ReceiverAttachError> {
+    let mut session = session(alloc, SessionState::Mapped);
+    let shared = SharedLinkAcceptorFields::default();
+    let answer = receiver.accept_incoming_attach_inner(alloc, &shared, remote, &mut session);
+    drop(session);
+    drop(shared);
+    drop(receiver);
+    let (wire, frames) = answer?;
+    drop(wire);
+    Ok(frames)
+}
+
+#[test]
+fn a_local_receiver_of_control_links_is_accepted(rt: HostRuntime) -> Result<(), Fail> {
+    let alloc = rt.alloc();
+    let receiver: LocalReceiverLinkAcceptor<Coordinator, RejectDynamic> =
+        LocalReceiverLinkAcceptor::default();
+    let frames = frames_of(alloc, receiver, control_attach(alloc)?)?;
+    let mut wanted = reply(alloc, Role::Receiver)?;
+    wanted.target = Some(TargetArchetype::Coordinator(Coordinator::default()));
+    assert!(rt; are_frames(&frames, wanted, Some(granted(200))));
+    Ok(())
+}
+
 #[test]
 fn a_local_receiver_of_another_kind_is_not(rt: HostRuntime) -> Result<(), Fail> {
     let alloc = rt.alloc();
-    let mut session = session(alloc, SessionState::Mapped);
     let receiver: LocalReceiverLinkAcceptor<Coordinator, RejectDynamic> =
         LocalReceiverLinkAcceptor::default();
-    let shared = SharedLinkAcceptorFields::default();
-    let remote = sender_attach(alloc)?;
-    let answer = receiver.accept_incoming_attach_inner(alloc, &shared, remote, &mut session);
+    let answer = frames_of(alloc, receiver, sender_attach(alloc)?);
     assert!(rt;
-        matches!(
+        same(
             answer,
             Err(ReceiverAttachError::CoordinatorIsNotImplemented)
         )
@@ -223,18 +267,19 @@ fn a_local_receiver_of_another_kind_is_not(rt: HostRuntime) -> Result<(), Fail> 
     Ok(())
 }
 
-/// The attach with which a local sender answers, whose rule is `acceptor`'s.
-fn answer_of<F: OnDynamic<Source>>(
+/// The frames with which an acceptor answers, whose rules may be asked.
+fn answer_of<FS: OnDynamic<Source>, FT: OnDynamic<Target>>(
     alloc: Global,
-    acceptor: &LinkAcceptor<F, RejectDynamic>,
+    acceptor: &LinkAcceptor<FS, FT>,
+    remote: Attach,
 ) -> Result<Frames, AcceptorAttachError>
-    requires { F.can_decide acceptor.now.local_sender_acceptor.on_dynamic_source }
+    requires source { FS.can_decide acceptor.now.local_sender_acceptor.on_dynamic_source }
+    requires target { FT.can_decide acceptor.now.local_receiver_acceptor.on_dynamic_target }
 {
     let mut session = session(alloc, SessionState::Mapped);
-    let Ok(remote) = dynamic_attach(alloc) else {
-        return Err(AcceptorAttachError::LocalSender(SenderAttachError::NoMemory));
-    };
-    let (endpoint, frames) = acceptor.accept_incoming_attach(alloc, remote, &mut session)?;
+    let answer = acceptor.accept_incoming_attach(alloc, remote, &mut session);
+    drop(session);
+    let (endpoint, frames) = answer?;
     drop(endpoint);
     Ok(frames)
 }
@@ -253,7 +298,7 @@ fn a_closure_is_asked_for_a_node(rt: HostRuntime) -> Result<(), Fail> {
         })
     });
     let acceptor = LinkAcceptor::builder().on_dynamic_source(ask).build();
-    let frames = answer_of(alloc, &acceptor)?;
+    let frames = answer_of(alloc, &acceptor, dynamic_attach(alloc)?)?;
     assert!(rt; are_frames(&frames, reply(alloc, Role::Sender)?, None));
     Ok(())
 }
@@ -266,20 +311,42 @@ fn a_link_without_its_node_is_accepted(rt: HostRuntime) -> Result<(), Fail> {
         None
     });
     let acceptor = LinkAcceptor::builder().on_dynamic_source(ask).build();
-    let frames = answer_of(alloc, &acceptor)?;
+    let frames = answer_of(alloc, &acceptor, dynamic_attach(alloc)?)?;
     let mut wanted = reply(alloc, Role::Sender)?;
     wanted.source = None;
     assert!(rt; are_frames(&frames, wanted, None));
-    let frames = answer_of(alloc, &LinkAcceptor::new())?;
+    let frames = answer_of(alloc, &LinkAcceptor::new(), dynamic_attach(alloc)?)?;
     assert!(rt; frames.len() == 1);
+    Ok(())
+}
+
+/// The attach of a sender whose target is dynamic.
+fn dynamic_target_attach(alloc: Global) -> Result<Attach, NoMemory> {
+    let node = TargetArchetype::Target(target(true));
+    attach(alloc, Role::Sender, source(false), node)
+}
+
+#[test]
+fn a_closure_is_asked_for_a_target(rt: HostRuntime) -> Result<(), Fail> {
+    let alloc = rt.alloc();
+    let ask = Ask::new(|target: Target| {
+        Some(Target {
+            dynamic: false,
+            ..target
+        })
+    });
+    let acceptor = LinkAcceptor::builder().on_dynamic_target(ask).build();
+    let frames = answer_of(alloc, &acceptor, dynamic_target_attach(alloc)?)?;
+    let wanted = reply(alloc, Role::Receiver)?;
+    assert!(rt; are_frames(&frames, wanted, Some(granted(200))));
     Ok(())
 }
 
 #[test]
 fn a_coordinator_is_not_taken(rt: HostRuntime) -> Result<(), Fail> {
     let alloc = rt.alloc();
-    let mut session = session(alloc, SessionState::Mapped);
     let remote = control_attach(alloc)?;
+    let mut session = session(alloc, SessionState::Mapped);
     let answer = LinkAcceptor::new().accept_incoming_attach(alloc, remote, &mut session);
     let refused = ReceiverAttachError::CoordinatorIsNotImplemented;
     assert!(rt; is_refused(answer, AcceptorAttachError::LocalReceiver(refused)));
@@ -289,9 +356,9 @@ fn a_coordinator_is_not_taken(rt: HostRuntime) -> Result<(), Fail> {
 #[test]
 fn a_stopped_session_accepts_nothing(rt: HostRuntime) -> Result<(), Fail> {
     let alloc = rt.alloc();
+    let remote = control_attach(alloc)?;
     let mut session = session(alloc, SessionState::Mapped);
     session.set_session_stop_reason(SessionStopReason::RemoteEnded);
-    let remote = control_attach(alloc)?;
     let answer = LinkAcceptor::new().accept_incoming_attach(alloc, remote, &mut session);
     let stopped = AcceptorAttachError::SessionStopped(SessionStopReason::RemoteEnded);
     assert!(rt; is_refused(answer, stopped));
@@ -377,7 +444,6 @@ fn local_ends_are_built(rt: HostRuntime) -> Result<(), Fail> {
         .into_builder()
         .initial_delivery_count(1)
         .source_capabilities(symbols(alloc, "s")?)
-        .on_dynamic_target(RejectDynamic)
         .credit_mode(CreditMode::Manual)
         .target_capabilities(symbols(alloc, "t")?)
         .auto_accept(true)

@@ -72,3 +72,66 @@ fn refusals_go_on_by_name(rt: HostRuntime) {
         ReceiverAttachError::from(AllocLinkError::NoMemory) == ReceiverAttachError::NoMemory
     );
 }
+
+#[test]
+fn errors_of_channels_have_their_texts(rt: HostRuntime) -> Result<(), Fail> {
+    let stopped = AllocSessionError::ConnectionStopped(ConnectionStopReason::Closed);
+    let table = [
+        (AllocSessionError::ChannelMaxReached, "no channel is left"),
+        (stopped, "the connection stopped: Closed"),
+        (AllocSessionError::NoMemory, "out of memory"),
+    ];
+    for (error, want) in &table {
+        let text = format!(in rt.alloc(); "{error}")?;
+        assert_eq!(rt; text.as_str(), *want);
+    }
+    Ok(())
+}
+
+#[test]
+fn errors_of_senders_have_their_texts(rt: HostRuntime) -> Result<(), Fail> {
+    let table = [
+        (
+            SenderAttachError::Alloc(AllocLinkError::HandleMaxReached),
+            "the link is not allocated: no handle is left",
+        ),
+        (
+            SenderAttachError::SessionStopped(SessionStopReason::Ended),
+            "the session stopped: Ended",
+        ),
+        (
+            SenderAttachError::Session(SessionInnerError::IllegalState),
+            "the session refused: the state does not allow it",
+        ),
+        (SenderAttachError::NoMemory, "out of memory"),
+    ];
+    for (error, want) in &table {
+        let text = format!(in rt.alloc(); "{error}")?;
+        assert_eq!(rt; text.as_str(), *want);
+    }
+    Ok(())
+}
+
+#[test]
+fn errors_of_receivers_have_their_texts(rt: HostRuntime) -> Result<(), Fail> {
+    let table = [
+        (
+            ReceiverAttachError::Alloc(AllocLinkError::DuplicatedLinkName),
+            "the link is not allocated: the link name is in use",
+        ),
+        (
+            ReceiverAttachError::Session(SessionInnerError::IllegalState),
+            "the session refused: the state does not allow it",
+        ),
+        (
+            ReceiverAttachError::CoordinatorIsNotImplemented,
+            "the target is of a kind that is not taken here",
+        ),
+        (ReceiverAttachError::NoMemory, "out of memory"),
+    ];
+    for (error, want) in &table {
+        let text = format!(in rt.alloc(); "{error}")?;
+        assert_eq!(rt; text.as_str(), *want);
+    }
+    Ok(())
+}

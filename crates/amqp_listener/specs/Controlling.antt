@@ -26,7 +26,8 @@ use Rattle.amqp_acceptors.specs.Replies.{SendsReply}
 use Rattle.amqp_listener.specs.declared.listener.ListenerSession.{ListenerSession}
 use Rattle.amqp_listener.specs.Listening.{AllocatesHeld, NoRoom, control_of, counted, held_of, inner_of, own_of, queue_of}
 
--- why a control link isn't opened: that it isn't allocated, or the session's own refusal of its flow
+-- why a control link isn't opened: that it isn't allocated, or the session's own refusal of its
+-- flow
 abbrev pub control_refusal : OpenError → SessionInnerError
 control_refusal (errors.Alloc error) = control_error error
 control_refusal (errors.Session error) = error
@@ -55,7 +56,8 @@ abbrev pub OpensHeld : {S : Type 0} → (S → Told)
     → (S → S → Text → Relay → InputHandle → Result OutputHandle AllocLinkError → Type 0)
     → (S → S → LinkFlow → Result Flow SessionInnerError → Type 0)
     → (S → S → OutputHandle → Bool → Type 0) → S → S → (InputHandle → List LinkFlow)
-    → (InputHandle → List LinkFlow) → Opening → Result (OutputHandle × List Frame) OpenError → Type 0
+    → (InputHandle → List LinkFlow) → Opening → Result (OutputHandle × List Frame) OpenError
+    → Type 0
 OpensHeld {S} told allocates flows frees old new held held_now opening (Ok opened) =
     (allocated : S)
     × AllocatesHeld told allocates old allocated held held_now opening.name opening.relay
@@ -64,7 +66,8 @@ OpensHeld {S} told allocates flows frees old new held held_now opening (Ok opene
 OpensHeld told allocates flows frees old new held held_now opening (Err (errors.Alloc error)) =
     AllocatesHeld told allocates old new held held_now opening.name opening.relay opening.input
     (Err error)
-OpensHeld {S} told allocates flows frees old new held held_now opening (Err (errors.Session error)) =
+OpensHeld {S} told allocates flows frees old new held held_now opening
+    (Err (errors.Session error)) =
     (allocated : S) × (output : OutputHandle)
     × AllocatesHeld told allocates old allocated held held_now opening.name opening.relay
     opening.input (Ok output)

@@ -83,8 +83,8 @@ module _ {S : Type 0} (told : S → Told) (kept : S → Kept) (names : S → Nam
         → LeavesFrame (kept old) (kept new) (names old) (names new) (frames.Attach attach) answer
     queued-leaves old new state before after attach (Ok given) same stays queues = record {
       kept = ap kept same;
-      names = attaches-leaves (is_coordinator_attach (frames.Attach attach)) (names old) (names new) attach.name
-          (attaches-same old new attach.name same stays);
+      names = attaches-leaves (is_coordinator_attach (frames.Attach attach)) (names old) (names new)
+          attach.name (attaches-same old new attach.name same stays);
     }
     queued-leaves old new state before after attach (Err error) same stays queues =
         record { kept = ap kept same; names = left-same _ _ error (names-same old new same) }
@@ -92,20 +92,26 @@ module _ {S : Type 0} (told : S → Told) (kept : S → Kept) (names : S → Nam
     -- an attach, by how its name is known
     attach-leaves : (old new : S) (state : NameState) (before after : Queue) (attach : Attach)
         (answer : Result (List Frame) SessionInnerError) → (names old).known attach.name ≡ state
-        → HearsAttach (Took told gives old new (frames.Attach attach)) state old new before after attach answer
+        → HearsAttach (Took told gives old new (frames.Attach attach)) state old new before after
+        attach answer
         → LeavesFrame (kept old) (kept new) (names old) (names new) (frames.Attach attach) answer
     attach-leaves old new Unknown before after attach answer is hears =
-        queued-leaves old new Unknown before after attach answer hears.0 (ap state_attached is ∙ sym is) hears.1
+        queued-leaves old new Unknown before after attach answer hears.0
+        (ap state_attached is ∙ sym is) hears.1
     attach-leaves old new Waiting before after attach answer is hears =
         law old new (frames.Attach attach) answer hears.0.gave
     attach-leaves old new Taken before after attach answer is hears =
-        queued-leaves old new Taken before after attach answer hears.0 (ap state_attached is ∙ sym is) hears.1
+        queued-leaves old new Taken before after attach answer hears.0
+        (ap state_attached is ∙ sym is) hears.1
 
     -- a call that may leave no names changed, whose answer is let pass
-    passed-leaves : (old new : S) (frame : Frame) (answer result : Result (List Frame) SessionInnerError)
-        → ((kept new ≡ kept old) × LeftBy (SameNames (names old) (names new)) (SameNames (names old) (names new)) answer)
+    passed-leaves : (old new : S) (frame : Frame)
+        (answer result : Result (List Frame) SessionInnerError)
+        → ((kept new ≡ kept old) × LeftBy (SameNames (names old) (names new))
+        (SameNames (names old) (names new)) answer)
         → result ≡ let_pass answer
-        → (kept new ≡ kept old) × LeftBy (SameNames (names old) (names new)) (SameNames (names old) (names new)) result
+        → (kept new ≡ kept old) × LeftBy (SameNames (names old) (names new))
+        (SameNames (names old) (names new)) result
     passed-leaves old new frame answer result left is =
         let Left : Result (List Frame) SessionInnerError → Type 0 =
         LeftBy (SameNames (names old) (names new)) (SameNames (names old) (names new)) in
@@ -113,29 +119,36 @@ module _ {S : Type 0} (told : S → Told) (kept : S → Kept) (names : S → Nam
 
     -- an incoming frame call
     pub heard-leaves : (old new : ListenerSession S) (frame : Frame)
-        (answer : Result (List Frame) SessionInnerError) → HearsFrame told gives names old new frame answer
+        (answer : Result (List Frame) SessionInnerError)
+        → HearsFrame told gives names old new frame answer
         → LeavesFrame (kept (inner_of old)) (kept (inner_of new)) (names (inner_of old))
         (names (inner_of new)) frame answer
     heard-leaves old new (frames.Attach attach) answer heard =
-        attach-leaves (inner_of old) (inner_of new) ((names (inner_of old)).known attach.name) _ _ attach answer refl heard.hears.0
+        attach-leaves (inner_of old) (inner_of new) ((names (inner_of old)).known attach.name) _ _
+        attach answer refl heard.hears.0
     heard-leaves old new (frames.Flow flow) answer heard =
         elim heard.hears.0 [
           | inl a ↦
               let left = law (inner_of old) (inner_of new) (frames.Flow flow) a.0 a.1.inner.gave in
-              let now = passed-leaves (inner_of old) (inner_of new) (frames.Flow flow) a.0 answer (left.kept, left.names) a.1.result_is in
+              let now = passed-leaves (inner_of old) (inner_of new) (frames.Flow flow) a.0 answer
+              (left.kept, left.names) a.1.result_is in
               record { kept = now.0; names = now.1 }
           | inr none ↦
               let Left : Result (List Frame) SessionInnerError → Type 0 =
-              LeftBy (SameNames (names (inner_of old)) (names (inner_of new))) (SameNames (names (inner_of old)) (names (inner_of new))) in
+              LeftBy (SameNames (names (inner_of old)) (names (inner_of new)))
+              (SameNames (names (inner_of old)) (names (inner_of new))) in
               record {
                 kept = ap kept none.inner;
-                names = subst Left (sym none.result_is) (inr (names-same (inner_of old) (inner_of new) none.inner));
+                names = subst Left (sym none.result_is)
+                    (inr (names-same (inner_of old) (inner_of new) none.inner));
               }
         ]
     heard-leaves old new (frames.Transfer transfer payload) answer heard =
         let h = heard.hears.0 in
-        let left = law (inner_of old) (inner_of new) (frames.Transfer transfer payload) h.0 h.1.gave in
-        let now = passed-leaves (inner_of old) (inner_of new) (frames.Transfer transfer payload) h.0 answer (left.kept, left.names) h.2 in
+        let left =
+        law (inner_of old) (inner_of new) (frames.Transfer transfer payload) h.0 h.1.gave in
+        let now = passed-leaves (inner_of old) (inner_of new) (frames.Transfer transfer payload)
+        h.0 answer (left.kept, left.names) h.2 in
         record { kept = now.0; names = now.1 }
     heard-leaves old new (frames.Disposition disposition) answer heard =
         law (inner_of old) (inner_of new) (frames.Disposition disposition) answer heard.hears.0.gave

@@ -116,7 +116,8 @@ pub fn hear_flow<S: LayerBelow>(
     flow: Flow,
 ) -> Result<Frames, SessionInnerError>
     ensures fixed { (S.told session.new).fixed ≡ (S.told session.old).fixed }
-    ensures hears { HearsFlow (Took S.told S.incoming_gives session.old session.new (frames.Flow flow))
+    ensures hears { HearsFlow
+        (Took S.told S.incoming_gives session.old session.new (frames.Flow flow))
         session.old session.new (flows_for held.old) (flows_for held.new) flow result }
 {
     let Ok(copy) = held.prepare(&flow) else {
@@ -129,7 +130,7 @@ pub fn hear_flow<S: LayerBelow>(
         held.hold(copy);
         return Ok(Frames::new(alloc));
     }
-    drop(copy);
+    held.release(copy);
     answer
 }
 

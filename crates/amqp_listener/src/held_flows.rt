@@ -79,6 +79,15 @@ impl HeldFlows {
         }
     }
 
+    /// Lets go the room that was made for a flow that isn't held.
+    pub fn release(&mut self, flow: Option<LinkFlow>)
+        ensures { SameHeld (flows_for self.old) (flows_for self.new) }
+    {
+        if let Some(flow) = flow {
+            remove_empty(&mut self.flows, InputHandle(flow.handle.0));
+        }
+    }
+
     /// The relay with copies of the flows that are held for a handle, in the order in which they
     /// came, after its own. The only error is want of memory.
     pub fn replay(&self, input: InputHandle, mut relay: Relay) -> Result<Relay, NoMemory>
@@ -119,6 +128,18 @@ fn start_list(flows: &mut FlowsByHandle, alloc: Global, input: InputHandle) -> R
     let list = Vec::with_capacity(alloc, 1)?;
     flows.insert(input, list)?;
     Ok(())
+}
+
+/// Without the list of a handle, where that has no flows.
+fn remove_empty(flows: &mut FlowsByHandle, input: InputHandle)
+    ensures { SameLists flows.old flows.new }
+{
+    let Some(list) = flows.get(&input) else {
+        return;
+    };
+    if let [] = list.as_slice() {
+        let _ = flows.remove(&input);
+    }
 }
 
 /// Appends copies of some flows, in their order. The only error is want of memory.

@@ -3,6 +3,8 @@
 #![tactic(auto)]
 
 #[cfg(test)]
+mod listener_tests;
+#[cfg(test)]
 mod tests;
 #[cfg(test)]
 mod window_tests;

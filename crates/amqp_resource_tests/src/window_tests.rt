@@ -11,8 +11,8 @@ use amqp_txn_types::{
 use std::alloc::Global;
 use std::test::Fail;
 
-/// A mapped session with an incoming window of 2 and one link, whose attach is to come.
-fn plain_session(alloc: Global) -> Result<PlainSession, NoMemory> {
+/// A mapped session with an incoming window of 2.
+pub(crate) fn mapped(alloc: Global) -> PlainSession {
     let begin = Begin {
         remote_channel: None,
         next_outgoing_id: 0,
@@ -23,7 +23,12 @@ fn plain_session(alloc: Global) -> Result<PlainSession, NoMemory> {
         desired_capabilities: None,
         properties: None,
     };
-    let mut below = PlainSession::new(alloc, OutgoingChannel(0), SessionState::Mapped, begin);
+    PlainSession::new(alloc, OutgoingChannel(0), SessionState::Mapped, begin)
+}
+
+/// Such a session with one link, whose attach is to come.
+fn plain_session(alloc: Global) -> Result<PlainSession, NoMemory> {
+    let mut below = mapped(alloc);
     let relay = Relay {
         name: Text::new(alloc),
         role: Role::Receiver,

@@ -52,7 +52,8 @@ impl<S: Session> Session for ListenerSession<S> {
 
     ghost end_sent_gives = { λ old new error answer.
         Passes
-        (λ a b. Moves (end_sent (is_some error) (S.told a).fixed.state) (S.told a) (S.told b) answer)
+        (λ a b. Moves (end_sent (is_some error) (S.told a).fixed.state) (S.told a) (S.told b)
+        answer)
         (λ a b. S.end_sent_gives a b error answer) old new answer };
 
     ghost outgoing_attach_gives = { λ old new attach answer.

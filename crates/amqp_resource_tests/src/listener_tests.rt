@@ -1,0 +1,95 @@
+//! A run over a listener: the attaches that it queues, the flows that it holds and the transfers
+//! that it drops count as taken.
+
+use crate::tests::{attach, transfer};
+use crate::window_tests::mapped;
+use amqp_acceptors::ControlLinkAcceptor;
+use amqp_listener::ListenerSession;
+use amqp_recorder::Recorder;
+use amqp_resource::*;
+use amqp_sessions::PlainSession;
+use amqp_txn_types::{Flow, Frame, Handle, NoMemory, Text};
+use std::alloc::Global;
+use std::test::Fail;
+
+/// A session over a recorder of a listener.
+type Listening = TxnSession<Recorder<ListenerSession<PlainSession>>>;
+
+/// Such a session, over a mapped one without links.
+fn listening(alloc: Global) -> Listening {
+    let listener = ListenerSession::new(alloc, mapped(alloc), ControlLinkAcceptor::default());
+    TxnSession::new(alloc, Recorder::new(alloc, listener))
+}
+
+/// A flow that grants credit to the link with handle 1.
+fn granting() -> Frame {
+    Frame::Flow(Flow {
+        next_incoming_id: None,
+        incoming_window: 2,
+        next_outgoing_id: 0,
+        outgoing_window: 2,
+        handle: Some(Handle(1)),
+        delivery_count: None,
+        link_credit: Some(3),
+        available: None,
+        drain: false,
+        echo: false,
+        properties: None,
+    })
+}
+
+/// An attach, a transfer and a flow of a link that nobody allocated.
+fn steps(alloc: Global) -> Result<Steps, NoMemory> {
+    let mut steps = Steps::new(alloc);
+    steps.append(attach(Text::from_str(alloc, "a")?, 1, None))?;
+    steps.append(Step::Frame(transfer(true, None)))?;
+    steps.append(Step::Frame(granting()))?;
+    Ok(steps)
+}
+
+/// Makes the steps on the session: how many were answered, where all were; 100 otherwise.
+fn count_answered(session: &mut Listening, steps: Steps) -> usize {
+    if !session.is_fresh() {
+        drop(steps);
+        return 100;
+    }
+    let driven = drive(session, steps, &mut CountIds::new());
+    let count = if driven.stop == Stop::Done {
+        driven.entries.len()
+    } else {
+        100
+    };
+    drop(driven);
+    count
+}
+
+/// Whether the three frames were taken, with no frame given back, and none refused.
+fn took_all(session: &Listening) -> bool {
+    let recorder = session.below();
+    match recorder.exchanges().as_slice() {
+        [
+            (Frame::Attach(_), queued),
+            (Frame::Transfer { .. }, dropped),
+            (Frame::Flow(_), held),
+        ] => {
+            queued.is_empty()
+                && dropped.is_empty()
+                && held.is_empty()
+                && recorder.refused().is_empty()
+        }
+        _ => false,
+    }
+}
+
+#[test]
+fn what_a_listener_lets_pass_is_taken(rt: HostRuntime) -> Result<(), Fail> {
+    let alloc = rt.alloc();
+    let steps = steps(alloc)?;
+    let mut session = listening(alloc);
+    let count = count_answered(&mut session, steps);
+    let took = took_all(&session);
+    drop(session);
+    assert_eq!(rt; count, 3);
+    assert!(rt; took);
+    Ok(())
+}
