@@ -25,16 +25,14 @@
 //! The promise that this crate carries: an acquisition adds the one property `txn-id` and puts one
 //! flow, a cleanup takes that property alone out, whatever the flow is answered, and puts one flow;
 //! each refusal hands back the transaction or the acquisition. What is put on the control link, and
-//! that a discharge is put after the flow of the cleanup, is only tested: no contract can say what
-//! a link under a lock holds. 'The standard' is OASIS AMQP 1.0.
+//! that a discharge is put after the flow of the cleanup, isn't proved: no contract can say what a
+//! link under a lock holds. 'The standard' is OASIS AMQP 1.0.
 #![tactic(auto)]
 
 mod acquiring;
 mod acquisition;
 mod discharging;
 mod receiving;
-#[cfg(test)]
-mod tests;
 
 pub use acquiring::{TransactionAcquisition, TransactionExt};
 pub use acquisition::TxnAcquisition;
