@@ -1,13 +1,12 @@
 //! What no clause says: that the calls succeed where there is memory, and printed texts.
 
 use crate::*;
-use amqp_endpoints::Progress;
 use amqp_links::{
     DetachError, IllegalLinkStateError, LinkStateError, MessageSizeExceeded, SendError, WireSender,
 };
 use amqp_txn_types::{
-    Accepted, Declared, DeliveryState, LinkEnd, NoMemory, OutputHandle, ReceiverSettleMode,
-    Rejected, Role, SenderSettleMode, Text, Token, TransactionId,
+    LinkEnd, NoMemory, OutputHandle, ReceiverSettleMode, Rejected, Role, SenderSettleMode, Text,
+    TransactionId,
 };
 use std::alloc::Global;
 use std::fmt::Display;
@@ -39,84 +38,6 @@ fn id() -> TransactionId {
         Ok(id) => id,
         Err(_) => TransactionId::from([0; 16]),
     }
-}
-
-/// What the poll of a declare finds once that was answered.
-fn declared(
-    alloc: Global,
-    answer: Option<DeliveryState>,
-) -> Option<Progress<DeclareOnLink, Result<Declared, ControllerSendError>>> {
-    let Ok(mut wire) = wire(alloc) else {
-        drop(answer);
-        return None;
-    };
-    let found = match declare_on_link(alloc, &mut wire, None) {
-        Ok(declare) => {
-            wire.answer(Token(0), Ok(answer));
-            Some(declare.poll(&mut wire))
-        }
-        Err(_) => {
-            drop(answer);
-            None
-        }
-    };
-    drop(wire);
-    found
-}
-
-/// Whether the poll of a declare that was answered so ends so.
-fn declare_ends(
-    alloc: Global,
-    answer: Option<DeliveryState>,
-    want: Result<Declared, ControllerSendError>,
-) -> bool {
-    same(declared(alloc, answer), Some(Progress::Ready(want)))
-}
-
-#[test]
-fn a_declare_is_answered(rt: HostRuntime) {
-    let id = Declared { txn_id: id() };
-    assert!(rt; declare_ends(rt.alloc(), Some(DeliveryState::Declared(id)), Ok(id)));
-}
-
-#[test]
-fn a_declare_without_a_state(rt: HostRuntime) {
-    let want = Err(ControllerSendError::NonTerminalDeliveryState);
-    assert!(rt; declare_ends(rt.alloc(), None, want));
-}
-
-#[test]
-fn a_declare_that_is_accepted(rt: HostRuntime) {
-    let want = Err(ControllerSendError::IllegalDeliveryState);
-    assert!(rt; declare_ends(rt.alloc(), Some(DeliveryState::Accepted), want));
-}
-
-#[test]
-fn a_declare_that_is_rejected(rt: HostRuntime) {
-    let state = DeliveryState::Rejected(Rejected { error: None });
-    let want = Err(ControllerSendError::Rejected(Rejected { error: None }));
-    assert!(rt; declare_ends(rt.alloc(), Some(state), want));
-}
-
-/// Whether a discharge is pending, and then accepted.
-fn discharges(wire: &mut WireSender, discharge: DischargeOnLink) -> bool {
-    let Progress::Pending(discharge) = discharge.poll(wire) else {
-        return false;
-    };
-    let awaited = wire.answer(Token(0), Ok(Some(DeliveryState::Accepted)));
-    awaited && same(discharge.poll(wire), Progress::Ready(Ok(Accepted)))
-}
-
-#[test]
-fn a_discharge_is_answered(rt: HostRuntime) -> Result<(), Fail> {
-    let mut wire = wire(rt.alloc())?;
-    let done = match discharge_on_link(rt.alloc(), &mut wire, &id(), Some(true)) {
-        Ok(discharge) => discharges(&mut wire, discharge),
-        Err(_) => false,
-    };
-    drop(wire);
-    assert!(rt; done);
-    Ok(())
 }
 
 #[test]
