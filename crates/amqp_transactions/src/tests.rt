@@ -6,6 +6,5 @@ mod borrowed;
 mod closing;
 mod links;
 mod orders;
-mod owned;
 mod rows;
 mod texts;

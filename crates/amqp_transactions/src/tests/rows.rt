@@ -1,7 +1,7 @@
-//! What a transaction shows and puts, borrowed or owned.
+//! What a transaction shows and puts.
 
 use super::links::{CountingLink, counts, fills, last_is, same};
-use crate::{Controller, Discharging, OwnedTransaction, Transaction, TransactionDischarge};
+use crate::{Controller, Discharging, Transaction, TransactionDischarge};
 use amqp_control_calls::Abandoned;
 use amqp_endpoints::Progress;
 use amqp_txn_types::{DeliveryState, Error, ErrorCondition, Rejected, TransactionError};
@@ -32,16 +32,6 @@ pub trait OverCounting: TransactionDischarge {
 }
 
 impl OverCounting for Transaction<'_, CountingLink> {
-    fn over(&self) -> &Controller<CountingLink> {
-        self.controller()
-    }
-
-    fn set_trials(&mut self, trials: u32) {
-        self.set_rollback_on_drop_trials(trials);
-    }
-}
-
-impl OverCounting for OwnedTransaction<CountingLink> {
     fn over(&self) -> &Controller<CountingLink> {
         self.controller()
     }
