@@ -33,62 +33,61 @@ module _ {S : Type 0} (told : S → Told) (kept : S → Kept) (names : S → Nam
     at = λ output. ap (λ s. (names s).at output) same;
   }
 
-  module _ (gives : S → S → Frame → Result (List Frame) SessionInnerError → Type 0)
-      (law : (old new : S) (frame : Frame) (answer : Result (List Frame) SessionInnerError)
+  -- a call that a recorder refused, or whose answer it couldn't keep, leaves what the layer in it
+  -- left, or all
+  refused-left : (old new : S) (Done : Type 0)
+      (Inner : Result (List Frame) SessionInnerError → Type 0)
+      → ((answer : Result (List Frame) SessionInnerError) → Inner answer
+      → (kept new ≡ kept old) × LeftBy Done (SameNames (names old) (names new)) answer)
+      → (planned : Bool) (error : SessionInnerError) (rose : Bool)
+      → WhyErr Inner (new ≡ old) planned error rose
+      → (kept new ≡ kept old) × LeftBy Done (SameNames (names old) (names new)) (Err error)
+  refused-left old new Done Inner law planned _ _ (vetoed is_planned same) =
+      (ap kept same, names-same old new same)
+  refused-left old new Done Inner law planned _ _ (no_room same) =
+      (ap kept same, inr (names-same old new same))
+  refused-left old new Done Inner law planned _ _ (passed error no_plan inner) =
+      law (Err error) inner
+  refused-left old new Done Inner law planned _ _ (error_uncopied error no_plan inner) =
+      let left = law (Err error) inner in (left.0, left-weakened error left.1)
+  refused-left old new Done Inner law planned _ _ (given_uncopied given some no_plan inner) =
+      let left = law (Ok given) inner in (left.0, inl left.1)
+
+  -- an incoming frame call
+  pub recorded-leaves : (gives : S → S → Frame → Result (List Frame) SessionInnerError → Type 0)
+      → ((old new : S) (frame : Frame) (answer : Result (List Frame) SessionInnerError)
       → gives old new frame answer
-      → LeavesFrame (kept old) (kept new) (names old) (names new) frame answer) where
-    refused-leaves : (old new : S) (frame : Frame) (planned : Bool) (error : SessionInnerError) (rose : Bool)
-        → WhyErr (Took told gives old new frame) (new ≡ old) planned error rose
-        → LeavesFrame (kept old) (kept new) (names old) (names new) frame (Err error)
-    refused-leaves old new frame planned _ _ (vetoed is_planned same) =
-        record { kept = ap kept same; names = names-same old new same }
-    refused-leaves old new frame planned _ _ (no_room same) =
-        record { kept = ap kept same; names = inr (names-same old new same) }
-    refused-leaves old new frame planned _ _ (passed error no_plan inner) =
-        law old new frame (Err error) inner.gave
-    refused-leaves old new frame planned _ _ (error_uncopied error no_plan inner) =
-        let left = law old new frame (Err error) inner.gave in
-        record { kept = left.kept; names = left-weakened error left.names }
-    refused-leaves old new frame planned _ _ (given_uncopied given some no_plan inner) =
-        let left = law old new frame (Ok given) inner.gave in
-        record { kept = left.kept; names = inl left.names }
+      → LeavesFrame (kept old) (kept new) (names old) (names new) frame answer)
+      → (old new : Recorder S) (frame : Frame) (answer : Result (List Frame) SessionInnerError)
+      → RecordsCall told gives old new frame answer
+      → LeavesFrame (kept (inner_of old)) (kept (inner_of new)) (names (inner_of old))
+      (names (inner_of new)) frame answer
+  recorded-leaves gives law old new frame (Ok given) records =
+      law (inner_of old) (inner_of new) frame (Ok given) records.recorded.1.gave
+  recorded-leaves gives law old new frame (Err error) records =
+      let left = refused-left (inner_of old) (inner_of new) _ _
+      (λ answer took.
+      let leaves = law (inner_of old) (inner_of new) frame answer took.gave in
+      (leaves.kept, leaves.names))
+      _ error records.recorded.0 records.recorded.1 in
+      record { kept = left.0; names = left.1 }
 
-    -- an incoming frame call
-    pub recorded-leaves : (old new : Recorder S) (frame : Frame)
-        (answer : Result (List Frame) SessionInnerError) → RecordsCall told gives old new frame answer
-        → LeavesFrame (kept (inner_of old)) (kept (inner_of new)) (names (inner_of old))
-        (names (inner_of new)) frame answer
-    recorded-leaves old new frame (Ok given) records =
-        law (inner_of old) (inner_of new) frame (Ok given) records.recorded.1.gave
-    recorded-leaves old new frame (Err error) records =
-        refused-leaves (inner_of old) (inner_of new) frame _ error records.recorded.0 records.recorded.1
-
-  module _ (gives : S → S → Attach → Result (List Frame) SessionInnerError → Type 0)
-      (law : (old new : S) (attach : Attach) (answer : Result (List Frame) SessionInnerError)
+  -- the attach of a control link
+  pub recorded_opening-leaves :
+      (gives : S → S → Attach → Result (List Frame) SessionInnerError → Type 0)
+      → ((old new : S) (attach : Attach) (answer : Result (List Frame) SessionInnerError)
       → gives old new attach answer
-      → LeavesOpening (kept old) (kept new) (names old) (names new) attach answer) where
-    unopened-leaves : (old new : S) (attach : Attach) (planned : Bool) (error : SessionInnerError) (rose : Bool)
-        → WhyErr (Opened told gives old new attach) (new ≡ old) planned error rose
-        → LeavesOpening (kept old) (kept new) (names old) (names new) attach (Err error)
-    unopened-leaves old new attach planned _ _ (vetoed is_planned same) =
-        record { kept = ap kept same; names = names-same old new same }
-    unopened-leaves old new attach planned _ _ (no_room same) =
-        record { kept = ap kept same; names = inr (names-same old new same) }
-    unopened-leaves old new attach planned _ _ (passed error no_plan inner) =
-        law old new attach (Err error) inner.gave
-    unopened-leaves old new attach planned _ _ (error_uncopied error no_plan inner) =
-        let left = law old new attach (Err error) inner.gave in
-        record { kept = left.kept; names = left-weakened error left.names }
-    unopened-leaves old new attach planned _ _ (given_uncopied given some no_plan inner) =
-        let left = law old new attach (Ok given) inner.gave in
-        record { kept = left.kept; names = inl left.names }
-
-    -- the attach of a control link
-    pub recorded_opening-leaves : (old new : Recorder S) (attach : Attach)
-        (answer : Result (List Frame) SessionInnerError) → RecordsOpen told gives old new attach answer
-        → LeavesOpening (kept (inner_of old)) (kept (inner_of new)) (names (inner_of old))
-        (names (inner_of new)) attach answer
-    recorded_opening-leaves old new attach (Ok given) records =
-        law (inner_of old) (inner_of new) attach (Ok given) records.recorded.1.gave
-    recorded_opening-leaves old new attach (Err error) records =
-        unopened-leaves (inner_of old) (inner_of new) attach _ error records.recorded.0 records.recorded.1
+      → LeavesOpening (kept old) (kept new) (names old) (names new) attach answer)
+      → (old new : Recorder S) (attach : Attach)
+      (answer : Result (List Frame) SessionInnerError) → RecordsOpen told gives old new attach answer
+      → LeavesOpening (kept (inner_of old)) (kept (inner_of new)) (names (inner_of old))
+      (names (inner_of new)) attach answer
+  recorded_opening-leaves gives law old new attach (Ok given) records =
+      law (inner_of old) (inner_of new) attach (Ok given) records.recorded.1.gave
+  recorded_opening-leaves gives law old new attach (Err error) records =
+      let left = refused-left (inner_of old) (inner_of new) _ _
+      (λ answer opened.
+      let leaves = law (inner_of old) (inner_of new) attach answer opened.gave in
+      (leaves.kept, leaves.names))
+      _ error records.recorded.0 records.recorded.1 in
+      record { kept = left.0; names = left.1 }
