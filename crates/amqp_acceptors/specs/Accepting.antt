@@ -1,12 +1,15 @@
 -- What an acceptor answers, and what that leaves of the session.
-use Rattle.std.specs.Prelude.{◌≡◌, ◌⊎◌, Result, Ok, Err, List}
+use Rattle.std.specs.Prelude.{◌≡◌, ◌⊎◌, Option, None, Result, Ok, Err, List}
+use Rattle.amqp_txn_types.specs.declared.delivery.SessionStopReason.{SessionStopReason}
 use Rattle.amqp_txn_types.specs.declared.small.OutputHandle.{OutputHandle}
 use Rattle.amqp_txn_types.specs.declared.performatives.Frame.{Frame}
 use Rattle.amqp_txn_types.specs.declared.text.Text.{Text}
 use Rattle.amqp_txn_types.specs.Counts.{Rose}
 use Rattle.amqp_layer.specs.declared.inner_error.SessionInnerError.TheVariants as faults
 use Rattle.amqp_layer.specs.Told.{Steady, Told}
-use Rattle.amqp_sessions.specs.Names.{Names, OpensLink, SameNames}
+use Rattle.amqp_sessions.specs.Names.{Names, Placed, SameNames}
+use Rattle.amqp_sessions.specs.Sessions.{StoppedBy}
+use Rattle.amqp_sessions.specs.declared.relay.NameState.TheVariants.{Taken}
 use Rattle.amqp_endpoints.specs.declared.attach_errors.ReceiverAttachError.{ReceiverAttachError}
 use Rattle.amqp_endpoints.specs.declared.attach_errors.ReceiverAttachError.TheVariants as receivers
 use Rattle.amqp_endpoints.specs.declared.attach_errors.SenderAttachError.{SenderAttachError}
@@ -45,13 +48,32 @@ OnReceiverRefusal (Err (receivers.Alloc error)) P = P
 OnReceiverRefusal (Err (receivers.Session error)) P = P
 OnReceiverRefusal _ P = Unit {0}
 
+-- a refused allocation of a receiving end tells a stop only where that is kept
+abbrev pub ReceiverToldStop : Option SessionStopReason → ReceiverAttachError → Type 0
+ReceiverToldStop stop (receivers.Alloc error) = StoppedBy {T = OutputHandle} stop (Err error)
+ReceiverToldStop stop _ = Unit {0}
+
+-- the same of a sending end
+abbrev pub SenderToldStop : Option SessionStopReason → SenderAttachError → Type 0
+SenderToldStop stop (senders.Alloc error) = StoppedBy {T = OutputHandle} stop (Err error)
+SenderToldStop stop _ = Unit {0}
+
+-- a link is accepted only where no reason is kept why the session stopped, and one that is kept is
+-- the one that a refusal tells
+abbrev pub AcceptStoppedBy : {A E : Type 0} → (Option SessionStopReason → E → Type 0)
+    → Option SessionStopReason → Result A E → Type 0
+AcceptStoppedBy Tells stop (Ok accepted) = stop ≡ None
+AcceptStoppedBy Tells stop (Err error) = Tells stop error
+
 -- accepting for a receiving end adds to no list, and each refusal of the session is counted
 pub record ReceiverTold {A : Type 0} (old new : Told) (result : Result A ReceiverAttachError)
     : Type 0 where
   pub steady : Steady old new
   pub cause : OnReceiverRefusal result (Rose old.refusals new.refusals)
 
--- a link that is accepted is placed under a name that was unknown; an Err leaves the names
-abbrev pub AcceptLeaves : {A E : Type 0} → Names → Names → Text → Result A E → Type 0
-AcceptLeaves old new name (Ok accepted) = OpensLink old new name
-AcceptLeaves old new name (Err error) = SameNames old new
+-- a link that is accepted is placed under a name that was unknown and under the output handle that
+-- the answer tells; an Err leaves the names
+abbrev pub AcceptLeaves : {A E : Type 0} → (A → OutputHandle) → Names → Names → Text → Result A E
+    → Type 0
+AcceptLeaves output old new name (Ok accepted) = Placed old new name Taken (output accepted)
+AcceptLeaves output old new name (Err error) = SameNames old new

@@ -7,13 +7,15 @@ use Rattle.amqp_txn_types.specs.declared.performatives.Frame.{Frame}
 use Rattle.amqp_txn_types.specs.declared.small.Role.TheVariants as roles
 use Rattle.amqp_txn_types.specs.Counts.{Rose}
 use Rattle.amqp_layer.specs.Told.{Steady, Told}
+use Rattle.amqp_sessions.specs.Names.{Names, SameNames}
 use Rattle.amqp_links.specs.declared.poll.Poll.{Poll}
 use Rattle.amqp_links.specs.declared.poll.Poll.TheVariants as polls
 use Rattle.amqp_endpoints.specs.Queues.{Queue, first_waiting}
 use Rattle.amqp_acceptors.specs.declared.endpoint.AcceptorAttachError.{AcceptorAttachError}
 use Rattle.amqp_acceptors.specs.declared.endpoint.AcceptorAttachError.TheVariants as errors
 use Rattle.amqp_acceptors.specs.declared.endpoint.LinkEndpoint.{LinkEndpoint}
-use Rattle.amqp_acceptors.specs.LinkAcceptors.{OnLinkRefusal, TellsStop}
+use Rattle.amqp_acceptors.specs.Accepting.{AcceptLeaves, AcceptStoppedBy}
+use Rattle.amqp_acceptors.specs.LinkAcceptors.{LinkToldStop, OnLinkRefusal, TellsStop, link_output}
 
 -- what an empty queue gives, by whether it is closed
 abbrev pub none_waiting : Bool → Poll (Option Attach)
@@ -57,6 +59,22 @@ abbrev pub AcceptsNext : {S : Type 0} → (S → S → Option Attach → Type 0)
 AcceptsNext {S} takes queue stop Accepts old new result =
     (taken : S) × takes old taken (first_waiting queue)
     × AnswersNext (next_incoming queue) stop Accepts taken new result
+
+-- the names once the next attach was answered, by what the queue gave: it is placed where it was
+-- accepted, and all else leaves them
+abbrev pub NextLeaves : Poll (Option Attach) → Names → Names
+    → Poll (Result (LinkEndpoint × List Frame) AcceptorAttachError) → Type 0
+NextLeaves (polls.Ready (Some attach)) old new (polls.Ready answer) =
+    AcceptLeaves link_output old new attach.name answer
+NextLeaves next old new result = SameNames old new
+
+-- the next attach is accepted only where no reason is kept why the session stopped, and one that is
+-- kept is the one that a refusal tells
+abbrev pub NextStoppedBy : {A : Type 0} → Poll (Option Attach) → Option SessionStopReason
+    → Poll (Result A AcceptorAttachError) → Type 0
+NextStoppedBy (polls.Ready (Some attach)) stop (polls.Ready answer) =
+    AcceptStoppedBy LinkToldStop stop answer
+NextStoppedBy next stop result = Unit {0}
 
 -- the fact holds where a local end was refused but for want of memory or its kind of target
 abbrev pub OnNextRefusal : {A : Type 0} → Poll (Result A AcceptorAttachError) → Type 0 → Type 0

@@ -26,7 +26,7 @@ use Rattle.amqp_acceptors.specs.declared.opening.Opening.{Opening}
 use Rattle.amqp_acceptors.specs.declared.opening.OpenError.{OpenError}
 use Rattle.amqp_acceptors.specs.declared.receiver.LocalReceiverLinkAcceptor.{LocalReceiverLinkAcceptor}
 use Rattle.amqp_acceptors.specs.declared.sender.LocalSenderLinkAcceptor.{LocalSenderLinkAcceptor}
-use Rattle.amqp_acceptors.specs.Accepting.{OnReceiverRefusal}
+use Rattle.amqp_acceptors.specs.Accepting.{OnReceiverRefusal, ReceiverToldStop, SenderToldStop}
 use Rattle.amqp_acceptors.specs.Receivers.{AcceptsTarget}
 use Rattle.amqp_acceptors.specs.Senders.{AcceptsSource, OnSenderRefusal}
 
@@ -41,6 +41,15 @@ abbrev pub as_sender : Result (SenderWire × List Frame) SenderAttachError
     → Result (LinkEndpoint × List Frame) AcceptorAttachError
 as_sender (Ok accepted) = Ok (endpoints.Sender accepted.0, accepted.1)
 as_sender (Err error) = Err (errors.LocalSender error)
+
+-- the output handle of a local end that was accepted
+abbrev pub end_output : LinkEndpoint → OutputHandle
+end_output (endpoints.Sender wire) = wire.end.output
+end_output (endpoints.Receiver wire) = wire.end.output
+
+-- the output handle under which a link was accepted
+abbrev pub link_output : LinkEndpoint × List Frame → OutputHandle
+link_output accepted = end_output accepted.0
 
 -- want of memory at the local end, by the peer's role
 abbrev pub no_memory_for : Role → AcceptorAttachError
@@ -102,6 +111,12 @@ abbrev pub AcceptsLink : {FS FT S : Type 0} → (Source → Option Source → Ty
 AcceptsLink source_rule target_rule acceptor stop remote Opens old new result =
     AcceptsUnlessStopped stop remote.role (AcceptsNode (attaches_coordinator remote)
     (AcceptsEnd source_rule target_rule acceptor remote Opens old new) old new) old new result
+
+-- a stop is told only where it is kept, also by a local end
+abbrev pub LinkToldStop : Option SessionStopReason → AcceptorAttachError → Type 0
+LinkToldStop stop (errors.SessionStopped reason) = stop ≡ Some reason
+LinkToldStop stop (errors.LocalSender error) = SenderToldStop stop error
+LinkToldStop stop (errors.LocalReceiver error) = ReceiverToldStop stop error
 
 -- the fact holds where a local end was refused but for want of memory or its kind of target
 abbrev pub OnLinkRefusal : {A : Type 0} → Result A AcceptorAttachError → Type 0 → Type 0

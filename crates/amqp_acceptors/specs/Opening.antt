@@ -1,6 +1,6 @@
 -- How a link that the peer attached is opened. Part 2 of the standard, section 2.6.3 (establishing
 -- a link).
-use Rattle.std.specs.Prelude.{ℕ, Bool, Option, Result, Ok, Err, List, []}
+use Rattle.std.specs.Prelude.{ℕ, ◌≡◌, Bool, Option, None, Result, Ok, Err, List, []}
 use Rattle.amqp_txn_types.specs.declared.small.InputHandle.{InputHandle}
 use Rattle.amqp_txn_types.specs.declared.small.OutputHandle.{OutputHandle}
 use Rattle.amqp_txn_types.specs.declared.small.ReceiverSettleMode.{ReceiverSettleMode}
@@ -9,6 +9,7 @@ use Rattle.amqp_txn_types.specs.declared.performatives.Attach.{Attach}
 use Rattle.amqp_txn_types.specs.declared.performatives.Flow.{Flow}
 use Rattle.amqp_txn_types.specs.declared.performatives.Frame.{Frame}
 use Rattle.amqp_txn_types.specs.declared.performatives.LinkEnd.{LinkEnd}
+use Rattle.amqp_txn_types.specs.declared.delivery.SessionStopReason.{SessionStopReason}
 use Rattle.amqp_txn_types.specs.declared.performatives.LinkFlow.{LinkFlow}
 use Rattle.amqp_txn_types.specs.declared.text.Text.{Text}
 use Rattle.amqp_layer.specs.declared.inner_error.SessionInnerError.{SessionInnerError}
@@ -16,6 +17,7 @@ use Rattle.amqp_sessions.specs.declared.relay.NameState.TheVariants.{Taken}
 use Rattle.amqp_sessions.specs.declared.relay.Relay.{Relay}
 use Rattle.amqp_sessions.specs.declared.session_errors.AllocLinkError.{AllocLinkError}
 use Rattle.amqp_sessions.specs.Names.{Names, Placed, SameNames}
+use Rattle.amqp_sessions.specs.Sessions.{StoppedBy}
 use Rattle.amqp_acceptors.specs.declared.opening.Opening.{Opening}
 use Rattle.amqp_acceptors.specs.declared.opening.OpenError.{OpenError}
 use Rattle.amqp_acceptors.specs.declared.opening.OpenError.TheVariants as errors
@@ -74,6 +76,13 @@ OpensThrough {S} allocates flows frees old new opening (Err (errors.Session erro
     × allocates old allocated opening.name opening.relay opening.input (Ok output)
     × SendsReply flows frees opening.reply.credit allocated new opening.reply.attach output
     (Err error)
+
+-- a link is opened only where no reason is kept why the session stopped, and one that is kept is the
+-- one that the session tells
+abbrev pub OpenStoppedBy : {A : Type 0} → Option SessionStopReason → Result A OpenError → Type 0
+OpenStoppedBy stop (Ok opened) = stop ≡ None
+OpenStoppedBy stop (Err (errors.Alloc error)) = StoppedBy {T = OutputHandle} stop (Err error)
+OpenStoppedBy stop (Err (errors.Session error)) = Unit {0}
 
 -- a link that is opened is placed under its output handle; where it isn't, the names are as they
 -- were

@@ -1,11 +1,12 @@
 -- What an acceptor makes of the attach of a peer's sender. Part 2 of the standard, section 2.7.3
 -- (attach), and part 4, section 4.5.1 (coordinator).
-use Rattle.std.specs.Prelude.{◌≡◌, Bool, true, false, Option, Some, None, Result, Ok, Err, List, [], option_map}
+use Rattle.std.specs.Prelude.{◌≡◌, Bool, true, false, Option, Some, None, Result, Ok, Err, List, [], ◌∷◌, option_map}
 use Rattle.amqp_txn_types.specs.declared.small.OutputHandle.{OutputHandle}
 use Rattle.amqp_txn_types.specs.declared.small.Role.TheVariants as roles
 use Rattle.amqp_txn_types.specs.declared.performatives.Attach.{Attach}
 use Rattle.amqp_txn_types.specs.declared.performatives.Coordinator.{Coordinator}
 use Rattle.amqp_txn_types.specs.declared.performatives.Frame.{Frame}
+use Rattle.amqp_txn_types.specs.declared.performatives.Frame.TheVariants as frames
 use Rattle.amqp_txn_types.specs.declared.performatives.Target.{Target}
 use Rattle.amqp_txn_types.specs.declared.performatives.TargetArchetype.{TargetArchetype}
 use Rattle.amqp_txn_types.specs.declared.performatives.TargetArchetype.TheVariants as targets
@@ -58,6 +59,10 @@ abbrev pub receiver_answer : Opening → Result (OutputHandle × List Frame) Ope
 receiver_answer opening (Ok opened) = Ok (receiver_wire (end_of opening opened.0), opened.1)
 receiver_answer opening (Err error) = Err (receiver_refusal error)
 
+-- the output handle of a receiving end that was accepted
+abbrev pub receiver_output : ReceiverWire × List Frame → OutputHandle
+receiver_output accepted = accepted.0.end.output
+
 -- by the kind of the peer's target: one of another kind isn't taken, and the session not asked
 abbrev pub OfKind : {T A S : Type 0} → Option (Option T)
     → (Option T → Result A ReceiverAttachError → Type 0) → S → S → Result A ReceiverAttachError
@@ -103,6 +108,11 @@ abbrev pub control_answer : Opening → Result (OutputHandle × List Frame) Open
     → Result (List Frame) ReceiverAttachError
 control_answer opening (Ok opened) = Ok opened.1
 control_answer opening (Err error) = Err (receiver_refusal error)
+
+-- the handle of an attach that is the first of some frames, and 0 where the first is none
+abbrev pub output_told : List Frame → OutputHandle
+output_told (frames.Attach attach ∷ rest) = record { 0 = attach.handle.0 }
+output_told _ = record { 0 = 0 }
 
 -- it grants 200 once the link is accepted, has no capabilities, doesn't accept deliveries by
 -- itself, and wants the peer's termini verified

@@ -57,6 +57,10 @@ abbrev pub sender_answer : Opening → Result (OutputHandle × List Frame) OpenE
 sender_answer opening (Ok opened) = Ok (sender_wire (end_of opening opened.0), opened.1)
 sender_answer opening (Err error) = Err (sender_refusal error)
 
+-- the output handle of a sending end that was accepted
+abbrev pub sender_output : SenderWire × List Frame → OutputHandle
+sender_output accepted = accepted.0.end.output
+
 -- a local sender: what an acceptor answers to the attach of a peer's receiver
 abbrev pub AcceptsSource : {S : Type 0} → (Source → Option Source → Type 0)
     → Option (List Symbol) → SharedLinkAcceptorFields → ℕ → Attach

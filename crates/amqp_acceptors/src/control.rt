@@ -3,7 +3,7 @@
 ghost use Rattle.std.specs.Prelude.{◌≡◌, IsTrue, IfOk};
 ghost use Rattle.amqp_txn_types.specs.Frames.{attaches_coordinator};
 ghost use Rattle.amqp_endpoints.specs.declared.attach_errors.ReceiverAttachError.TheVariants as refusals;
-ghost use Rattle.amqp_acceptors.specs.Accepting.{AcceptLeaves, AcceptsBy, ReceiverTold};
+ghost use Rattle.amqp_acceptors.specs.Accepting.{AcceptLeaves, AcceptStoppedBy, AcceptsBy, ReceiverTold, ReceiverToldStop};
 ghost use Rattle.amqp_acceptors.specs.Opening.{OpensThrough};
 
 use crate::builder::{Acceptor, Builder};
@@ -64,7 +64,7 @@ impl TryClone for ControlLinkAcceptor {
 
 impl ControlLinkAcceptor {
     ghost use Rattle.amqp_acceptors.specs.Fields.{default_shared};
-    ghost use Rattle.amqp_acceptors.specs.Receivers.{IsDefaultReceiver, control_answer, control_opening};
+    ghost use Rattle.amqp_acceptors.specs.Receivers.{IsDefaultReceiver, control_answer, control_opening, output_told};
 
     /// A builder of the default acceptor.
     pub fn builder() -> Builder<Self>
@@ -110,8 +110,9 @@ impl ControlLinkAcceptor {
         requires { IsTrue (attaches_coordinator remote.now) }
         ensures told { ReceiverTold (S.told session.old) (S.told session.new) result }
         ensures kept { S.kept session.new ≡ S.kept session.old }
-        ensures names { AcceptLeaves (S.names session.old) (S.names session.new) remote.now.name
-            result }
+        ensures stopped { AcceptStoppedBy ReceiverToldStop (S.kept session.old).stop result }
+        ensures names { AcceptLeaves output_told (S.names session.old) (S.names session.new)
+            remote.now.name result }
         ensures accepts { AcceptsBy (λ opening. opening ≡ control_opening self.now remote.now)
             (OpensThrough S.allocate_incoming_link_gives S.outgoing_flow_gives
             S.deallocate_link_gives) control_answer refusals.NoMemory session.old session.new

@@ -137,9 +137,9 @@ impl<FS, FT> LinkAcceptor<FS, FT> {
 }
 
 impl<FS: OnDynamic<Source>, FT: OnDynamic<Target>> LinkAcceptor<FS, FT> {
-    ghost use Rattle.amqp_acceptors.specs.Accepting.{AcceptLeaves};
-    ghost use Rattle.amqp_acceptors.specs.Handles.{AcceptsNext, NextTold};
-    ghost use Rattle.amqp_acceptors.specs.LinkAcceptors.{AcceptsEnd, AcceptsLink, LinkTold};
+    ghost use Rattle.amqp_acceptors.specs.Accepting.{AcceptLeaves, AcceptStoppedBy};
+    ghost use Rattle.amqp_acceptors.specs.Handles.{AcceptsNext, NextLeaves, NextStoppedBy, NextTold, next_incoming};
+    ghost use Rattle.amqp_acceptors.specs.LinkAcceptors.{AcceptsEnd, AcceptsLink, LinkTold, LinkToldStop, link_output};
     ghost use Rattle.amqp_acceptors.specs.Opening.{OpensThrough};
 
     /// Accepts a link: its frames are the attach that answers the peer's and, for a local receiver
@@ -163,8 +163,9 @@ impl<FS: OnDynamic<Source>, FT: OnDynamic<Target>> LinkAcceptor<FS, FT> {
         requires target { FT.can_decide self.now.local_receiver_acceptor.on_dynamic_target }
         ensures told { LinkTold (S.told session.old) (S.told session.new) result }
         ensures kept { S.kept session.new ≡ S.kept session.old }
-        ensures names { AcceptLeaves (S.names session.old) (S.names session.new) remote.name
-            result }
+        ensures stopped { AcceptStoppedBy LinkToldStop (S.kept session.old).stop result }
+        ensures names { AcceptLeaves link_output (S.names session.old) (S.names session.new)
+            remote.name result }
         ensures accepts { AcceptsLink
             (FS.decides self.now.local_sender_acceptor.on_dynamic_source)
             (FT.decides self.now.local_receiver_acceptor.on_dynamic_target)
@@ -205,6 +206,10 @@ impl<FS: OnDynamic<Source>, FT: OnDynamic<Target>> LinkAcceptor<FS, FT> {
         ensures told { NextTold (E.told handle.old.session.now) (E.told handle.new.session.now)
             result }
         ensures kept { E.kept handle.new.session.now ≡ E.kept handle.old.session.now }
+        ensures stopped { NextStoppedBy (next_incoming (E.queue handle.old.session.now))
+            (E.kept handle.old.session.now).stop result }
+        ensures names { NextLeaves (next_incoming (E.queue handle.old.session.now))
+            (E.names handle.old.session.now) (E.names handle.new.session.now) result }
         ensures accepts { AcceptsNext E.next_attach_gives (E.queue handle.old.session.now)
             (E.kept handle.old.session.now).stop (λ remote. AcceptsLink
             (FS.decides self.now.local_sender_acceptor.on_dynamic_source)
@@ -237,8 +242,9 @@ impl<FS: OnDynamic<Source>, FT: OnDynamic<Target>> LinkAcceptor<FS, FT> {
         requires target { FT.can_decide self.now.local_receiver_acceptor.on_dynamic_target }
         ensures told { LinkTold (S.told session.old) (S.told session.new) result }
         ensures kept { S.kept session.new ≡ S.kept session.old }
-        ensures names { AcceptLeaves (S.names session.old) (S.names session.new) remote.name
-            result }
+        ensures stopped { AcceptStoppedBy LinkToldStop (S.kept session.old).stop result }
+        ensures names { AcceptLeaves link_output (S.names session.old) (S.names session.new)
+            remote.name result }
         ensures accepts { AcceptsEnd
             (FS.decides self.now.local_sender_acceptor.on_dynamic_source)
             (FT.decides self.now.local_receiver_acceptor.on_dynamic_target)

@@ -2,8 +2,7 @@
 
 ghost use Rattle.std.specs.Prelude.{◌≡◌, IfOk};
 ghost use Rattle.amqp_layer.specs.Told.{Checks};
-ghost use Rattle.amqp_sessions.specs.Sessions.{StoppedBy};
-ghost use Rattle.amqp_acceptors.specs.Opening.{OpenLeaves, OpensThrough, relay_of};
+ghost use Rattle.amqp_acceptors.specs.Opening.{OpenLeaves, OpenStoppedBy, OpensThrough, relay_of};
 
 use crate::fields::SharedLinkAcceptorFields;
 use crate::reply::{Reply, reply_to};
@@ -112,6 +111,7 @@ impl Opening {
     pub fn open<S: Session>(self, session: &mut S) -> Result<(OutputHandle, Frames), OpenError>
         ensures told { Checks (S.told session.old) (S.told session.new) result }
         ensures kept { S.kept session.new ≡ S.kept session.old }
+        ensures stopped { OpenStoppedBy (S.kept session.old).stop result }
         ensures names { OpenLeaves (S.names session.old) (S.names session.new) self.name result }
         ensures opens { OpensThrough S.allocate_incoming_link_gives S.outgoing_flow_gives
             S.deallocate_link_gives session.old session.new self result }

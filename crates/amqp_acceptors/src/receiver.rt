@@ -1,9 +1,9 @@
 //! The acceptor for local receivers.
 
 ghost use Rattle.std.specs.Prelude.{◌≡◌};
-ghost use Rattle.amqp_acceptors.specs.Accepting.{AcceptLeaves, ReceiverTold};
+ghost use Rattle.amqp_acceptors.specs.Accepting.{AcceptLeaves, AcceptStoppedBy, ReceiverTold, ReceiverToldStop};
 ghost use Rattle.amqp_acceptors.specs.Opening.{OpensThrough};
-ghost use Rattle.amqp_acceptors.specs.Receivers.{receiver_wire};
+ghost use Rattle.amqp_acceptors.specs.Receivers.{receiver_output, receiver_wire};
 
 use crate::credit::CreditMode;
 use crate::dynamic::{OnDynamic, RejectDynamic};
@@ -92,8 +92,9 @@ impl<F: OnDynamic<Target>> LocalReceiverLinkAcceptor<Target, F> {
         requires { F.can_decide self.now.on_dynamic_target }
         ensures told { ReceiverTold (S.told session.old) (S.told session.new) result }
         ensures kept { S.kept session.new ≡ S.kept session.old }
-        ensures names { AcceptLeaves (S.names session.old) (S.names session.new) remote.name
-            result }
+        ensures stopped { AcceptStoppedBy ReceiverToldStop (S.kept session.old).stop result }
+        ensures names { AcceptLeaves receiver_output (S.names session.old) (S.names session.new)
+            remote.name result }
         ensures accepts { AcceptsTarget (F.decides self.now.on_dynamic_target)
             self.now.target_capabilities shared.now self.now.credit_mode remote
             (OpensThrough S.allocate_incoming_link_gives S.outgoing_flow_gives
@@ -151,8 +152,9 @@ impl<T: TargetKind, F: OnDynamic<T>> LocalReceiverLinkAcceptor<T, F> {
         requires { F.can_decide self.now.on_dynamic_target }
         ensures told { ReceiverTold (S.told session.old) (S.told session.new) result }
         ensures kept { S.kept session.new ≡ S.kept session.old }
-        ensures names { AcceptLeaves (S.names session.old) (S.names session.new) remote.name
-            result }
+        ensures stopped { AcceptStoppedBy ReceiverToldStop (S.kept session.old).stop result }
+        ensures names { AcceptLeaves receiver_output (S.names session.old) (S.names session.new)
+            remote.name result }
         ensures accepts { AcceptsReceiver (F.decides self.now.on_dynamic_target) T.is_dynamic
             (T.with_capabilities self.now.target_capabilities) T.of_archetype T.archetype
             shared.now self.now.credit_mode remote (OpensThrough S.allocate_incoming_link_gives
@@ -176,8 +178,9 @@ impl<T: TargetKind, F: OnDynamic<T>> LocalReceiverLinkAcceptor<T, F> {
         requires { F.can_decide self.now.on_dynamic_target }
         ensures told { ReceiverTold (S.told session.old) (S.told session.new) result }
         ensures kept { S.kept session.new ≡ S.kept session.old }
-        ensures names { AcceptLeaves (S.names session.old) (S.names session.new) remote.name
-            result }
+        ensures stopped { AcceptStoppedBy ReceiverToldStop (S.kept session.old).stop result }
+        ensures names { AcceptLeaves receiver_output (S.names session.old) (S.names session.new)
+            remote.name result }
         ensures accepts { AcceptsBy (ReceiverReady (LocalTerminus
             (F.decides self.now.on_dynamic_target) T.is_dynamic
             (T.with_capabilities self.now.target_capabilities) target) T.archetype shared.now

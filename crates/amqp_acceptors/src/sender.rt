@@ -60,9 +60,9 @@ impl TryClone for LocalSenderLinkAcceptor<RejectDynamic> {
 
 impl<F: OnDynamic<Source>> LocalSenderLinkAcceptor<F> {
     ghost use Rattle.std.specs.Prelude.{IfOk};
-    ghost use Rattle.amqp_acceptors.specs.Accepting.{AcceptLeaves};
+    ghost use Rattle.amqp_acceptors.specs.Accepting.{AcceptLeaves, AcceptStoppedBy, SenderToldStop};
     ghost use Rattle.amqp_acceptors.specs.Opening.{OpensThrough};
-    ghost use Rattle.amqp_acceptors.specs.Senders.{AcceptsSource, LocalSource, SenderReady, SenderTold};
+    ghost use Rattle.amqp_acceptors.specs.Senders.{AcceptsSource, LocalSource, SenderReady, SenderTold, sender_output};
 
     /// The link, ready to be opened. The only error is want of memory.
     fn prepare(
@@ -102,8 +102,9 @@ impl<F: OnDynamic<Source>> LocalSenderLinkAcceptor<F> {
         requires { F.can_decide self.now.on_dynamic_source }
         ensures told { SenderTold (S.told session.old) (S.told session.new) result }
         ensures kept { S.kept session.new ≡ S.kept session.old }
-        ensures names { AcceptLeaves (S.names session.old) (S.names session.new) remote.name
-            result }
+        ensures stopped { AcceptStoppedBy SenderToldStop (S.kept session.old).stop result }
+        ensures names { AcceptLeaves sender_output (S.names session.old) (S.names session.new)
+            remote.name result }
         ensures accepts { AcceptsSource (F.decides self.now.on_dynamic_source)
             self.now.source_capabilities shared.now self.now.initial_delivery_count remote
             (OpensThrough S.allocate_incoming_link_gives S.outgoing_flow_gives

@@ -1,7 +1,7 @@
 use Rattle.std.proofs.Common.{List, rules}
 use Rattle.amqp_txn_types.specs.declared.performatives.Frame.{Frame}
 use Rattle.amqp_acceptors.specs.declared.endpoint.LinkEndpoint.{LinkEndpoint}
-use Rattle.amqp_acceptors.proofs.Stopping.{stop-uncounted}
+use Rattle.amqp_acceptors.proofs.Stopping.{stop-tells, stop-uncounted}
 use Rattle.amqp_acceptors.proofs.link.LinkAcceptor.accept_incoming_attach.Goals as goal
 
 -- the session had stopped
@@ -10,3 +10,7 @@ returns-in-Some-clause-told g c = record {
   steady = search rules;
   cause = stop-uncounted (LinkEndpoint × List Frame) _ _ _ _ c.stopped.ensures;
 }
+
+-- the reason that is kept is the one that is told
+pub returns-in-Some-clause-stopped : goal.returns-in-Some-clause-stopped
+returns-in-Some-clause-stopped g c = stop-tells _ _ _ _ (search rules) c.stopped.ensures
