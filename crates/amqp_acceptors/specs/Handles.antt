@@ -68,8 +68,8 @@ NextLeaves (polls.Ready (Some attach)) old new (polls.Ready answer) =
     AcceptLeaves link_output old new attach.name answer
 NextLeaves next old new result = SameNames old new
 
--- the next attach is accepted only where no reason is kept why the session stopped, and one that is
--- kept is the one that a refusal tells
+-- the next attach is accepted only where no reason is kept why the session stopped, and a reason
+-- that is told is the one that is kept
 abbrev pub NextStoppedBy : {A : Type 0} → Poll (Option Attach) → Option SessionStopReason
     → Poll (Result A AcceptorAttachError) → Type 0
 NextStoppedBy (polls.Ready (Some attach)) stop (polls.Ready answer) =

@@ -77,8 +77,8 @@ OpensThrough {S} allocates flows frees old new opening (Err (errors.Session erro
     × SendsReply flows frees opening.reply.credit allocated new opening.reply.attach output
     (Err error)
 
--- a link is opened only where no reason is kept why the session stopped, and one that is kept is the
--- one that the session tells
+-- a link is opened only where no reason is kept why the session stopped, and a reason that is told
+-- is the one that is kept
 abbrev pub OpenStoppedBy : {A : Type 0} → Option SessionStopReason → Result A OpenError → Type 0
 OpenStoppedBy stop (Ok opened) = stop ≡ None
 OpenStoppedBy stop (Err (errors.Alloc error)) = StoppedBy {T = OutputHandle} stop (Err error)
