@@ -79,7 +79,8 @@ module _ {S : Type 0} (told : S → Told) (kept : S → Kept) (names : S → Nam
       → gives old new attach answer
       → LeavesOpening (kept old) (kept new) (names old) (names new) attach answer)
       → (old new : Recorder S) (attach : Attach)
-      (answer : Result (List Frame) SessionInnerError) → RecordsOpen told gives old new attach answer
+      (answer : Result (List Frame) SessionInnerError)
+      → RecordsOpen told gives old new attach answer
       → LeavesOpening (kept (inner_of old)) (kept (inner_of new)) (names (inner_of old))
       (names (inner_of new)) attach answer
   recorded_opening-leaves gives law old new attach (Ok given) records =
