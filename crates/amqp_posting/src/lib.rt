@@ -25,8 +25,6 @@ mod errors;
 mod posting;
 mod results;
 mod retiring;
-#[cfg(test)]
-mod tests;
 
 pub use errors::PostError;
 pub use posting::{DeliveryFut, TransactionPosting};

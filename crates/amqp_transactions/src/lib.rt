@@ -53,8 +53,6 @@ mod discharging;
 mod owned_declaring;
 mod owned_errors;
 mod owned_transaction;
-#[cfg(test)]
-mod tests;
 mod transaction;
 
 pub use attaching::Attaching;
