@@ -1,8 +1,9 @@
 //! Controllers that are closed.
 
-use super::links::{LateLink, Lent, counting, counts, late, same};
-use crate::Controller;
+use crate::links::{LateLink, Lent, counting, counts, late};
+use crate::values::same;
 use amqp_links::DetachError;
+use amqp_transactions::Controller;
 use amqp_txn_types::{AmqpError, Error, ErrorCondition, NoMemory};
 use std::alloc::Global;
 use std::sync::Wait;

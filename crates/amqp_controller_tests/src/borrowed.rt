@@ -1,24 +1,20 @@
 //! Calls over the lock, on transactions that borrow their controller.
 
-use super::links::{
-    CountingLink, counting, counts, declaration, fills, id, illegal, last_is, late, same,
-};
-use super::rows::{
-    DECLARE, GLOBAL_DECLARE, ROLLBACK, accepted_row, discharged_row, gives_up, lets_go,
-    rejected_row, unknown_id, unsent_row,
-};
-use crate::{
-    Controller, DEFAULT_ROLLBACK_ON_DROP_TRIALS, Declaring, Transaction, TransactionDischarge,
-};
+use crate::links::{CountingLink, counting, counts, fills, illegal, last_is, late};
+use crate::rows::{accepted_row, discharged_row, gives_up, lets_go, rejected_row, unsent_row};
+use crate::values::{DECLARE, GLOBAL_DECLARE, ROLLBACK, declaration, id, same, unknown_id};
 use amqp_control_calls::{Abandoned, ControllerSendError, TransactionBase};
 use amqp_endpoints::Progress;
+use amqp_transactions::{
+    Controller, DEFAULT_ROLLBACK_ON_DROP_TRIALS, Declaring, Transaction, TransactionDischarge,
+};
 use amqp_txn_types::{DeliveryState, NoMemory, TransactionId};
 use std::alloc::Global;
 use std::sync::Wait;
 use std::test::Fail;
 
 /// The transaction 010203 over the controller, after one put and two looks.
-pub fn begun<'t, R: Wait>(
+fn begun<'t, R: Wait>(
     rt: &R,
     controller: &'t Controller<CountingLink>,
 ) -> Option<Transaction<'t, CountingLink>> {
@@ -49,7 +45,7 @@ fn pends<'t, R: Wait>(
 }
 
 /// The transaction of a declare that is answered, where all went as it must.
-pub fn answered<'t, R: Wait>(
+fn answered<'t, R: Wait>(
     rt: &R,
     declaring: Declaring<'t, CountingLink>,
     went: bool,
@@ -197,9 +193,9 @@ fn undischarged<R: Wait>(rt: &R, alloc: Global) -> Result<bool, NoMemory> {
         Ok(_) => false,
         Err(error) => same(error, illegal()),
     };
-    let left = !transaction.is_discharged();
+    let left = !transaction.is_discharged() && counts(rt, &controller) == (1, 2, 0);
     lets_go(rt, transaction);
-    Ok(refused && left && counts(rt, &controller) == (1, 2, 0))
+    Ok(refused && left)
 }
 
 #[test]

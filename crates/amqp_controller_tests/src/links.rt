@@ -1,14 +1,12 @@
 //! Links that count what is done to them.
 
-use crate::Controller;
+use crate::values::wire;
 use amqp_control_calls::ControllerSendError;
 use amqp_links::{
     DetachError, LinkStateError, Poll, SendError, Sendable, SenderLink, Sent, WireSender,
 };
-use amqp_txn_types::{
-    CallNumbers, Declared, DeliveryState, Error, LinkEnd, NoMemory, OutputHandle, Payload,
-    ReceiverSettleMode, Role, SenderSettleMode, Text, Token, TransactionId,
-};
+use amqp_transactions::Controller;
+use amqp_txn_types::{Declared, DeliveryState, Error, NoMemory, Payload, Token};
 use std::alloc::Global;
 use std::sync::Wait;
 
@@ -118,22 +116,6 @@ impl SenderLink for LateLink {
     }
 }
 
-/// A wire of whose calls those of the numbers are to fail.
-fn wire(alloc: Global, failing: &[u64]) -> Result<WireSender, NoMemory> {
-    let failing = Vec::from_slice(alloc, failing)?;
-    let name = Text::from_str(alloc, "c")?;
-    let end = LinkEnd {
-        name,
-        role: Role::Sender,
-        output: OutputHandle(0),
-        snd_settle_mode: SenderSettleMode::Unsettled,
-        rcv_settle_mode: ReceiverSettleMode::First,
-    };
-    let mut wire = WireSender::new(alloc, end);
-    wire.set_failing(CallNumbers::from_vec(failing));
-    Ok(wire)
-}
-
 /// A controller over a counting link, of whose calls those of the numbers are to fail.
 pub fn counting(alloc: Global, failing: &[u64]) -> Result<Controller<CountingLink>, NoMemory> {
     let link = CountingLink {
@@ -209,28 +191,7 @@ pub fn last_is<R: Wait>(
     put_is(&link.wire, alloc, octets)
 }
 
-/// The id 010203.
-pub fn id() -> TransactionId {
-    match TransactionId::new(&[1, 2, 3]) {
-        Ok(id) => id,
-        Err(_) => TransactionId::from([0; 16]),
-    }
-}
-
-/// The declare of the id 010203, answered.
-pub fn declaration() -> Declared {
-    Declared { txn_id: id() }
-}
-
 /// What a link says of a call that is to fail.
 pub fn illegal() -> ControllerSendError {
     ControllerSendError::LinkStateError(LinkStateError::IllegalState)
-}
-
-/// Whether the two are equal.
-pub fn same<T: PartialEq + Drop>(found: T, want: T) -> bool {
-    let equal = found == want;
-    drop(found);
-    drop(want);
-    equal
 }

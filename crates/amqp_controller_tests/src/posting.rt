@@ -1,19 +1,20 @@
-//! What no clause says: that the calls succeed where there is memory, and printed texts.
+//! Posts and retirements under a transaction.
 
-use crate::*;
+use crate::values::{end, id, same, wire};
 use amqp_control_calls::TransactionBase;
 use amqp_endpoints::Progress;
 use amqp_links::{
-    DeliveryInfo, DetachError, DispositionError, IllegalLinkStateError, LinkStateError,
-    MessageSizeExceeded, SendError, Sendable, WireReceiver, WireSender,
+    DeliveryInfo, DetachError, DispositionError, IllegalLinkStateError, LinkStateError, SendError,
+    Sendable, WireReceiver, WireSender,
+};
+use amqp_posting::{
+    FromDeliveryFailure, FromDeliveryState, PostError, PostResult, TransactionPosting,
+    TransactionRetirement,
 };
 use amqp_txn_types::{
-    Binary, CallNumbers, DeliveryState, LinkEnd, Modified, NoMemory, Outcome, OutputHandle,
-    Payload, ReceiverSettleMode, Role, SenderSettleMode, SessionStopReason, Text, Token,
+    Binary, DeliveryState, Modified, Outcome, Payload, Role, SessionStopReason, Token,
     TransactionId, TransactionalState,
 };
-use std::alloc::Global;
-use std::fmt::Display;
 use std::test::Fail;
 
 /// A transaction that is only an id.
@@ -36,29 +37,7 @@ impl TransactionRetirement for Named {
 
 /// The transaction 010203.
 fn transaction() -> Named {
-    match TransactionId::new(&[1, 2, 3]) {
-        Ok(id) => Named(id),
-        Err(_) => Named(TransactionId::from([0; 16])),
-    }
-}
-
-/// Whether the two are equal.
-fn same<T: PartialEq + Drop>(found: T, want: T) -> bool {
-    let equal = found == want;
-    drop(found);
-    drop(want);
-    equal
-}
-
-fn end(alloc: Global, role: Role) -> Result<LinkEnd, NoMemory> {
-    let name = Text::from_str(alloc, "q")?;
-    Ok(LinkEnd {
-        name,
-        role,
-        output: OutputHandle(0),
-        snd_settle_mode: SenderSettleMode::Mixed,
-        rcv_settle_mode: ReceiverSettleMode::First,
-    })
+    Named(id())
 }
 
 fn sendable(settled: Option<bool>) -> Sendable {
@@ -84,8 +63,7 @@ fn posts(sender: &mut WireSender) -> [bool; 4] {
 
 #[test]
 fn messages_are_posted(rt: HostRuntime) -> Result<(), Fail> {
-    let end = end(rt.alloc(), Role::Sender)?;
-    let mut sender = WireSender::new(rt.alloc(), end);
+    let mut sender = wire(rt.alloc(), &[])?;
     let put = posts(&mut sender) == [true; 4] && sender.put().len() == 4;
     drop(sender);
     assert!(rt; put);
@@ -114,8 +92,7 @@ fn is_released(sender: &mut WireSender) -> bool {
 
 #[test]
 fn a_post_is_answered(rt: HostRuntime) -> Result<(), Fail> {
-    let end = end(rt.alloc(), Role::Sender)?;
-    let mut sender = WireSender::new(rt.alloc(), end);
+    let mut sender = wire(rt.alloc(), &[])?;
     let done = is_released(&mut sender);
     drop(sender);
     assert!(rt; done);
@@ -137,10 +114,7 @@ fn looks_once(sender: &mut WireSender) -> bool {
 
 #[test]
 fn each_poll_of_a_post_looks_once(rt: HostRuntime) -> Result<(), Fail> {
-    let end = end(rt.alloc(), Role::Sender)?;
-    let failing = Vec::from_slice(rt.alloc(), &[3])?;
-    let mut sender = WireSender::new(rt.alloc(), end);
-    sender.set_failing(CallNumbers::from_vec(failing));
+    let mut sender = wire(rt.alloc(), &[3])?;
     let once = looks_once(&mut sender);
     drop(sender);
     assert!(rt; once);
@@ -158,8 +132,7 @@ fn is_accepted(sender: &mut WireSender) -> bool {
 
 #[test]
 fn a_post_that_was_settled_is_accepted(rt: HostRuntime) -> Result<(), Fail> {
-    let end = end(rt.alloc(), Role::Sender)?;
-    let mut sender = WireSender::new(rt.alloc(), end);
+    let mut sender = wire(rt.alloc(), &[])?;
     let done = is_accepted(&mut sender);
     drop(sender);
     assert!(rt; done);
@@ -224,77 +197,4 @@ fn failures() -> [bool; 4] {
 #[test]
 fn results_that_are_no_outcome(rt: HostRuntime) {
     assert!(rt; failures() == [true; 4]);
-}
-
-/// Whether each error of a link is named as it must be.
-fn names() -> [bool; 3] {
-    [
-        same(
-            PostError::from(SendError::MessageEncodeError),
-            PostError::MessageEncodeError,
-        ),
-        same(
-            PostError::from(DetachError::ClosedByRemote),
-            PostError::Detached(DetachError::ClosedByRemote),
-        ),
-        same(
-            PostError::from(IllegalLinkStateError::IllegalState),
-            PostError::LinkStateError(LinkStateError::IllegalState),
-        ),
-    ]
-}
-
-#[test]
-fn faults_of_a_link_by_name(rt: HostRuntime) {
-    assert!(rt; names() == [true; 3]);
-}
-
-/// The place of the first error of the table that reads otherwise.
-fn other_text<E: Display>(alloc: Global, table: &[(E, &str)]) -> Result<Option<usize>, Fail> {
-    for (place, (error, want)) in table.iter().enumerate() {
-        let text = format!(in alloc; "{error}")?;
-        if text.as_str() != *want {
-            return Ok(Some(place));
-        }
-    }
-    Ok(None)
-}
-
-#[test]
-fn texts_of_errors(rt: HostRuntime) -> Result<(), Fail> {
-    let size = MessageSizeExceeded {
-        size: 2,
-        max_size: 1,
-    };
-    let table = [
-        (
-            PostError::LinkStateError(LinkStateError::RemoteClosed),
-            "the remote link closed",
-        ),
-        (
-            PostError::Detached(DetachError::DetachedByRemote),
-            "the link was detached: the remote link detached",
-        ),
-        (
-            PostError::NonTerminalDeliveryState,
-            "a delivery state that is not terminal came in place of an outcome",
-        ),
-        (
-            PostError::IllegalDeliveryState,
-            "a delivery state came that the post cannot have",
-        ),
-        (
-            PostError::MessageSizeExceeded(size),
-            "the message has 2 octets, and the link takes at most 1",
-        ),
-        (
-            PostError::MessageEncodeError,
-            "the message cannot be encoded",
-        ),
-        (PostError::NoMemory, "out of memory"),
-    ];
-    let other = other_text(rt.alloc(), table.as_slice());
-    drop(table);
-    assert!(rt; other? == None);
-    Ok(())
 }

@@ -1,37 +1,34 @@
-//! What a transaction shows and puts.
+//! The steps of a transaction's end, borrowed or owned.
 
-use super::links::{CountingLink, counts, fills, last_is, same};
-use crate::{Controller, Discharging, Transaction, TransactionDischarge};
+use crate::links::{CountingLink, counts, fills, last_is};
+use crate::values::{COMMIT, ROLLBACK, same, unknown_id};
 use amqp_control_calls::Abandoned;
 use amqp_endpoints::Progress;
-use amqp_txn_types::{DeliveryState, Error, ErrorCondition, Rejected, TransactionError};
+use amqp_transactions::{
+    Controller, Discharging, OwnedTransaction, Transaction, TransactionDischarge,
+};
+use amqp_txn_types::DeliveryState;
 use std::alloc::Global;
 use std::sync::Wait;
 
-/// The declare of no global id.
-pub const DECLARE: [u8; 7] = [0, 0x53, 0x77, 0, 0x53, 0x31, 0x45];
-
-/// The declare of the global id 010203.
-pub const GLOBAL_DECLARE: [u8; 14] = [0, 0x53, 0x77, 0, 0x53, 0x31, 0xc0, 6, 1, 0xa0, 3, 1, 2, 3];
-
-/// The commit of the id 010203.
-pub const COMMIT: [u8; 15] = [
-    0, 0x53, 0x77, 0, 0x53, 0x32, 0xc0, 7, 2, 0xa0, 3, 1, 2, 3, 0x42,
-];
-
-/// The rollback of the id 010203.
-pub const ROLLBACK: [u8; 15] = [
-    0, 0x53, 0x77, 0, 0x53, 0x32, 0xc0, 7, 2, 0xa0, 3, 1, 2, 3, 0x41,
-];
-
 /// A transaction over a counting link.
-pub trait OverCounting: TransactionDischarge {
+pub trait Over {
     fn over(&self) -> &Controller<CountingLink>;
 
     fn set_trials(&mut self, trials: u32);
 }
 
-impl OverCounting for Transaction<'_, CountingLink> {
+impl Over for Transaction<'_, CountingLink> {
+    fn over(&self) -> &Controller<CountingLink> {
+        self.controller()
+    }
+
+    fn set_trials(&mut self, trials: u32) {
+        self.set_rollback_on_drop_trials(trials);
+    }
+}
+
+impl Over for OwnedTransaction<CountingLink> {
     fn over(&self) -> &Controller<CountingLink> {
         self.controller()
     }
@@ -42,7 +39,7 @@ impl OverCounting for Transaction<'_, CountingLink> {
 }
 
 /// Whether giving it up with that many trials ends so.
-pub fn gives_up<T: OverCounting, R: Wait>(
+pub fn gives_up<T: TransactionDischarge + Over, R: Wait>(
     rt: &R,
     mut value: T,
     trials: u32,
@@ -52,29 +49,23 @@ pub fn gives_up<T: OverCounting, R: Wait>(
     same(value.abandon(rt), want)
 }
 
-/// Gives it up without a rollback.
-pub fn lets_go<T: OverCounting, R: Wait>(rt: &R, value: T) {
-    let _ = gives_up(rt, value, 0, Abandoned::Skipped);
-}
-
-pub fn unknown_id() -> Rejected {
-    Rejected {
-        error: Some(Error {
-            condition: ErrorCondition::TransactionError(TransactionError::UnknownId),
-            description: None,
-            info: None,
-        }),
-    }
+/// Gives up a value that should have come to another end.
+pub fn lets_go<T: TransactionDischarge, R: Wait>(rt: &R, value: T) {
+    drop(value.abandon(rt));
 }
 
 /// Whether the poll of the discharge is over with an Ok.
-fn is_done<T: OverCounting, R: Wait>(rt: &R, value: &mut T, waiting: T::Waiting) -> bool {
+fn is_done<T: TransactionDischarge, R: Wait>(rt: &R, value: &mut T, waiting: T::Waiting) -> bool {
     matches!(value.poll_discharge(rt, waiting), Progress::Ready(Ok(())))
 }
 
 /// A commit that is accepted marks the value: one put and no look; a poll without an answer,
 /// pending, one look; then the answer, one look more.
-fn is_committed<T: OverCounting, R: Wait>(rt: &R, alloc: Global, value: &mut T) -> bool {
+fn is_committed<T: TransactionDischarge + Over, R: Wait>(
+    rt: &R,
+    alloc: Global,
+    value: &mut T,
+) -> bool {
     let Ok(waiting) = value.discharge(rt, false) else {
         return false;
     };
@@ -88,21 +79,29 @@ fn is_committed<T: OverCounting, R: Wait>(rt: &R, alloc: Global, value: &mut T) 
     put && pending && awaited && done && counts(rt, value.over()) == (2, 4, 0)
 }
 
-/// After a commit that is accepted a discharge of the value puts nothing, its poll is done at once,
-/// and so is giving it up.
-pub fn discharged_row<T: OverCounting, R: Wait>(rt: &R, alloc: Global, mut value: T) -> bool {
-    let committed = is_committed(rt, alloc, &mut value);
+/// A discharge of a discharged value puts nothing, and its poll is done without a look.
+fn puts_nothing<T: TransactionDischarge + Over, R: Wait>(rt: &R, value: &mut T) -> bool {
     let again = match value.discharge(rt, true) {
-        Ok(waiting) => is_done(rt, &mut value, waiting),
+        Ok(waiting) => is_done(rt, value, waiting),
         Err(_) => false,
     };
-    let untouched = counts(rt, value.over()) == (2, 4, 0);
+    again && counts(rt, value.over()) == (2, 4, 0)
+}
+
+/// A discharged value puts nothing more, and is given up as discharged.
+pub fn discharged_row<T: TransactionDischarge + Over, R: Wait>(
+    rt: &R,
+    alloc: Global,
+    mut value: T,
+) -> bool {
+    let committed = is_committed(rt, alloc, &mut value);
+    let nothing = puts_nothing(rt, &mut value);
     let gone = gives_up(rt, value, 20, Abandoned::Discharged);
-    committed && again && untouched && gone
+    committed && nothing && gone
 }
 
 /// A commit, or a rollback where `fail` is true.
-fn begins<T: OverCounting, R: Wait>(
+fn begins<T: TransactionDischarge, R: Wait>(
     rt: &R,
     value: T,
     fail: bool,
@@ -115,7 +114,10 @@ fn begins<T: OverCounting, R: Wait>(
 }
 
 /// A discharge that was put: pending, one look.
-fn pends<T: OverCounting, R: Wait>(rt: &R, discharge: Discharging<T>) -> Option<Discharging<T>> {
+fn pends<T: TransactionDischarge, R: Wait>(
+    rt: &R,
+    discharge: Discharging<T>,
+) -> Option<Discharging<T>> {
     match discharge.poll(rt) {
         Progress::Pending(discharge) => Some(discharge),
         Progress::Ready(Ok(())) => None,
@@ -127,7 +129,7 @@ fn pends<T: OverCounting, R: Wait>(rt: &R, discharge: Discharging<T>) -> Option<
 }
 
 /// A discharge: one put of its octets and no look; pending, one look; then the answer is there.
-pub fn asks<T: OverCounting, R: Wait>(
+pub fn asks<T: TransactionDischarge + Over, R: Wait>(
     rt: &R,
     alloc: Global,
     value: T,
@@ -160,7 +162,7 @@ pub fn asks<T: OverCounting, R: Wait>(
 }
 
 /// Whether the poll of the discharge is over with an Ok.
-pub fn ends<T: OverCounting, R: Wait>(rt: &R, discharge: Discharging<T>) -> bool {
+pub fn ends<T: TransactionDischarge, R: Wait>(rt: &R, discharge: Discharging<T>) -> bool {
     match discharge.poll(rt) {
         Progress::Ready(Ok(())) => true,
         Progress::Ready(Err((value, _))) => {
@@ -175,7 +177,7 @@ pub fn ends<T: OverCounting, R: Wait>(rt: &R, discharge: Discharging<T>) -> bool
 }
 
 /// The value that the poll of the discharge hands back, and why.
-pub fn refused<T: OverCounting, R: Wait>(
+pub fn refused<T: TransactionDischarge, R: Wait>(
     rt: &R,
     discharge: Discharging<T>,
 ) -> Option<(T, T::Error)> {
@@ -190,7 +192,12 @@ pub fn refused<T: OverCounting, R: Wait>(
 }
 
 /// A discharge that is accepted, to its end.
-pub fn accepted_row<T: OverCounting, R: Wait>(rt: &R, alloc: Global, value: T, fail: bool) -> bool {
+pub fn accepted_row<T: TransactionDischarge + Over, R: Wait>(
+    rt: &R,
+    alloc: Global,
+    value: T,
+    fail: bool,
+) -> bool {
     match asks(rt, alloc, value, fail, true) {
         Some(discharge) => ends(rt, discharge),
         None => false,
@@ -198,7 +205,11 @@ pub fn accepted_row<T: OverCounting, R: Wait>(rt: &R, alloc: Global, value: T, f
 }
 
 /// The error of a commit that is rejected: one look, and the value is handed back undischarged.
-pub fn rejected_row<T: OverCounting, R: Wait>(rt: &R, alloc: Global, value: T) -> Option<T::Error> {
+pub fn rejected_row<T: TransactionDischarge + Over, R: Wait>(
+    rt: &R,
+    alloc: Global,
+    value: T,
+) -> Option<T::Error> {
     let commit = asks(rt, alloc, value, false, false)?;
     let (value, error) = refused(rt, commit)?;
     let looked = counts(rt, value.over()) == (2, 4, 0);
@@ -208,7 +219,7 @@ pub fn rejected_row<T: OverCounting, R: Wait>(rt: &R, alloc: Global, value: T) -
 }
 
 /// The error of a discharge that the link refuses to send: the value is handed back as it was.
-pub fn unsent_row<T: OverCounting, R: Wait>(rt: &R, value: T) -> Option<T::Error> {
+pub fn unsent_row<T: TransactionDischarge + Over, R: Wait>(rt: &R, value: T) -> Option<T::Error> {
     match begins(rt, value, false) {
         Ok(commit) => {
             lets_go(rt, commit.into_value());

@@ -1,10 +1,11 @@
 //! Two transactions over one controller.
 
-use super::links::{CountingLink, counting, counts, fills, id};
-use super::rows::lets_go;
-use crate::{Controller, Declaring, Transaction};
-use amqp_control_calls::TransactionBase;
+use crate::links::{CountingLink, counting, counts, fills};
+use crate::rows::{gives_up, lets_go};
+use crate::values::id;
+use amqp_control_calls::{Abandoned, TransactionBase};
 use amqp_endpoints::Progress;
+use amqp_transactions::{Controller, Declaring, Transaction};
 use amqp_txn_types::{Declared, DeliveryState, NoMemory, TransactionId};
 use std::alloc::Global;
 use std::sync::Wait;
@@ -19,8 +20,7 @@ fn is_declared<R: Wait>(
     match declaring.poll(rt) {
         Progress::Ready(Ok(transaction)) => {
             let named = *transaction.txn_id() == txn_id;
-            lets_go(rt, transaction);
-            named
+            gives_up(rt, transaction, 0, Abandoned::Skipped) && named
         }
         Progress::Ready(Err(_)) | Progress::Pending(_) => false,
     }

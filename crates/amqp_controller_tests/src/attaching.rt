@@ -1,13 +1,15 @@
 //! Control links that are attached over a plain session.
 
-use super::links::{declaration, id, put_is, same};
-use super::rows::GLOBAL_DECLARE;
-use crate::{Attaching, Controller, OwnedDeclaring, OwnedTransaction, TransactionDischarge};
+use crate::links::put_is;
+use crate::values::{GLOBAL_DECLARE, declaration, id, same};
 use amqp_control_calls::{Abandoned, TransactionBase};
 use amqp_endpoints::{Progress, SenderAttachError};
 use amqp_layer::LayerBelow;
 use amqp_links::WireSender;
 use amqp_sessions::{AllocLinkError, PlainSession, Session};
+use amqp_transactions::{
+    Attaching, Controller, OwnedDeclaring, OwnedTransaction, TransactionDischarge,
+};
 use amqp_txn_types::{
     Attach, Begin, Coordinator, DeliveryState, Handle, NoMemory, OutgoingChannel,
     ReceiverSettleMode, Role, SenderSettleMode, SessionState, SessionStopReason, Text, Token,
