@@ -1,6 +1,6 @@
 //! What an acquisition does to its receiver.
 
-ghost use Rattle.std.specs.Prelude.{◌≡◌, None, codes};
+ghost use Rattle.std.specs.Prelude.{◌≡◌, IfOk, None, codes};
 ghost use Rattle.amqp_txn_types.specs.declared.fields.Value.TheVariants as values;
 ghost use Rattle.amqp_links.specs.Receiving.{Inserts, Removes};
 ghost use Rattle.amqp_acquisition.specs.Acquiring.{Acquires, CleansUp, GivesOne, HasDistinctKeys, has_key, names_transaction, txn_id_key};
@@ -22,7 +22,9 @@ pub struct TxnIdKey {
 
 impl TxnIdKey {
     /// The key, in memory of its own.
-    pub fn new(alloc: Global) -> Result<TxnIdKey, NoMemory> {
+    pub fn new(alloc: Global) -> Result<TxnIdKey, NoMemory>
+        ensures { IfOk result (λ key. key.symbol ≡ txn_id_key) }
+    {
         let symbol = Symbol::from_str(alloc, TXN_ID)?;
         Ok(TxnIdKey { symbol })
     }
