@@ -28,9 +28,9 @@
 //! flow, a cleanup takes that property alone out, whatever the flow is answered, and puts one flow;
 //! each refusal hands back the transaction or the acquisition. What an acquisition that is refused
 //! leaves of its receiver is the promise of `acquire_on_link`; that `acquire` makes that one call,
-//! and that `abandon` cleans up, is only tested: a contract can't name a receiver that is gone from
+//! and that `abandon` cleans up, isn't proved: a contract can't name a receiver that is gone from
 //! the answer. Nor can one say what a link under a lock holds: what is put on the control link, and
-//! that a discharge is put after the flow of the cleanup, is only tested too. 'The standard' is
+//! that a discharge is put after the flow of the cleanup, isn't proved either. 'The standard' is
 //! OASIS AMQP 1.0.
 #![tactic(auto)]
 
