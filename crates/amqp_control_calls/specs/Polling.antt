@@ -4,6 +4,7 @@ use Rattle.amqp_txn_types.specs.declared.delivery.DeliveryState.{DeliveryState}
 use Rattle.amqp_txn_types.specs.declared.delivery.DeliveryState.TheVariants as states
 use Rattle.amqp_txn_types.specs.declared.delivery.Declared.{Declared}
 use Rattle.amqp_txn_types.specs.declared.small.Accepted.{Accepted}
+use Rattle.amqp_txn_types.specs.declared.small.Token.{Token}
 use Rattle.amqp_links.specs.declared.poll.Poll.{Poll}
 use Rattle.amqp_links.specs.declared.poll.Poll.TheVariants as polls
 use Rattle.amqp_links.specs.declared.sendable.Sent.{Sent}
@@ -47,7 +48,17 @@ found_of by_state told sendings.Settled = waits.Ready (Err errors.IllegalDeliver
 found_of by_state told (sendings.Unsettled token) =
     waited (sendings.Unsettled token) (outcome_of by_state) (polled (told.ready token.0))
 
+-- what one look answers and leaves of a link
+abbrev pub LooksOn : Type 0 → Type 1
+LooksOn L = L → L → Token → Poll Answer → Type 0
+
+-- one look, and no other call: what every link tells of it, and what this one says beside
+abbrev pub OneLook : {L : Type 0} → LooksOn L → (L → SenderTold) → LooksOn L
+OneLook gives told old new token found =
+    Looks (told old) (told new) token found × gives old new token found
+
 -- one look for the answer to a message, by how that was sent: none where it was sent settled
-abbrev pub LooksOnce : SenderTold → SenderTold → Sent → Type 0
-LooksOnce old new sendings.Settled = new ≡ old
-LooksOnce old new (sendings.Unsettled token) = Looks old new token (polled (old.ready token.0))
+abbrev pub LooksOnce : {L : Type 0} → LooksOn L → (L → SenderTold) → L → L → Sent → Type 0
+LooksOnce gives told old new sendings.Settled = new ≡ old
+LooksOnce gives told old new (sendings.Unsettled token) =
+    OneLook gives told old new token (polled ((told old).ready token.0))

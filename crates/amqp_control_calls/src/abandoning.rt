@@ -1,7 +1,10 @@
 //! Rolling back a transaction that is given up, on a control link that is lent.
 
 ghost use Rattle.std.specs.Prelude.{◌≤◌};
-ghost use Rattle.amqp_control_calls.specs.Abandoning.{Abandons, LooksUpTo, WasTried};
+ghost use Rattle.amqp_control_calls.specs.Abandoning.{Abandons, FailsByFault, LooksUpTo, OnFoundErr, WasTried};
+ghost use Rattle.amqp_txn_types.specs.Counts.{Rose};
+ghost use Rattle.amqp_control_calls.specs.Polling.{OneLook};
+ghost use Rattle.amqp_control_calls.specs.Sending.{OneSend};
 
 use crate::errors::ControllerSendError;
 use crate::sending::send_control;
@@ -43,7 +46,9 @@ pub fn abandon_on_link<L: SenderLink>(
     trials: u32,
 ) -> Abandoned
     requires { 1 ≤ trials }
-    ensures link { Abandons (L.told link.old) (L.told link.new) txn_id.now trials result }
+    ensures link { Abandons (OneSend L.send_gives L.told) (OneLook L.outcome_gives L.told)
+        link.old link.new txn_id.now trials result }
+    ensures cause { FailsByFault result (L.told link.old) (L.told link.new) }
     ensures tried { WasTried result }
 {
     let rollback = ControlMessageBody::Discharge(Discharge {
@@ -64,7 +69,9 @@ pub fn abandon_on_link<L: SenderLink>(
 
 /// Looks for an answer until it is there, at most `trials` times.
 fn look_up_to<L: SenderLink>(link: &mut L, token: &Token, trials: u32) -> Option<Answer>
-    ensures { LooksUpTo trials token.now (L.told link.old) (L.told link.new) result }
+    ensures looks { LooksUpTo (OneLook L.outcome_gives L.told) trials token.now link.old link.new
+        result }
+    ensures cause { OnFoundErr result (Rose (L.told link.old).faults (L.told link.new).faults) }
 {
     for _look in 0..trials {
         if let Poll::Ready(answer) = link.outcome(token) {

@@ -2,7 +2,7 @@
 
 ghost use Rattle.std.specs.Prelude.{◌≡◌};
 ghost use Rattle.amqp_txn_codec.specs.declared.message.ControlMessageBody.TheVariants as messages;
-ghost use Rattle.amqp_control_calls.specs.Sending.{SendsControl};
+ghost use Rattle.amqp_control_calls.specs.Sending.{OneSend, SendsControl};
 ghost use Rattle.amqp_control_calls.specs.Polling.{LooksOnce, declared_by, found_of, outcome_of};
 
 use crate::errors::ControllerSendError;
@@ -40,7 +40,7 @@ pub fn declare_on_link<L: SenderLink>(
     link: &mut L,
     global_id: Option<TransactionId>,
 ) -> Result<DeclareOnLink, ControllerSendError>
-    ensures { SendsControl (L.told link.old) (L.told link.new)
+    ensures { SendsControl (OneSend L.send_gives L.told) link.old link.new
         (messages.Declare (record { global_id = global_id })) result }
 {
     let message = ControlMessageBody::Declare(Declare { global_id });
@@ -59,7 +59,7 @@ impl DeclareOnLink {
         self,
         link: &mut L,
     ) -> Progress<DeclareOnLink, Result<Declared, ControllerSendError>>
-        ensures looks { LooksOnce (L.told link.old) (L.told link.new) self }
+        ensures looks { LooksOnce L.outcome_gives L.told link.old link.new self }
         ensures answer { result ≡ found_of declared_by (L.told link.old) self }
     {
         let Sent::Unsettled(token) = self.sent else {

@@ -3,7 +3,7 @@
 ghost use Rattle.std.specs.Prelude.{◌≡◌};
 ghost use Rattle.amqp_txn_codec.specs.declared.message.ControlMessageBody.TheVariants as messages;
 ghost use Rattle.amqp_links.specs.declared.sendable.Sent.TheVariants as sendings;
-ghost use Rattle.amqp_control_calls.specs.Sending.{SendsControl};
+ghost use Rattle.amqp_control_calls.specs.Sending.{OneSend, SendsControl};
 ghost use Rattle.amqp_control_calls.specs.Polling.{LooksOnce, accepted_by, found_of, outcome_of};
 
 use crate::errors::ControllerSendError;
@@ -43,7 +43,7 @@ pub fn discharge_on_link<L: SenderLink>(
     txn_id: &TransactionId,
     fail: Option<bool>,
 ) -> Result<DischargeOnLink, ControllerSendError>
-    ensures { SendsControl (L.told link.old) (L.told link.new)
+    ensures { SendsControl (OneSend L.send_gives L.told) link.old link.new
         (messages.Discharge (record { txn_id = txn_id.now; fail = fail })) result }
 {
     let message = ControlMessageBody::Discharge(Discharge {
@@ -75,7 +75,7 @@ impl DischargeOnLink {
         self,
         link: &mut L,
     ) -> Progress<DischargeOnLink, Result<Accepted, ControllerSendError>>
-        ensures looks { LooksOnce (L.told link.old) (L.told link.new) self }
+        ensures looks { LooksOnce L.outcome_gives L.told link.old link.new self }
         ensures answer { result ≡ found_of accepted_by (L.told link.old) self }
     {
         let Sent::Unsettled(token) = self.sent else {

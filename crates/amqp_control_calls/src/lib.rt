@@ -17,12 +17,12 @@
 //! ```
 //!
 //! Below stand the messages of `amqp_txn_codec` and the links of `amqp_links`. The promise that
-//! this crate carries: each call puts its one message, in its canonical spelling, unsettled,
-//! without a state and not batchable, and nothing else; a poll leaves the link as one look does, is
-//! pending exactly where the link has no answer for its message, and answers by what the link has;
-//! every fault is one that the link answered. That a poll makes exactly one look is only tested: a
-//! look that changes nothing can't be counted by what a link tells. 'The standard' is OASIS AMQP
-//! 1.0.
+//! this crate carries: each call makes one send of its one message, in its canonical spelling,
+//! unsettled, without a state and not batchable, and no other call; a poll makes one look and no
+//! other call, is pending exactly where the link has no answer for its message, and answers by what
+//! the link has; giving up makes one send and at most as many looks as it may; every fault is one
+//! that the link answered. How often a link is called shows in contracts where the link says what
+//! one call leaves of it, as a wire does. 'The standard' is OASIS AMQP 1.0.
 //!
 //! [`SenderLink`]: amqp_links::SenderLink
 #![tactic(auto)]

@@ -14,10 +14,25 @@ pub type Answer = Result<Option<DeliveryState>, LinkStateError>;
 /// Only an Ok of `send` adds to what was put. Every Err counts as a fault: it comes only where the
 /// count of faults rose in the call, or stands at its last value, 2^64 - 1.
 pub trait SenderLink {
-    ghost use Rattle.amqp_links.specs.Sending.{SenderTold, Sends, Looks, Closes};
+    ghost use Rattle.std.specs.Prelude.{Bool, Option, Result};
+    ghost use Rattle.amqp_txn_types.specs.declared.delivery.DeliveryState.{DeliveryState as State};
+    ghost use Rattle.amqp_txn_types.specs.declared.small.Token.{Token as Number};
+    ghost use Rattle.amqp_links.specs.declared.errors.SendError.{SendError as Unsent};
+    ghost use Rattle.amqp_links.specs.declared.poll.Poll.{Poll as Found};
+    ghost use Rattle.amqp_links.specs.declared.sendable.Sendable.{Sendable as Message};
+    ghost use Rattle.amqp_links.specs.declared.sendable.Sent.{Sent as HowSent};
+    ghost use Rattle.amqp_links.specs.Sending.{Answer as Told, SenderTold, Sends, Looks, Closes};
 
     /// What the link tells: what was put, which answers stand ready, and how often it failed.
     ghost told: { Self → SenderTold };
+
+    /// What one send answers and leaves of this link, beside what the link tells.
+    ghost send_gives: { Self → Self → Message → Option State → Bool → Result HowSent Unsent
+        → Type 0 } = { λ _ _ _ _ _ _. Unit {0} };
+
+    /// What one look answers and leaves of this link, beside what the link tells. A call that
+    /// promises this of the link before and after it made one look, and no other call.
+    ghost outcome_gives: { Self → Self → Number → Found Told → Type 0 } = { λ _ _ _ _. Unit {0} };
 
     /// Sends a message, with the state that its transfer says.
     ///
@@ -29,11 +44,13 @@ pub trait SenderLink {
         state: Option<DeliveryState>,
         batchable: bool,
     ) -> Result<Sent, SendError>
-        ensures { Sends (told self.old) (told self.new) sendable state batchable result };
+        ensures told { Sends (told self.old) (told self.new) sendable state batchable result }
+        ensures gives { send_gives self.old self.new sendable state batchable result };
 
     /// Looks for the answer to an unsettled send. It is `Pending` exactly where none stands ready.
     fn outcome(&mut self, token: &Token) -> Poll<Result<Option<DeliveryState>, LinkStateError>>
-        ensures { Looks (told self.old) (told self.new) token.now result };
+        ensures told { Looks (told self.old) (told self.new) token.now result }
+        ensures gives { outcome_gives self.old self.new token.now result };
 
     /// Closes the link, with an error where there is one. Section 2.6.6 (closing a link).
     fn close(&mut self, error: Option<Error>) -> Result<(), DetachError>

@@ -184,6 +184,11 @@ fn give_at(answers: &mut Items<AnswerSlot>, token: Token) -> Option<Answer>
 impl SenderLink for WireSender {
     ghost told = { sender_tells };
 
+    ghost send_gives = { λ old new sendable state batchable result.
+        new ≡ after_send old sendable state batchable result };
+
+    ghost outcome_gives = { λ old new token result. new ≡ looked old token result };
+
     fn send(
         &mut self,
         sendable: Sendable,

@@ -14,10 +14,11 @@ use Rattle.amqp_links.specs.declared.sendable.Sendable.{Sendable}
 use Rattle.amqp_links.specs.declared.sendable.Sent.{Sent}
 use Rattle.amqp_links.specs.declared.sendable.Sent.TheVariants as sendings
 use Rattle.amqp_links.specs.Polls.{polled}
-use Rattle.amqp_links.specs.Sending.{Answer, SenderTold, Sends}
+use Rattle.amqp_links.specs.Sending.{Answer, SenderTold}
 use Rattle.amqp_endpoints.specs.declared.progress.Progress.{Progress}
 use Rattle.amqp_endpoints.specs.declared.progress.Progress.TheVariants as waits
 use Rattle.amqp_control_calls.specs.Polling.{waited}
+use Rattle.amqp_control_calls.specs.Sending.{SendsOn}
 use Rattle.amqp_posting.specs.declared.errors.PostError.{PostError}
 use Rattle.amqp_posting.specs.declared.errors.PostError.TheVariants as errors
 use Rattle.amqp_posting.specs.Errors.{unposted}
@@ -27,29 +28,24 @@ abbrev pub under : TransactionId → Option Outcome → DeliveryState
 under txn_id outcome =
     states.TransactionalState (record { txn_id = txn_id; outcome = outcome })
 
--- the link was asked to send the message under the transaction, without an outcome
-abbrev pub SendsUnder : SenderTold → SenderTold → TransactionId → Sendable → Bool
-    → Result Sent SendError → Type 0
-SendsUnder old new txn_id sendable batchable answer =
-    Sends old new sendable (Some (under txn_id None)) batchable answer
-
 -- what the link answered to a post
 abbrev pub posted_by : Result Sent SendError → Result Sent PostError
 posted_by (Ok sent) = Ok sent
 posted_by (Err refused) = Err (unposted refused)
 
--- a post: one send under the transaction
-abbrev pub Posts : SenderTold → SenderTold → TransactionId → Sendable → Bool
+-- a post: one send under the transaction, without an outcome
+abbrev pub Posts : {L : Type 0} → SendsOn L → L → L → TransactionId → Sendable → Bool
     → Result Sent PostError → Type 0
-Posts old new txn_id sendable batchable result =
-    (answer : Result Sent SendError) × SendsUnder old new txn_id sendable batchable answer
+Posts sends old new txn_id sendable batchable result =
+    (answer : Result Sent SendError)
+    × sends old new sendable (Some (under txn_id None)) batchable answer
     × (result ≡ posted_by answer)
 
 -- a post of a copy: without memory for the copy the link isn't asked
-abbrev pub PostsCopy : SenderTold → SenderTold → TransactionId → Sendable → Bool
+abbrev pub PostsCopy : {L : Type 0} → SendsOn L → L → L → TransactionId → Sendable → Bool
     → Result Sent PostError → Type 0
-PostsCopy old new txn_id sendable batchable result =
-    Posts old new txn_id sendable batchable result
+PostsCopy sends old new txn_id sendable batchable result =
+    Posts sends old new txn_id sendable batchable result
     ⊎ ((result ≡ Err errors.NoMemory) × (new ≡ old))
 
 -- the outcome in a transactional state: any but Declared, which no post has

@@ -15,10 +15,9 @@
 //!
 //! A transaction is any type with `TransactionBase` of `amqp_control_calls`; links are those of
 //! `amqp_links`, lent by the caller, and nothing here waits or takes a lock. The promise that this
-//! crate carries: each post puts one send with the transactional state of the id and no outcome,
-//! each retirement one disposition with the state of id and outcome, and nothing else; a poll
-//! leaves the link as one look does, and answers by what the link has. That it makes exactly one
-//! look is only tested: a look that changes nothing can't be counted by what a link tells. 'The
+//! crate carries: each post makes one send, with the transactional state of the id and no outcome,
+//! and no other call; each retirement puts one disposition with the state of id and outcome, and
+//! nothing else; a poll makes one look and no other call, and answers by what the link has. 'The
 //! standard' is OASIS AMQP 1.0.
 #![tactic(auto)]
 

@@ -2,6 +2,7 @@
 
 ghost use Rattle.std.specs.Prelude.{◌≡◌, true, false};
 ghost use Rattle.amqp_control_calls.specs.Polling.{LooksOnce};
+ghost use Rattle.amqp_control_calls.specs.Sending.{OneSend};
 ghost use Rattle.amqp_posting.specs.Posting.{Posts, PostsCopy, outcome_of, post_found};
 
 use crate::errors::PostError;
@@ -36,7 +37,7 @@ impl DeliveryFut {
     /// Errors: `LinkStateError` where the link answered one, and `IllegalDeliveryState` at every
     /// other state and at none.
     pub fn poll<L: SenderLink>(self, sender: &mut L) -> Progress<DeliveryFut, PostResult>
-        ensures looks { LooksOnce (L.told sender.old) (L.told sender.new) self }
+        ensures looks { LooksOnce L.outcome_gives L.told sender.old sender.new self }
         ensures answer { result ≡ post_found (L.told sender.old) self }
     {
         let Sent::Unsettled(token) = self.sent else {
@@ -67,7 +68,8 @@ fn post_under<L: SenderLink>(
     sendable: Sendable,
     batchable: bool,
 ) -> Result<DeliveryFut, PostError>
-    ensures { Posts (L.told sender.old) (L.told sender.new) txn_id.now sendable batchable result }
+    ensures { Posts (OneSend L.send_gives L.told) sender.old sender.new txn_id.now sendable
+        batchable result }
 {
     let state = DeliveryState::TransactionalState(TransactionalState {
         txn_id: *txn_id,
@@ -89,8 +91,8 @@ pub trait TransactionPosting: TransactionBase {
         sender: &mut L,
         sendable: Sendable,
     ) -> Result<DeliveryFut, PostError>
-        ensures { Posts (L.told sender.old) (L.told sender.new) (Self.id self.now) sendable false
-            result }
+        ensures { Posts (OneSend L.send_gives L.told) sender.old sender.new (Self.id self.now)
+            sendable false result }
     {
         post_under(self.txn_id(), sender, sendable, false)
     }
@@ -101,8 +103,8 @@ pub trait TransactionPosting: TransactionBase {
         sender: &mut L,
         sendable: Sendable,
     ) -> Result<DeliveryFut, PostError>
-        ensures { Posts (L.told sender.old) (L.told sender.new) (Self.id self.now) sendable true
-            result }
+        ensures { Posts (OneSend L.send_gives L.told) sender.old sender.new (Self.id self.now)
+            sendable true result }
     {
         post_under(self.txn_id(), sender, sendable, true)
     }
@@ -114,8 +116,8 @@ pub trait TransactionPosting: TransactionBase {
         sender: &mut L,
         sendable: &Sendable,
     ) -> Result<DeliveryFut, PostError>
-        ensures { PostsCopy (L.told sender.old) (L.told sender.new) (Self.id self.now) sendable.now
-            false result }
+        ensures { PostsCopy (OneSend L.send_gives L.told) sender.old sender.new (Self.id self.now)
+            sendable.now false result }
     {
         post_under(self.txn_id(), sender, sendable.try_clone()?, false)
     }
@@ -126,8 +128,8 @@ pub trait TransactionPosting: TransactionBase {
         sender: &mut L,
         sendable: &Sendable,
     ) -> Result<DeliveryFut, PostError>
-        ensures { PostsCopy (L.told sender.old) (L.told sender.new) (Self.id self.now) sendable.now
-            true result }
+        ensures { PostsCopy (OneSend L.send_gives L.told) sender.old sender.new (Self.id self.now)
+            sendable.now true result }
     {
         post_under(self.txn_id(), sender, sendable.try_clone()?, true)
     }

@@ -12,3 +12,10 @@ PollsToBegin begun_of wait (waits.Pending waiting) = waiting ≡ wait
 PollsToBegin begun_of wait (waits.Ready (Ok transaction)) =
     begun_of transaction ≡ begun_as (begun_of transaction).txn_id
 PollsToBegin begun_of wait (waits.Ready (Err error)) = Unit {0}
+
+-- what holds after a poll of a declare: of the wait, of the transaction, or of the error
+abbrev pub OnDeclared : {W T E : Type 0} → Progress W (Result T E) → (W → Type 0) → (T → Type 0)
+    → (E → Type 0) → Type 0
+OnDeclared (waits.Pending wait) P Q F = P wait
+OnDeclared (waits.Ready (Ok transaction)) P Q F = Q transaction
+OnDeclared (waits.Ready (Err error)) P Q F = F error

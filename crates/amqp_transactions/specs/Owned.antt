@@ -16,6 +16,7 @@ use Rattle.amqp_transactions.specs.declared.owned_errors.OwnedDeclareError.{Owne
 use Rattle.amqp_transactions.specs.declared.owned_errors.OwnedDeclareError.TheVariants as declares
 use Rattle.amqp_transactions.specs.declared.owned_errors.OwnedDischargeError.{OwnedDischargeError}
 use Rattle.amqp_transactions.specs.declared.owned_errors.OwnedDischargeError.TheVariants as discharges
+use Rattle.amqp_transactions.specs.declared.owned_transaction.OwnedTransaction.{OwnedTransaction}
 use Rattle.amqp_transactions.specs.declared.owned_declaring.Awaited.{Awaited}
 use Rattle.amqp_transactions.specs.declared.owned_declaring.Awaited.TheVariants as awaits
 use Rattle.amqp_transactions.specs.Attaching.{IsStopped}
@@ -25,6 +26,10 @@ use Rattle.amqp_transactions.specs.Begun.{begun_as}
 abbrev pub is_close_error : OwnedDischargeError → Bool
 is_close_error (discharges.DetachError fault) = true
 is_close_error (discharges.ControllerSendError fault) = false
+
+-- what its owner sees of a transaction
+abbrev pub owned_begun : {L : Type 0} → OwnedTransaction L → Begun
+owned_begun transaction = transaction.begun
 
 -- the link that waits for the peer's attach, with the global id that its declare is to name; none
 -- once it was attached and the declare was put
@@ -64,36 +69,37 @@ AttachFailed (Some reason) controller error =
     IsNone controller × IsAttachError error (IsStopped reason)
 
 -- a poll once the declare was put
-abbrev pub PollsDeclare : {C : Type 0}
-    → Progress WaitsForAttach (Result Begun (Option C × OwnedDeclareError)) → Type 0
+abbrev pub PollsDeclare : {L C : Type 0}
+    → Progress WaitsForAttach (Result (OwnedTransaction L) (Option C × OwnedDeclareError)) → Type 0
 PollsDeclare (waits.Pending wait) = wait ≡ None
-PollsDeclare (waits.Ready (Ok begun)) = begun ≡ begun_as begun.txn_id
+PollsDeclare (waits.Ready (Ok transaction)) =
+    owned_begun transaction ≡ begun_as (owned_begun transaction).txn_id
 PollsDeclare (waits.Ready (Err refused)) = DeclareFailed refused.0 refused.1
 
 -- a poll that finds the link attached: it puts the declare
-abbrev pub PutsDeclare : {C : Type 0}
-    → Progress WaitsForAttach (Result Begun (Option C × OwnedDeclareError)) → Type 0
+abbrev pub PutsDeclare : {T C : Type 0}
+    → Progress WaitsForAttach (Result T (Option C × OwnedDeclareError)) → Type 0
 PutsDeclare (waits.Pending wait) = wait ≡ None
-PutsDeclare (waits.Ready (Ok begun)) = ⊥
+PutsDeclare (waits.Ready (Ok transaction)) = ⊥
 PutsDeclare (waits.Ready (Err refused)) = DeclareFailed refused.0 refused.1
 
 -- a poll that finds the link not attached: it goes on, unless the session stopped
-abbrev pub AwaitsOpen : {C : Type 0} → Option SessionStopReason → WaitsForAttach
-    → Progress WaitsForAttach (Result Begun (Option C × OwnedDeclareError)) → Type 0
+abbrev pub AwaitsOpen : {T C : Type 0} → Option SessionStopReason → WaitsForAttach
+    → Progress WaitsForAttach (Result T (Option C × OwnedDeclareError)) → Type 0
 AwaitsOpen stop old (waits.Pending wait) = (stop ≡ None) × (wait ≡ old)
-AwaitsOpen stop old (waits.Ready (Ok begun)) = ⊥
+AwaitsOpen stop old (waits.Ready (Ok transaction)) = ⊥
 AwaitsOpen stop old (waits.Ready (Err refused)) = AttachFailed stop refused.0 refused.1
 
 -- a poll while the link waited, by how the session knows its name
-abbrev pub PollsOpen : {C : Type 0} → NameState → Option SessionStopReason → WaitsForAttach
-    → Progress WaitsForAttach (Result Begun (Option C × OwnedDeclareError)) → Type 0
+abbrev pub PollsOpen : {T C : Type 0} → NameState → Option SessionStopReason → WaitsForAttach
+    → Progress WaitsForAttach (Result T (Option C × OwnedDeclareError)) → Type 0
 PollsOpen Taken stop old result = PutsDeclare result
 PollsOpen state stop old result = AwaitsOpen stop old result
 
 -- a poll of an owned transaction that is being declared
-abbrev pub PollsOwned : {C : Type 0} → (Text → NameState) → Option SessionStopReason
-    → WaitsForAttach → Progress WaitsForAttach (Result Begun (Option C × OwnedDeclareError))
-    → Type 0
+abbrev pub PollsOwned : {L C : Type 0} → (Text → NameState) → Option SessionStopReason
+    → WaitsForAttach
+    → Progress WaitsForAttach (Result (OwnedTransaction L) (Option C × OwnedDeclareError)) → Type 0
 PollsOwned known stop None result = PollsDeclare result
 PollsOwned known stop (Some waiting) result =
     PollsOpen (known waiting.0.name) stop (Some waiting) result

@@ -1,10 +1,12 @@
 //! An owned transaction from its attach on.
 
-ghost use Rattle.std.specs.Prelude.{◌≡◌, None, Result, is_none, is_some};
+ghost use Rattle.std.specs.Prelude.{◌≡◌, Err, None, Result, Some, is_none, is_some};
 ghost use Rattle.amqp_txn_types.specs.declared.performatives.Attach.{Attach as Opening};
 ghost use Rattle.amqp_txn_types.specs.declared.performatives.LinkEnd.{LinkEnd as End};
 ghost use Rattle.amqp_endpoints.specs.declared.attach_errors.SenderAttachError.{SenderAttachError as Unopened};
 ghost use Rattle.amqp_txn_types.specs.declared.small.SenderSettleMode.TheVariants as modes;
+ghost use Rattle.amqp_endpoints.specs.declared.progress.Progress.TheVariants as waits;
+ghost use Rattle.amqp_transactions.specs.declared.owned_errors.OwnedDeclareError.TheVariants as declares;
 ghost use Rattle.amqp_transactions.specs.Attaching.{AttachesBy, NamesAttach, TellsAttach};
 ghost use Rattle.amqp_transactions.specs.Owned.{PollsDeclare, PollsOwned, PutsDeclare, owned_by};
 
@@ -12,6 +14,7 @@ use crate::attaching::Attaching;
 use crate::controller::Controller;
 use crate::owned_errors::OwnedDeclareError;
 use crate::owned_transaction::{OwnedDeclaringOn, OwnedTransaction};
+use amqp_control_calls::ControllerSendError;
 use amqp_endpoints::Progress;
 use amqp_links::WireSender;
 use amqp_sessions::Session;
@@ -139,10 +142,7 @@ fn put_declare<R: Wait>(
             let awaited = Awaited::Declare(declaring);
             Progress::Pending(OwnedDeclaring { awaited })
         }
-        Err((controller, error)) => Progress::Ready(Err((
-            Some(controller),
-            OwnedDeclareError::ControllerSendError(error),
-        ))),
+        Err((controller, error)) => undeclared(controller, error),
     }
 }
 
@@ -156,9 +156,14 @@ fn poll_declare<R: Wait>(rt: &R, declaring: OwnedDeclaringOn<WireSender>) -> Dec
             Progress::Pending(OwnedDeclaring { awaited })
         }
         Progress::Ready(Ok(transaction)) => Progress::Ready(Ok(transaction)),
-        Progress::Ready(Err((controller, error))) => Progress::Ready(Err((
-            Some(controller),
-            OwnedDeclareError::ControllerSendError(error),
-        ))),
+        Progress::Ready(Err((controller, error))) => undeclared(controller, error),
     }
+}
+
+/// A declare that failed, with the controller of its link handed back.
+fn undeclared(controller: Controller<WireSender>, error: ControllerSendError) -> DeclareProgress
+    ensures { result ≡ waits.Ready (Err (Some controller, declares.ControllerSendError error)) }
+{
+    let error = OwnedDeclareError::ControllerSendError(error);
+    Progress::Ready(Err((Some(controller), error)))
 }

@@ -1,9 +1,9 @@
 //! Transactions that own their controller.
 
-ghost use Rattle.std.specs.Prelude.{◌≡◌, IfErr};
+ghost use Rattle.std.specs.Prelude.{◌≡◌, IfErr, IfOk};
 ghost use Rattle.amqp_transactions.specs.Begun.{with_trials};
-ghost use Rattle.amqp_transactions.specs.Declaring.{PollsToBegin};
-ghost use Rattle.amqp_transactions.specs.Owned.{is_close_error};
+ghost use Rattle.amqp_transactions.specs.Declaring.{OnDeclared, PollsToBegin};
+ghost use Rattle.amqp_transactions.specs.Owned.{is_close_error, owned_begun};
 
 use crate::begun::Begun;
 use crate::controller::Controller;
@@ -16,25 +16,16 @@ use amqp_endpoints::Progress;
 use amqp_links::{DispositionError, SenderLink};
 use amqp_posting::{TransactionPosting, TransactionRetirement};
 use amqp_txn_types::TransactionId;
-use std::marker::Model;
 use std::sync::Wait;
 
-/// A transaction with a control link of its own, which is closed once it was discharged. A contract
-/// sees its id, whether it was discharged, and its trials. Part 4 of the standard, section 4.1.
+/// A transaction with a control link of its own, which is closed once it was discharged. Part 4 of
+/// the standard, section 4.1.
 ///
 /// It must be spent: it ends by a commit or a rollback that was accepted, or by
 /// [`abandon`](TransactionDischarge::abandon), which doesn't close the link.
 pub struct OwnedTransaction<L: SenderLink> {
     controller: Controller<L>,
     begun: Begun,
-}
-
-impl<L: SenderLink> Model for OwnedTransaction<L> {
-    ghost use Rattle.amqp_transactions.specs.declared.begun.Begun.{Begun as Seen};
-
-    ghost Value = { Seen };
-
-    ghost view = { λ t. t.begun };
 }
 
 impl<L: SenderLink> OwnedTransaction<L> {
@@ -48,7 +39,8 @@ impl<L: SenderLink> OwnedTransaction<L> {
         rt: &R,
         global_id: Option<TransactionId>,
     ) -> Result<OwnedDeclaringOn<L>, (Controller<L>, ControllerSendError)>
-        ensures { IfErr result (λ refused. refused.0 ≡ controller) }
+        ensures wait { IfOk result (λ wait. wait.controller ≡ controller) }
+        ensures back { IfErr result (λ refused. refused.0 ≡ controller) }
     {
         match controller.declare(rt, global_id) {
             Ok(declare) => Ok(OwnedDeclaringOn {
@@ -60,27 +52,30 @@ impl<L: SenderLink> OwnedTransaction<L> {
     }
 
     /// The controller of the transaction's link.
-    pub fn controller(&self) -> &Controller<L> {
+    pub fn controller(&self) -> &Controller<L>
+        ensures { result.now ≡ self.now.controller }
+    {
         &self.controller
     }
 
     /// How often an abandon looks for the outcome of its rollback.
     pub fn rollback_on_drop_trials(&self) -> u32
-        ensures { result ≡ self.now.rollback_on_drop_trials }
+        ensures { result ≡ (owned_begun self.now).rollback_on_drop_trials }
     {
         self.begun.rollback_on_drop_trials
     }
 
     /// Sets how often an abandon looks for the outcome of its rollback. With 0 it puts none.
     pub fn set_rollback_on_drop_trials(&mut self, trials: u32)
-        ensures { self.new ≡ with_trials self.old trials }
+        ensures trials { owned_begun self.new ≡ with_trials (owned_begun self.old) trials }
+        ensures controller { self.new.controller ≡ self.old.controller }
     {
         self.begun.rollback_on_drop_trials = trials;
     }
 }
 
 impl<L: SenderLink> TransactionBase for OwnedTransaction<L> {
-    ghost id = { λ t. t.txn_id };
+    ghost id = { λ t. (owned_begun t).txn_id };
 
     fn txn_id(&self) -> &TransactionId {
         &self.begun.txn_id
@@ -99,7 +94,7 @@ impl<L: SenderLink + Drop> TransactionDischarge for OwnedTransaction<L> {
 
     type Waiting = DischargeOnLink;
 
-    ghost begun = { λ t. t };
+    ghost begun = { owned_begun };
 
     ghost of_spend = { is_close_error };
 
@@ -149,24 +144,18 @@ impl<L: SenderLink + Drop> TransactionDischarge for OwnedTransaction<L> {
     }
 }
 
-/// An owned transaction whose declare was put. A contract sees how that was sent.
+/// An owned transaction whose declare was put.
 #[derive(Drop)]
 pub struct OwnedDeclaringOn<L: SenderLink> {
     controller: Controller<L>,
     declare: DeclareOnLink,
 }
 
-impl<L: SenderLink> Model for OwnedDeclaringOn<L> {
-    ghost use Rattle.amqp_links.specs.declared.sendable.Sent.{Sent as HowSent};
-
-    ghost Value = { HowSent };
-
-    ghost view = { λ d. d.declare };
-}
-
 impl<L: SenderLink> OwnedDeclaringOn<L> {
     /// The controller of the link on which the declare was put.
-    pub fn controller(&self) -> &Controller<L> {
+    pub fn controller(&self) -> &Controller<L>
+        ensures { result.now ≡ self.now.controller }
+    {
         &self.controller
     }
 
@@ -181,7 +170,10 @@ impl<L: SenderLink> OwnedDeclaringOn<L> {
         OwnedDeclaringOn<L>,
         Result<OwnedTransaction<L>, (Controller<L>, ControllerSendError)>,
     >
-        ensures { PollsToBegin (λ begun. begun) self result }
+        ensures declares { PollsToBegin owned_begun self result }
+        ensures controller { OnDeclared result (λ wait. wait.controller ≡ self.controller)
+            (λ transaction. transaction.controller ≡ self.controller)
+            (λ refused. refused.0 ≡ self.controller) }
     {
         let OwnedDeclaringOn {
             controller,

@@ -1,8 +1,8 @@
 //! Transactions that borrow their controller.
 
-ghost use Rattle.std.specs.Prelude.{◌≡◌, false};
+ghost use Rattle.std.specs.Prelude.{◌≡◌, false, IfOk};
 ghost use Rattle.amqp_transactions.specs.Begun.{with_trials};
-ghost use Rattle.amqp_transactions.specs.Declaring.{PollsToBegin};
+ghost use Rattle.amqp_transactions.specs.Declaring.{OnDeclared, PollsToBegin};
 ghost use Rattle.amqp_transactions.specs.Transactions.{begun_of};
 
 use crate::begun::Begun;
@@ -17,8 +17,7 @@ use amqp_posting::{TransactionPosting, TransactionRetirement};
 use amqp_txn_types::TransactionId;
 use std::sync::Wait;
 
-/// A transaction over a controller that others may use too. A contract sees its id, whether it was
-/// discharged, and its trials. Part 4 of the standard, section 4.1.
+/// A transaction over a controller that others may use too. Part 4 of the standard, section 4.1.
 ///
 /// It must be spent: it ends by a commit or a rollback that was accepted, or by
 /// [`abandon`](TransactionDischarge::abandon).
@@ -36,7 +35,9 @@ impl<'t, L: SenderLink> Transaction<'t, L> {
         controller: &'t Controller<L>,
         rt: &R,
         global_id: Option<TransactionId>,
-    ) -> Result<Declaring<'t, L>, ControllerSendError> {
+    ) -> Result<Declaring<'t, L>, ControllerSendError>
+        ensures { IfOk result (λ wait. wait.controller.now ≡ controller.now) }
+    {
         let declare = controller.declare(rt, global_id)?;
         Ok(Declaring {
             controller,
@@ -44,8 +45,10 @@ impl<'t, L: SenderLink> Transaction<'t, L> {
         })
     }
 
-    #[cfg(test)]
-    pub(crate) fn controller(&self) -> &Controller<L> {
+    /// The controller over which it was declared.
+    pub fn controller(&self) -> &Controller<L>
+        ensures { result.now ≡ self.now.controller.now }
+    {
         self.controller
     }
 
@@ -58,7 +61,8 @@ impl<'t, L: SenderLink> Transaction<'t, L> {
 
     /// Sets how often an abandon looks for the outcome of its rollback. With 0 it puts none.
     pub fn set_rollback_on_drop_trials(&mut self, trials: u32)
-        ensures { begun_of self.new ≡ with_trials (begun_of self.old) trials }
+        ensures trials { begun_of self.new ≡ with_trials (begun_of self.old) trials }
+        ensures controller { self.new.controller.now ≡ self.old.controller.now }
     {
         self.begun.rollback_on_drop_trials = trials;
     }
@@ -137,7 +141,11 @@ impl<'t, L: SenderLink> Declaring<'t, L> {
         self,
         rt: &R,
     ) -> Progress<Declaring<'t, L>, Result<Transaction<'t, L>, ControllerSendError>>
-        ensures { PollsToBegin begun_of self.entry result }
+        ensures declares { PollsToBegin begun_of self.entry result }
+        ensures controller { OnDeclared result
+            (λ wait. wait.controller.now ≡ self.entry.controller.now)
+            (λ transaction. transaction.controller.now ≡ self.entry.controller.now)
+            (λ _. Unit {0}) }
     {
         let Declaring {
             controller,
