@@ -1,8 +1,9 @@
 -- Looking for a key among pairs, and taking a new one out again.
-use Rattle.std.proofs.Common.{◌≡◌, ℕ, ◌+◌, ◌<◌, true, false, Some, List, [], ◌∷◌, length, drop, get_or, ap, sym, ◌∙◌, inl, inr, cond, nat_eq, add-one, ◌||◌}
+use Rattle.std.proofs.Common.{◌≡◌, ℕ, ◌+◌, ◌<◌, true, false, Some, List, [], ◌∷◌, length, drop, get_or, ◌∙◌, inl, inr, nat_eq, add-one, None, if◌then◌else◌}
 use Rattle.std.specs.List.{slice_get}
 use Rattle.std.proofs.lemmas.Option.{slice_get_within, get_or_from_slice_get}
 use Rattle.std.proofs.lemmas.Bool.{cases_Bool}
+use Rattle.std.proofs.lemmas.Map.{lookup-remove_entry}
 use Rattle.std.proofs.Math.Seq.{drop-cons}
 use Rattle.std.specs.Cmp.Lexicographic.{pointwise, nat_list_eq_equiv}
 use Rattle.indexmap.specs.IndexMap.{insert_entry, shift_remove_entry}
@@ -13,7 +14,7 @@ use Rattle.amqp_txn_types.specs.declared.id.TransactionId.{TransactionId}
 use Rattle.amqp_links.specs.declared.errors.IllegalLinkStateError.{IllegalLinkStateError}
 use Rattle.amqp_links.specs.declared.errors.IllegalLinkStateError.TheVariants as faults
 use Rattle.amqp_links.specs.Receiving.{Properties, pairs_of, removed}
-use Rattle.amqp_acquisition.specs.Acquiring.{OnFlowFault, has_key, naming, txn_id_key}
+use Rattle.amqp_acquisition.specs.Acquiring.{GivesOne, HasDistinctKeys, OnFlowFault, has_key, naming, txn_id_key, value_of}
 
 -- what is left from an item on
 drop-get : {X : Type 0} (xs : List X) (i : ℕ) (x : X) → slice_get xs i ≡ Some x
@@ -63,3 +64,44 @@ pub pairs-removed : (old named new : Properties) (txn_id : TransactionId)
     → new ≡ removed named txn_id_key → pairs_of new ≡ pairs_of old
 pairs-removed old named new txn_id none is_named is_removed =
     rw (is_removed, is_named) (removed-inserted txn_id_key (values.Binary txn_id) (pairs_of old) none)
+
+-- a new key that is put among pairs has its value, and no other another
+given-inserted : (named key : Symbol) (value : Value) (pairs : List (Symbol × Value))
+    → has_key named pairs ≡ false
+    → value_of key (insert_entry (pointwise nat_eq) pairs named value)
+    ≡ (if pointwise nat_eq named key then Some value else value_of key pairs)
+given-inserted named key value [] none = rw (nat_list_eq_equiv.symm key named)
+given-inserted named key value (pair ∷ pairs) none = elim (cases_Bool (pointwise nat_eq named pair.0)) [
+  | inl same ↦
+      let found : true ≡ false = rw same at none in
+      absurd (cc found)
+  | inr other ↦
+      let rest : has_key named pairs ≡ false = rw other at none in
+      elim (cases_Bool (pointwise nat_eq key pair.0)) [
+        | inl here ↦
+            let apart : pointwise nat_eq named key ≡ false =
+            nat_list_eq_equiv.symm named key ∙ nat_list_eq_equiv.congr key pair.0 named here
+            ∙ nat_list_eq_equiv.symm pair.0 named ∙ other in
+            rw (other, here, apart)
+        | inr past ↦ rw (other, past, given-inserted named key value pairs rest)
+      ]
+]
+
+-- the properties that name a transaction differ from those before in that one key
+pub gives-one-named : (old new : Properties) (txn_id : TransactionId)
+    → has_key txn_id_key (pairs_of old) ≡ false → new ≡ naming old txn_id
+    → GivesOne old new (Some (values.Binary txn_id))
+gives-one-named old new txn_id none is_named key =
+    rw is_named (given-inserted txn_id_key key (values.Binary txn_id) (pairs_of old) none)
+
+-- the properties without the key differ from those before in that one key
+pub gives-one-removed : (old new : Properties) → new ≡ removed old txn_id_key
+    → HasDistinctKeys old → GivesOne old new None
+gives-one-removed None new is_removed distinct key =
+    elim (cases_Bool (pointwise nat_eq txn_id_key key)) [
+      | inl same ↦ rw (is_removed, same)
+      | inr other ↦ rw (is_removed, other)
+    ]
+gives-one-removed (Some pairs) new is_removed distinct key =
+    rw is_removed (lookup-remove_entry nat_list_eq_equiv (pointwise nat_eq txn_id_key)
+    (nat_list_eq_equiv.congr txn_id_key) key pairs distinct)

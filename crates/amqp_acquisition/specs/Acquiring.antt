@@ -1,8 +1,9 @@
 -- Acquiring deliveries under a transaction. Part 4 of the standard (OASIS AMQP 1.0), section 4.4.3
 -- (Transactional Acquisition).
-use Rattle.std.specs.Prelude.{ℕ, ◌≡◌, ◌≤◌, Bool, true, false, Option, Some, None, Result, Ok, Err, List, [], ◌∷◌, ◌++◌, codes, nat_eq, OnErr}
+use Rattle.std.specs.Prelude.{ℕ, ◌≡◌, ◌≤◌, Bool, true, false, Option, Some, None, Result, Ok, Err, List, [], ◌∷◌, ◌++◌, codes, nat_eq, if◌then◌else◌, OnErr}
 use Rattle.std.specs.Cmp.Lexicographic.{pointwise}
-use Rattle.std.specs.List.{list_any}
+use Rattle.std.specs.List.{IsDistinct, list_any}
+use Rattle.std.specs.Map.{keys_of, lookup}
 use Rattle.indexmap.specs.IndexMap.{insert_entry}
 use Rattle.amqp_txn_types.specs.declared.fields.Value.{Value}
 use Rattle.amqp_txn_types.specs.declared.fields.Value.TheVariants as values
@@ -22,6 +23,19 @@ txn_id_key = codes "txn-id"
 abbrev pub has_key : Symbol → List (Symbol × Value) → Bool
 has_key key pairs = list_any (λ pair. pointwise nat_eq key pair.0) pairs
 
+-- the value of a key
+abbrev pub value_of : Symbol → List (Symbol × Value) → Option Value
+value_of key pairs = lookup (pointwise nat_eq key) pairs
+
+-- the key that names the transaction has this value, and every other has the value that it had
+abbrev pub GivesOne : Properties → Properties → Option Value → Type 0
+GivesOne old new value = (key : Symbol) → value_of key (pairs_of new)
+    ≡ (if pointwise nat_eq txn_id_key key then value else value_of key (pairs_of old))
+
+-- no two pairs have the same key
+abbrev pub HasDistinctKeys : Properties → Type 0
+HasDistinctKeys properties = IsDistinct (pointwise nat_eq) (keys_of (pairs_of properties))
+
 -- the properties already name a transaction
 abbrev pub names_transaction : ReceiverTold → Bool
 names_transaction told = has_key txn_id_key (pairs_of told.properties)
@@ -39,6 +53,7 @@ OnFlowFault error P = P
 -- the properties name the transaction, and a flow with the credit tells the peer
 pub record Acquired (old new : ReceiverTold) (txn_id : TransactionId) (credit : ℕ) : Type 0 where
   pub properties : new.properties ≡ naming old.properties txn_id
+  pub alone : GivesOne old.properties new.properties (Some (values.Binary txn_id))
   pub put : new.put ≡ old.put ++ messages.Flow (Some credit) None false new.properties ∷ []
   pub later : old.faults ≤ new.faults
 
@@ -72,6 +87,7 @@ Acquires old new txn_id credit result =
 pub record CleansUp (old new : ReceiverTold) (result : Result Unit IllegalLinkStateError)
     : Type 0 where
   pub properties : new.properties ≡ removed old.properties txn_id_key
+  pub alone : HasDistinctKeys old.properties → GivesOne old.properties new.properties None
   pub put : new.put
       ≡ put_by old.put (messages.Flow (Some 0) (Some true) true new.properties) result
   pub later : old.faults ≤ new.faults

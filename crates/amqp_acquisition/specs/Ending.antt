@@ -9,7 +9,7 @@ use Rattle.amqp_transactions.specs.declared.begun.Begun.{Begun}
 use Rattle.amqp_acquisition.specs.declared.acquisition.TxnAcquisition.{TxnAcquisition}
 use Rattle.amqp_acquisition.specs.declared.discharging.AcquisitionDischarging.{AcquisitionDischarging}
 use Rattle.amqp_acquisition.specs.Acquiring.{CleansUp}
-use Rattle.amqp_acquisition.specs.Acquisitions.{lent_to}
+use Rattle.amqp_acquisition.specs.Acquisitions.{lent_to, recver_of, txn_of}
 
 -- the acquisition whose discharge is awaited
 abbrev pub acquisition_of : {Txn R E W : Type 0} → AcquisitionDischarging Txn R E W
@@ -28,6 +28,23 @@ abbrev pub EndRefused : {E : Type 0} → (IllegalLinkStateError → E → Type 0
 EndRefused from old new begun error =
     CleanupRefused from old new error
     ⊎ (CleansUp old new (Ok tt) × (begun.is_discharged ≡ false))
+
+-- the acquisition keeps its receiver, and what its owner sees of its transaction
+pub record Keeps {Txn R : Type 0} (begun : Txn → Begun) (old new : TxnAcquisition Txn R) : Type 0 where
+  pub lent : (lent_to new).ghost_name ≡ (lent_to old).ghost_name
+  pub seen : begun (txn_of new) ≡ begun (txn_of old)
+
+-- the end of an acquisition is asked for once it is cleaned up; a refusal hands it back
+abbrev pub AsksToEnd : {Txn R E W : Type 0} → (Txn → Begun) → (R → ReceiverTold)
+    → (IllegalLinkStateError → E → Type 0) → TxnAcquisition Txn R
+    → Result (AcquisitionDischarging Txn R E W) (TxnAcquisition Txn R × E) → Type 0
+AsksToEnd begun told from old (Ok wait) =
+    Keeps begun old (acquisition_of wait)
+    × CleansUp (told (recver_of old)) (told (recver_of (acquisition_of wait))) (Ok tt)
+AsksToEnd begun told from old (Err refused) =
+    Keeps begun old refused.0
+    × EndRefused from (told (recver_of old)) (told (recver_of refused.0)) (begun (txn_of old))
+    refused.1
 
 -- a poll leaves the receiver, which is let go with the transaction
 abbrev pub KeepsReceiver : {Txn R W E : Type 0} → (W → TxnAcquisition Txn R) → MutBor R

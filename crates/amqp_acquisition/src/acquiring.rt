@@ -5,7 +5,7 @@ ghost use Rattle.amqp_acquisition.specs.Acquiring.{Acquires, NamedBefore, names_
 ghost use Rattle.amqp_acquisition.specs.Acquisitions.{lent_to, recver_of, txn_of};
 
 use crate::acquisition::TxnAcquisition;
-use crate::receiving::{TxnIdKey, acquire_on};
+use crate::receiving::{TxnIdKey, acquire_on_link};
 use amqp_control_calls::TransactionBase;
 use amqp_links::{FlowError, ReceiverLink, SenderLink};
 use amqp_posting::{TransactionPosting, TransactionRetirement};
@@ -37,7 +37,13 @@ pub trait TransactionAcquisition: TransactionBase + TransactionDischarge + Trans
         ensures named { IfErr result (λ refused. NamedBefore
             (names_transaction (R.told recver.old)) refused.1) }
     {
-        acquire(self, alloc, recver, credit)
+        let Ok(key) = TxnIdKey::new(alloc) else {
+            return Err((self, FlowError::NoMemory));
+        };
+        match acquire_on_link(alloc, recver, &key, self.txn_id(), credit) {
+            Ok(()) => Ok(TxnAcquisition::new(self, recver, key)),
+            Err(fault) => Err((self, fault)),
+        }
     }
 }
 
@@ -51,28 +57,3 @@ impl<L: SenderLink> TransactionExt for Transaction<'_, L> {}
 impl<L: SenderLink + Drop> TransactionAcquisition for OwnedTransaction<L> {}
 
 impl<L: SenderLink + Drop> TransactionExt for OwnedTransaction<L> {}
-
-/// Names the transaction in the receiver's properties, and keeps the two together.
-fn acquire<'r, T: TransactionBase, R: ReceiverLink>(
-    txn: T,
-    alloc: Global,
-    recver: &'r mut R,
-    credit: u32,
-) -> Result<TxnAcquisition<'r, T, R>, (T, FlowError)>
-    ensures acquired { IfOk result (λ acquisition. Acquires (R.told recver.old)
-        (R.told (recver_of acquisition)) (T.id txn) credit (Ok tt)) }
-    ensures lent { IfOk result (λ acquisition. (lent_to acquisition).ghost_name
-        ≡ recver.entry.ghost_name) }
-    ensures txn { IfOk result (λ acquisition. txn_of acquisition ≡ txn) }
-    ensures back { IfErr result (λ refused. refused.0 ≡ txn) }
-    ensures named { IfErr result (λ refused. NamedBefore
-        (names_transaction (R.told recver.old)) refused.1) }
-{
-    let Ok(key) = TxnIdKey::new(alloc) else {
-        return Err((txn, FlowError::NoMemory));
-    };
-    match acquire_on(alloc, recver, &key, txn.txn_id(), credit) {
-        Ok(()) => Ok(TxnAcquisition::new(txn, recver, key)),
-        Err(fault) => Err((txn, fault)),
-    }
-}

@@ -4,7 +4,7 @@ ghost use Rattle.std.specs.Prelude.{◌≡◌};
 ghost use Rattle.amqp_links.specs.Receiving.{Receives, SetsCredit};
 ghost use Rattle.amqp_acquisition.specs.Acquiring.{CleansUp};
 
-use crate::receiving::{TxnIdKey, clean_up};
+use crate::receiving::{TxnIdKey, clean_up_on_link};
 use amqp_control_calls::TransactionBase;
 use amqp_endpoints::Progress;
 use amqp_links::{Delivery, DeliveryInfo, FlowError, Poll, ReceiverLink, RecvError};
@@ -27,7 +27,7 @@ impl<'r, Txn: TransactionBase, R: ReceiverLink> TxnAcquisition<'r, Txn, R> {
     ghost use Rattle.std.specs.Prelude.{[]};
     ghost use Rattle.std.specs.Borrow.{Lends, sem};
     ghost use mir.Syntax.{named};
-    ghost use Rattle.amqp_acquisition.specs.Acquisitions.{recver_of, txn_of};
+    ghost use Rattle.amqp_acquisition.specs.Acquisitions.{lent_to, recver_of, txn_of};
     ghost use Rattle.amqp_acquisition.specs.contracts.acquisition.TxnAcquisition.{the_row};
 
     /// The transaction.
@@ -58,6 +58,7 @@ impl<'r, Txn: TransactionBase, R: ReceiverLink> TxnAcquisition<'r, Txn, R> {
         ensures recver { Receives (R.told (recver_of self.old)) (R.told (recver_of self.new))
             result }
         ensures txn { txn_of self.new ≡ txn_of self.old }
+        ensures lent { (lent_to self.new).ghost_name ≡ (lent_to self.old).ghost_name }
     {
         self.recver.recv()
     }
@@ -67,6 +68,7 @@ impl<'r, Txn: TransactionBase, R: ReceiverLink> TxnAcquisition<'r, Txn, R> {
         ensures recver { SetsCredit (R.told (recver_of self.old)) (R.told (recver_of self.new))
             result }
         ensures txn { txn_of self.new ≡ txn_of self.old }
+        ensures lent { (lent_to self.new).ghost_name ≡ (lent_to self.old).ghost_name }
     {
         self.recver.set_credit(credit)
     }
@@ -78,8 +80,9 @@ impl<'r, Txn: TransactionBase, R: ReceiverLink> TxnAcquisition<'r, Txn, R> {
         ensures recver { CleansUp (R.told (recver_of self.old)) (R.told (recver_of self.new))
             result }
         ensures txn { txn_of self.new ≡ txn_of self.old }
+        ensures lent { (lent_to self.new).ghost_name ≡ (lent_to self.old).ghost_name }
     {
-        clean_up(self.recver, &self.key)
+        clean_up_on_link(self.recver, &self.key)
     }
 }
 
@@ -158,7 +161,7 @@ impl<'r, Txn: TransactionDischarge, R> TxnAcquisition<'r, Txn, R> {
 impl<'r, Txn: TransactionRetirement, R: ReceiverLink> TxnAcquisition<'r, Txn, R> {
     ghost use Rattle.amqp_txn_types.specs.declared.delivery.Outcome.TheVariants as outcomes;
     ghost use Rattle.amqp_posting.specs.Retiring.{Retires};
-    ghost use Rattle.amqp_acquisition.specs.Acquisitions.{recver_of, txn_of};
+    ghost use Rattle.amqp_acquisition.specs.Acquisitions.{lent_to, recver_of, txn_of};
 
     /// Retires a delivery as accepted. See [`TransactionRetirement::accept`].
     pub fn accept(&mut self, delivery: &DeliveryInfo) -> Result<(), Txn::RetireError>
@@ -166,6 +169,7 @@ impl<'r, Txn: TransactionRetirement, R: ReceiverLink> TxnAcquisition<'r, Txn, R>
             (R.told (recver_of self.new)) (Txn.id (txn_of self.old)) delivery.now
             outcomes.Accepted result }
         ensures txn { txn_of self.new ≡ txn_of self.old }
+        ensures lent { (lent_to self.new).ghost_name ≡ (lent_to self.old).ghost_name }
     {
         self.txn.accept(self.recver, delivery)
     }
@@ -180,6 +184,7 @@ impl<'r, Txn: TransactionRetirement, R: ReceiverLink> TxnAcquisition<'r, Txn, R>
             (R.told (recver_of self.new)) (Txn.id (txn_of self.old)) delivery.now
             (outcomes.Rejected (record { error = error })) result }
         ensures txn { txn_of self.new ≡ txn_of self.old }
+        ensures lent { (lent_to self.new).ghost_name ≡ (lent_to self.old).ghost_name }
     {
         self.txn.reject(self.recver, delivery, error)
     }
@@ -190,6 +195,7 @@ impl<'r, Txn: TransactionRetirement, R: ReceiverLink> TxnAcquisition<'r, Txn, R>
             (R.told (recver_of self.new)) (Txn.id (txn_of self.old)) delivery.now
             outcomes.Released result }
         ensures txn { txn_of self.new ≡ txn_of self.old }
+        ensures lent { (lent_to self.new).ghost_name ≡ (lent_to self.old).ghost_name }
     {
         self.txn.release(self.recver, delivery)
     }
@@ -204,6 +210,7 @@ impl<'r, Txn: TransactionRetirement, R: ReceiverLink> TxnAcquisition<'r, Txn, R>
             (R.told (recver_of self.new)) (Txn.id (txn_of self.old)) delivery.now
             (outcomes.Modified modified) result }
         ensures txn { txn_of self.new ≡ txn_of self.old }
+        ensures lent { (lent_to self.new).ghost_name ≡ (lent_to self.old).ghost_name }
     {
         self.txn.modify(self.recver, delivery, modified)
     }

@@ -1,10 +1,9 @@
 //! How an acquisition ends.
 
-ghost use Rattle.std.specs.Prelude.{◌≡◌, Ok, IfErr, IfOk};
+ghost use Rattle.std.specs.Prelude.{◌≡◌};
 ghost use Rattle.amqp_transactions.specs.Begun.{GivesUp, PollsToEnd};
-ghost use Rattle.amqp_acquisition.specs.Acquiring.{CleansUp};
-ghost use Rattle.amqp_acquisition.specs.Acquisitions.{lent_to, recver_of, txn_of};
-ghost use Rattle.amqp_acquisition.specs.Ending.{EndRefused, KeepsReceiver, acquisition_of};
+ghost use Rattle.amqp_acquisition.specs.Acquisitions.{lent_to, txn_of};
+ghost use Rattle.amqp_acquisition.specs.Ending.{AsksToEnd, KeepsReceiver, acquisition_of};
 
 use crate::acquisition::TxnAcquisition;
 use amqp_control_calls::{Abandoned, TransactionBase};
@@ -22,42 +21,20 @@ pub struct AcquisitionDischarging<'r, Txn: TransactionDischarge, R> {
 impl<'r, Txn: TransactionBase + TransactionDischarge, R: ReceiverLink> TxnAcquisition<'r, Txn, R> {
     /// Cleans up, and asks for a commit: puts one discharge, whose `fail` is false. An error hands
     /// the acquisition back; its receiver is cleaned up all the same.
-    pub fn commit<W: Wait>(
-        self,
-        rt: &W,
-    ) -> Result<AcquisitionDischarging<'r, Txn, R>, (Self, Txn::Error)>
+    pub fn commit<W: Wait>(self, rt: &W) -> EndAsked<'r, Txn, R, Txn::Error>
     where
         Txn::Error: From<FlowError>,
-        ensures wait { IfOk result (λ wait. Txn.begun (txn_of (acquisition_of wait))
-            ≡ Txn.begun (txn_of self.entry)) }
-        ensures back { IfErr result (λ refused. Txn.begun (txn_of refused.0)
-            ≡ Txn.begun (txn_of self.entry)) }
-        ensures cleaned { IfOk result (λ wait. CleansUp (R.told (recver_of self.entry))
-            (R.told (recver_of (acquisition_of wait))) (Ok tt)) }
-        ensures refused { IfErr result (λ refused. EndRefused Txn.Error.from_gives
-            (R.told (recver_of self.entry)) (R.told (recver_of refused.0))
-            (Txn.begun (txn_of self.entry)) refused.1) }
+        ensures { AsksToEnd Txn.begun R.told Txn.Error.from_gives self.entry result }
     {
         discharge(self, rt, false)
     }
 
     /// Cleans up, and asks for a rollback: puts one discharge, whose `fail` is true. An error hands
     /// the acquisition back; its receiver is cleaned up all the same.
-    pub fn rollback<W: Wait>(
-        self,
-        rt: &W,
-    ) -> Result<AcquisitionDischarging<'r, Txn, R>, (Self, Txn::Error)>
+    pub fn rollback<W: Wait>(self, rt: &W) -> EndAsked<'r, Txn, R, Txn::Error>
     where
         Txn::Error: From<FlowError>,
-        ensures wait { IfOk result (λ wait. Txn.begun (txn_of (acquisition_of wait))
-            ≡ Txn.begun (txn_of self.entry)) }
-        ensures back { IfErr result (λ refused. Txn.begun (txn_of refused.0)
-            ≡ Txn.begun (txn_of self.entry)) }
-        ensures cleaned { IfOk result (λ wait. CleansUp (R.told (recver_of self.entry))
-            (R.told (recver_of (acquisition_of wait))) (Ok tt)) }
-        ensures refused { IfErr result (λ refused. EndRefused Txn.Error.from_gives
-            (R.told (recver_of self.entry)) (R.told (recver_of refused.0))
-            (Txn.begun (txn_of self.entry)) refused.1) }
+        ensures { AsksToEnd Txn.begun R.told Txn.Error.from_gives self.entry result }
     {
         discharge(self, rt, true)
     }
@@ -75,23 +52,21 @@ impl<'r, Txn: TransactionBase + TransactionDischarge, R: ReceiverLink> TxnAcquis
     }
 }
 
+/// What a commit and a rollback answer: what is awaited, or the acquisition with the error.
+type EndAsked<'r, Txn, R, E> = Result<
+    AcquisitionDischarging<'r, Txn, R>,
+    (TxnAcquisition<'r, Txn, R>, E),
+>;
+
 /// Cleans up, and puts a discharge.
 fn discharge<'r, Txn: TransactionBase + TransactionDischarge, R: ReceiverLink, W: Wait>(
     mut acquisition: TxnAcquisition<'r, Txn, R>,
     rt: &W,
     fail: bool,
-) -> Result<AcquisitionDischarging<'r, Txn, R>, (TxnAcquisition<'r, Txn, R>, Txn::Error)>
+) -> EndAsked<'r, Txn, R, Txn::Error>
 where
     Txn::Error: From<FlowError>,
-    ensures wait { IfOk result (λ wait. Txn.begun (txn_of (acquisition_of wait))
-        ≡ Txn.begun (txn_of acquisition.entry)) }
-    ensures back { IfErr result (λ refused. Txn.begun (txn_of refused.0)
-        ≡ Txn.begun (txn_of acquisition.entry)) }
-    ensures cleaned { IfOk result (λ wait. CleansUp (R.told (recver_of acquisition.entry))
-        (R.told (recver_of (acquisition_of wait))) (Ok tt)) }
-    ensures refused { IfErr result (λ refused. EndRefused Txn.Error.from_gives
-        (R.told (recver_of acquisition.entry)) (R.told (recver_of refused.0))
-        (Txn.begun (txn_of acquisition.entry)) refused.1) }
+    ensures { AsksToEnd Txn.begun R.told Txn.Error.from_gives acquisition.entry result }
 {
     if let Err(fault) = acquisition.cleanup() {
         return Err((acquisition, Txn::Error::from(fault)));

@@ -6,6 +6,8 @@
 //! | [`TxnAcquisition`] | it with that receiver, whose properties name it |
 //! | [`AcquisitionDischarging`] | an acquisition whose end is awaited |
 //! | [`TransactionExt`] | all that a transaction does |
+//! | [`acquire_on_link`], [`clean_up_on_link`] | what both do to a receiver that is lent |
+//! | [`TxnIdKey`] | the key by which the properties name it |
 //!
 //! A client that passes messages on, each under a transaction of its own:
 //!
@@ -24,9 +26,12 @@
 //! Below stand the transactions of `amqp_transactions` and the work under them of `amqp_posting`.
 //! The promise that this crate carries: an acquisition adds the one property `txn-id` and puts one
 //! flow, a cleanup takes that property alone out, whatever the flow is answered, and puts one flow;
-//! each refusal hands back the transaction or the acquisition. What is put on the control link, and
-//! that a discharge is put after the flow of the cleanup, isn't proved: no contract can say what a
-//! link under a lock holds. 'The standard' is OASIS AMQP 1.0.
+//! each refusal hands back the transaction or the acquisition. What an acquisition that is refused
+//! leaves of its receiver is the promise of `acquire_on_link`; that `acquire` makes that one call,
+//! and that `abandon` cleans up, isn't proved: a contract can't name a receiver that is gone from
+//! the answer. Nor can one say what a link under a lock holds: what is put on the control link, and
+//! that a discharge is put after the flow of the cleanup, isn't proved either. 'The standard' is
+//! OASIS AMQP 1.0.
 #![tactic(auto)]
 
 mod acquiring;
@@ -37,3 +42,4 @@ mod receiving;
 pub use acquiring::{TransactionAcquisition, TransactionExt};
 pub use acquisition::TxnAcquisition;
 pub use discharging::AcquisitionDischarging;
+pub use receiving::{TxnIdKey, acquire_on_link, clean_up_on_link};

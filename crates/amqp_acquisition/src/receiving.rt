@@ -1,9 +1,9 @@
 //! What an acquisition does to its receiver.
 
-ghost use Rattle.std.specs.Prelude.{◌≡◌, codes};
+ghost use Rattle.std.specs.Prelude.{◌≡◌, IfOk, None, codes};
 ghost use Rattle.amqp_txn_types.specs.declared.fields.Value.TheVariants as values;
-ghost use Rattle.amqp_links.specs.Receiving.{Inserts};
-ghost use Rattle.amqp_acquisition.specs.Acquiring.{Acquires, CleansUp, has_key, names_transaction, txn_id_key};
+ghost use Rattle.amqp_links.specs.Receiving.{Inserts, Removes};
+ghost use Rattle.amqp_acquisition.specs.Acquiring.{Acquires, CleansUp, GivesOne, HasDistinctKeys, has_key, names_transaction, txn_id_key};
 
 use amqp_links::{FlowError, ReceiverLink};
 use amqp_txn_types::{Binary, Fields, NoMemory, Symbol, TransactionId, Value};
@@ -12,15 +12,19 @@ use std::alloc::Global;
 /// The key of the property that names the transaction.
 const TXN_ID: &str = "txn-id";
 
-/// The key, as a symbol.
+/// The key of the property that names the transaction, as a symbol. One that is kept lets a cleanup
+/// take no memory.
 #[derive(Drop)]
-pub(crate) struct TxnIdKey {
+pub struct TxnIdKey {
     symbol: Symbol,
     ghost named: { symbol ≡ codes "txn-id" },
 }
 
 impl TxnIdKey {
-    pub(crate) fn new(alloc: Global) -> Result<TxnIdKey, NoMemory> {
+    /// The key, in memory of its own.
+    pub fn new(alloc: Global) -> Result<TxnIdKey, NoMemory>
+        ensures { IfOk result (λ key. key.symbol ≡ txn_id_key) }
+    {
         let symbol = Symbol::from_str(alloc, TXN_ID)?;
         Ok(TxnIdKey { symbol })
     }
@@ -49,12 +53,13 @@ fn names_transaction<R: ReceiverLink>(recver: &R, key: &TxnIdKey) -> bool
     }
 }
 
-/// Names the transaction in the receiver's properties, and tells the peer so with the credit.
+/// What an acquisition does to its receiver: names the transaction in the properties, and tells the
+/// peer so by one flow with the credit.
 ///
 /// Errors: `IllegalState` where the properties named a transaction, or what the link's `send_flow`
-/// answered, or `NoMemory`; the properties are as before then, and no map of them is as an empty
-/// one.
-pub(crate) fn acquire_on<R: ReceiverLink>(
+/// answered, or `NoMemory`. The properties are as before then, and no map of them is as an empty
+/// one; nothing was put.
+pub fn acquire_on_link<R: ReceiverLink>(
     alloc: Global,
     recver: &mut R,
     key: &TxnIdKey,
@@ -68,7 +73,7 @@ pub(crate) fn acquire_on<R: ReceiverLink>(
     }
     name_transaction(alloc, recver, txn_id)?;
     if let Err(fault) = recver.send_flow(Some(credit), None, false, true) {
-        recver.remove_property(&key.symbol);
+        unname(recver, key);
         return Err(fault);
     }
     Ok(())
@@ -88,11 +93,21 @@ fn name_transaction<R: ReceiverLink>(
     recver.insert_property(symbol, Value::Binary(octets))
 }
 
-/// Takes the key out of the receiver's properties, and tells the peer so: without credit, to be
-/// drained, to be answered. The key is gone after an error too.
-pub(crate) fn clean_up<R: ReceiverLink>(recver: &mut R, key: &TxnIdKey) -> Result<(), FlowError>
-    ensures { CleansUp (R.told recver.old) (R.told recver.new) result }
+/// Takes the key out.
+fn unname<R: ReceiverLink>(recver: &mut R, key: &TxnIdKey)
+    ensures removes { Removes (R.told recver.old) (R.told recver.new) txn_id_key }
+    ensures alone { HasDistinctKeys (R.told recver.old).properties
+        → GivesOne (R.told recver.old).properties (R.told recver.new).properties None }
 {
     recver.remove_property(&key.symbol);
+}
+
+/// What a cleanup does to its receiver: takes the transaction out of the properties, and tells the
+/// peer so by one flow, without credit, to be drained, to be answered. After an error, which is
+/// that of the link's `send_flow`, it is taken out all the same.
+pub fn clean_up_on_link<R: ReceiverLink>(recver: &mut R, key: &TxnIdKey) -> Result<(), FlowError>
+    ensures { CleansUp (R.told recver.old) (R.told recver.new) result }
+{
+    unname(recver, key);
     recver.send_flow(Some(0), Some(true), true, true)
 }
