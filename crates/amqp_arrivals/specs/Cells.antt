@@ -1,5 +1,5 @@
 -- The log of the work under live ids: what came, in the order in which it came.
-use Rattle.std.specs.Prelude.{ℕ, ◌+◌, Bool, true, false, not, cond, Option, Some, None, List, [], ◌∷◌, ◌++◌, filter, count_by, slice_get, slice_set}
+use Rattle.std.specs.Prelude.{ℕ, ◌≡◌, ◌+◌, Bool, true, false, not, cond, Option, Some, None, List, [], ◌∷◌, ◌++◌, filter, count_by, nat_lt, slice_get, slice_set}
 use Rattle.std.specs.List.{list_any, filter_map}
 use Rattle.amqp_txn_types.specs.declared.id.TransactionId.{TransactionId}
 use Rattle.amqp_txn_types.specs.declared.frames.TxnWorkFrame.{TxnWorkFrame}
@@ -9,10 +9,12 @@ use Rattle.amqp_txn_types.specs.Works.{frame_of_work}
 use Rattle.amqp_arrivals.specs.declared.cell.Cell.{Cell}
 use Rattle.amqp_arrivals.specs.declared.cell.Cell.TheVariants as cells
 
--- the log: its cells, in the order in which they came, and the ids that are opened
+-- the log: its cells, in the order in which they came, the ids that are opened, and how many more
+-- can be opened without taking memory
 pub record Log : Type 0 where
   pub cells : List Cell
   pub opened : List TransactionId
+  pub room : ℕ
 
 -- ---- one cell
 
@@ -64,6 +66,7 @@ places log t = places_from 0 t log.cells
 abbrev pub frames_in : List Cell → TransactionId → List Frame
 frames_in cs t = filter_map (frame_under t) cs
 
+-- the same of the log
 abbrev pub frames_of : Log → TransactionId → List Frame
 frames_of log t = frames_in log.cells t
 
@@ -80,9 +83,10 @@ live_count log = count_by is_live_cell log.cells
 abbrev pub dead_count : Log → ℕ
 dead_count log = count_by is_dead_cell log.cells
 
--- the log with one more id opened
-abbrev pub with_opened : Log → TransactionId → Log
-with_opened log t = record log { opened = log.opened ++ t ∷ [] }
+-- the cells and the opened ids are as they were
+pub record SameLog (old new : Log) : Type 0 where
+  pub cells : new.cells ≡ old.cells
+  pub opened : new.opened ≡ old.opened
 
 -- the log with one more live cell, at its end
 abbrev pub with_arrival : Log → TransactionId → TxnWorkFrame → Log
@@ -95,3 +99,20 @@ without_work log n = record log { cells = slice_set log.cells n cells.Dead }
 -- the log without its dead cells
 abbrev pub closed_up : Log → Log
 closed_up log = record log { cells = filter is_live_cell log.cells }
+
+-- the log, without its dead cells where they are more than the live ones
+abbrev pub settled : Log → Log
+settled log = cond (nat_lt (live_count log) (dead_count log)) (closed_up log) log
+
+-- ---- work taken out of the log
+
+-- some frames, after the one of the work that was taken, if any
+abbrev pub after_taken : Option TxnWorkFrame → List Frame → List Frame
+after_taken None frames = frames
+after_taken (Some work) frames = frame_of_work work ∷ frames
+
+-- what is kept for the other ids is as it was, and so are the opened ids
+pub record OthersStay (id : TransactionId) (old new : Log) : Type 0 where
+  pub frames : (t : TransactionId) → same_id t id ≡ false → frames_of new t ≡ frames_of old t
+  pub opened : new.opened ≡ old.opened
+  pub room : new.room ≡ old.room

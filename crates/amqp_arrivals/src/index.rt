@@ -1,8 +1,8 @@
 //! The index of the log: the places of the live cells of each opened id.
 
-ghost use Rattle.std.specs.Prelude.{◌≡◌, ◌==◌, ◌++◌, ◌∷◌, [], cond, true, OnOk, OnErr, position, slice_get, is_some};
+ghost use Rattle.std.specs.Prelude.{◌≡◌, ◌==◌, ◌++◌, ◌∷◌, [], cond, true, OnOk, OnErr, length, position, slice_get, is_some};
 ghost use Rattle.std.specs.Map.{lookup};
-ghost use Rattle.std.specs.HashMap.{keys};
+ghost use Rattle.std.specs.HashMap.{keys, spare};
 ghost use Rattle.amqp_txn_types.specs.declared.id.TransactionId.{TransactionId as Id};
 ghost use Rattle.amqp_txn_types.specs.Ids.{same_id};
 ghost use Rattle.amqp_arrivals.specs.Index.{moved_to, places_kept, without_place};
@@ -21,6 +21,16 @@ pub fn first_place(index: &Index, id: TransactionId) -> Option<usize>
     index.get(&id)?.front().copied()
 }
 
+/// How many places an id has.
+pub fn place_count(index: &Index, id: TransactionId) -> usize
+    ensures { result ≡ length (places_kept index.now.entries id) }
+{
+    match index.get(&id) {
+        Some(places) => places.len(),
+        None => 0,
+    }
+}
+
 /// Adds a place to those of an opened id. For want of memory all places stay as they were.
 pub fn add_place(index: &mut Index, id: TransactionId, place: usize) -> Result<(), NoMemory>
     requires { is_some (lookup (same_id id) index.old.entries) ≡ true }
@@ -29,6 +39,7 @@ pub fn add_place(index: &mut Index, id: TransactionId, place: usize) -> Result<(
     ensures err { OnErr result ((t : Id) → places_kept index.new.entries t
         ≡ places_kept index.old.entries t) }
     ensures keys { keys index.new ≡ keys index.old }
+    ensures spare { spare index.new ≡ spare index.old }
 {
     let Some(places) = index.get_mut(&id) else {
         unreachable!()
@@ -67,6 +78,7 @@ pub fn drop_place(index: &mut Index, id: TransactionId, place: usize)
         (without_place place (places_kept index.old.entries t))
         (places_kept index.old.entries t) }
     ensures keys { keys index.new ≡ keys index.old }
+    ensures spare { spare index.new ≡ spare index.old }
 {
     if let Some(places) = index.get_mut(&id) {
         drop_from(places, place);
@@ -90,6 +102,7 @@ pub fn move_place(index: &mut Index, id: TransactionId, to: usize)
         (moved_to to (places_kept index.old.entries t))
         (places_kept index.old.entries t) }
     ensures keys { keys index.new ≡ keys index.old }
+    ensures spare { spare index.new ≡ spare index.old }
 {
     if let Some(places) = index.get_mut(&id) {
         move_in(places, to);

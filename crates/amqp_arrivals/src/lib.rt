@@ -8,12 +8,14 @@
 //!
 //! ```text
 //! let mut log = ArrivalLog::new(alloc);
+//! log.make_room()?;
 //! log.open_id(id)?;
 //! log.append(&id, work)?;
-//! while let Some(place) = log.first(&id) {
-//!     hand(log.take(place, &mut looks));
+//! while let Some(work) = log.take_first(&id, &mut looks) {
+//!     hand(work);
 //! }
 //! log.end(&id);
+//! log.settle(&mut looks);
 //! ```
 //!
 //! [`Looks`] counts the looks into the log: one for each cell whose work is taken, and one for each
@@ -24,11 +26,13 @@
 //! cells, of the opened ids and of the count of looks.
 #![tactic(auto)]
 
+mod answering;
 mod cell;
 mod index;
 mod log;
 mod looks;
 
+pub use answering::presumptive;
 pub use cell::Cell;
 pub use log::ArrivalLog;
 pub use looks::Looks;

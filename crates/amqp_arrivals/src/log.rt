@@ -1,14 +1,14 @@
 //! The log of the work under live transactions.
 
-ghost use Rattle.std.specs.Prelude.{◌≡◌, ◌+◌, ◌++◌, ◌∷◌, [], Some, None, cond, true, false, is_some, slice_get, take, filter, count_by, IfErr, OnOk, OnErr};
-ghost use Rattle.std.specs.HashMap.{keys};
+ghost use Rattle.std.specs.Prelude.{◌≡◌, ◌≤◌, ◌<◌, ◌+◌, ◌++◌, ◌∷◌, [], Some, None, cond, true, false, is_some, length, slice_get, take, filter, count_by, IfErr, IfSome, IsOk, OnSome, MatchOption, OnOk, OnErr};
+ghost use Rattle.std.specs.HashMap.{keys, spare};
 ghost use Rattle.amqp_txn_types.specs.declared.id.TransactionId.{TransactionId as Id};
 ghost use Rattle.amqp_txn_types.specs.Ids.{same_id};
-ghost use Rattle.amqp_arrivals.specs.Cells.{closed_up, dead_count, is_live_cell, is_opened, live_count, places, places_from, with_arrival, with_opened, without_work, work_at};
+ghost use Rattle.amqp_arrivals.specs.Cells.{SameLog, OthersStay, after_taken, closed_up, dead_count, frames_of, is_live_cell, is_opened, live_count, places, places_from, settled, with_arrival, without_work, work_at};
 ghost use Rattle.amqp_arrivals.specs.Index.{places_kept};
 
 use crate::cell::Cell;
-use crate::index::{Index, add_place, drop_place, first_place, move_place};
+use crate::index::{Index, add_place, drop_place, first_place, move_place, place_count};
 use crate::looks::Looks;
 use amqp_txn_types::{NoMemory, TransactionId, TxnWorkFrame};
 use indexmap::IndexMap;
@@ -26,6 +26,7 @@ fn move_live<L: Ledger>(cells: &mut Vec<Cell>, index: &mut Index, looks: &mut Lo
     ensures index { (t : Id) → places_kept index.new.entries t
         ≡ places_from 0 t (filter is_live_cell cells.old.items) }
     ensures keys { keys index.new ≡ keys index.old }
+    ensures spare { spare index.new ≡ spare index.old }
     ensures looks { looks.new ≡ looks.old + count_by is_live_cell cells.old.items }
 {
     let mut kept = 0;
@@ -54,13 +55,17 @@ pub struct ArrivalLog {
 }
 
 impl Model for ArrivalLog {
-    ghost use Rattle.std.specs.HashMap.{keys};
+    ghost use Rattle.std.specs.HashMap.{keys, spare};
     ghost use Rattle.amqp_arrivals.specs.Cells.{Log};
     ghost use Rattle.amqp_arrivals.specs.Index.{Indexed};
 
     ghost Value = { Log };
 
-    ghost view = { λ log. record { cells = log.cells.items; opened = keys log.index } };
+    ghost view = { λ log. record {
+      cells = log.cells.items;
+      opened = keys log.index;
+      room = spare log.index;
+    } };
 
     ghost invariant = { λ log. Indexed log.cells.items log.index.entries log.dead };
 }
@@ -69,7 +74,8 @@ impl ArrivalLog {
     /// A log without cells, of which no id is opened. It takes no memory; later growth takes it
     /// from `alloc`.
     pub fn new(alloc: Global) -> Self
-        ensures { result ≡ record { cells = []; opened = [] } }
+        ensures cells { result.cells ≡ [] }
+        ensures opened { result.opened ≡ [] }
     {
         ArrivalLog {
             cells: Vec::new(alloc),
@@ -102,16 +108,39 @@ impl ArrivalLog {
 
     /// The place of the id's first live cell; `None` where it has none.
     pub fn first(&self, txn_id: &TransactionId) -> Option<usize>
-        ensures { result ≡ slice_get (places self.now txn_id.now) 0 }
+        ensures first { result ≡ slice_get (places self.now txn_id.now) 0 }
+        ensures live { IfSome result (λ place. is_some (work_at self.now.cells place) ≡ true) }
     {
         first_place(&self.index, *txn_id)
     }
 
-    /// Opens an id. For want of memory, the only error, nothing changes.
+    /// How many cells are live with the id: so many frames are kept for it.
+    pub fn count(&self, txn_id: &TransactionId) -> usize
+        ensures { result ≡ length (frames_of self.now txn_id.now) }
+    {
+        place_count(&self.index, *txn_id)
+    }
+
+    /// Makes room for one more opened id. The only error is want of memory.
+    pub fn make_room(&mut self) -> Result<(), NoMemory>
+        ensures same { SameLog self.old self.new }
+        ensures room { OnOk result (0 < self.new.room) }
+    {
+        match self.index.reserve(1) {
+            Ok(()) => Ok(()),
+            Err(_) => Err(NoMemory),
+        }
+    }
+
+    /// Opens an id, for which there may be room. For want of memory, the only error, nothing
+    /// changes.
     pub fn open_id(&mut self, txn_id: TransactionId) -> Result<(), NoMemory>
         requires { is_opened self.old txn_id ≡ false }
-        ensures ok { OnOk result (self.new ≡ with_opened self.old txn_id) }
-        ensures err { OnErr result (self.new ≡ self.old) }
+        ensures fresh { frames_of self.new txn_id ≡ [] }
+        ensures cells { self.new.cells ≡ self.old.cells }
+        ensures ok { OnOk result (self.new.opened ≡ self.old.opened ++ txn_id ∷ []) }
+        ensures err { OnErr result (self.new.opened ≡ self.old.opened) }
+        ensures succeeds { 0 < self.old.room → IsOk result }
     {
         match self.index.insert(txn_id, VecDeque::new(self.alloc)) {
             Ok(_) => Ok(()),
@@ -122,7 +151,7 @@ impl ArrivalLog {
     /// Ends an opened id that has no live cell. It takes no memory.
     pub fn end(&mut self, txn_id: &TransactionId)
         requires opened { is_opened self.old txn_id.now ≡ true }
-        requires empty { places self.old txn_id.now ≡ [] }
+        requires empty { frames_of self.old txn_id.now ≡ [] }
         ensures cells { self.new.cells ≡ self.old.cells }
         ensures opened { (t : Id) → is_opened self.new t ≡ cond (same_id txn_id.now t) false
             (is_opened self.old t) }
@@ -170,6 +199,28 @@ impl ArrivalLog {
         work
     }
 
+    /// Takes the first work of an id out: one look. `None` where nothing is kept for it, and then
+    /// nothing changes. It takes no memory.
+    pub fn take_first<L: Ledger>(
+        &mut self,
+        txn_id: &TransactionId,
+        looks: &mut Looks<L>,
+    ) -> Option<TxnWorkFrame>
+        ensures taken { frames_of self.old txn_id.now
+            ≡ after_taken result (frames_of self.new txn_id.now) }
+        ensures none { MatchOption result
+            ((frames_of self.old txn_id.now ≡ []) × (self.new ≡ self.old) × (looks.new ≡ looks.old))
+            (λ _. looks.new ≡ looks.old + 1) }
+        ensures others { OthersStay txn_id.now self.old self.new }
+        ensures dead { OnSome result (dead_count self.new ≡ dead_count self.old + 1) }
+        ensures live { OnSome result (live_count self.new + 1 ≡ live_count self.old) }
+    {
+        match self.first(txn_id) {
+            Some(place) => Some(self.take(place, looks)),
+            None => None,
+        }
+    }
+
     /// Leaves the live cells, in their order, and none that is dead: one look at each. It takes no
     /// memory.
     pub fn close_up<L: Ledger>(&mut self, looks: &mut Looks<L>)
@@ -179,5 +230,20 @@ impl ArrivalLog {
         let live = move_live(&mut self.cells, &mut self.index, looks);
         self.cells.truncate(live);
         self.dead = 0;
+    }
+
+    /// Closes the log up where more cells are dead than live. It takes no memory.
+    pub fn settle<L: Ledger>(&mut self, looks: &mut Looks<L>)
+        ensures log { self.new ≡ settled self.old }
+        ensures frames { (t : Id) → frames_of self.new t ≡ frames_of self.old t }
+        ensures opened { self.new.opened ≡ self.old.opened }
+        ensures room { self.new.room ≡ self.old.room }
+        ensures live { live_count self.new ≡ live_count self.old }
+        ensures few { dead_count self.new ≤ live_count self.new }
+        ensures looks { looks.new + dead_count self.new ≤ looks.old + dead_count self.old }
+    {
+        if self.live() < self.dead() {
+            self.close_up(looks);
+        }
     }
 }

@@ -17,12 +17,14 @@ loop-place-preserved g c =
         cells = FiltersInPlace-more_swap held there (ap is_live_cell w.in-Live.is) c.index.ensures w.swap.ensures.by_index;
         index = λ t. w.move_place.ensures.places t ∙ looked_at_live t w.in-Live.txn_id w.in-Live.work c.index.result.now (places_kept c.loop-place.index.entries t) held below c.index.ensures w.in-Live.is (c.loop-place.invariant.index t);
         keys = w.move_place.ensures.keys ∙ c.loop-place.invariant.keys;
+        spare = w.move_place.ensures.spare ∙ c.loop-place.invariant.spare;
         looks = omega (arith, w.tick.ensures, c.loop-place.invariant.looks);
       })
       | in-Dead w ↦ rw (w.cells-is, w.index-is, w.looks-is, w.kept-is) (record {
         cells = FiltersInPlace-more_no held there (ap is_live_cell w.in-Dead.is) c.index.ensures;
         index = λ t. looked_at_dead t c.index.result.now (places_kept c.loop-place.index.entries t) held below c.index.ensures w.in-Dead.is (c.loop-place.invariant.index t);
         keys = c.loop-place.invariant.keys;
+        spare = c.loop-place.invariant.spare;
         looks = c.loop-place.invariant.looks;
       })
     ]

@@ -1,8 +1,10 @@
-use Rattle.std.proofs.Common.{ap, ◌∙◌}
+use Rattle.std.proofs.Common.{ap, sym, ◌∙◌, ◌++◌, ◌∷◌, []}
 use Rattle.std.specs.Prelude.{nat_eq}
 use Rattle.std.specs.Map.{keys_of}
 use Rattle.std.specs.Cmp.Lexicographic.{pointwise}
-use Rattle.amqp_arrivals.specs.Cells.{Log, is_opened, with_opened}
+use Rattle.amqp_arrivals.specs.Cells.{Log, is_opened}
+use Rattle.amqp_arrivals.specs.Index.{places_in}
+use Rattle.amqp_arrivals.proofs.Frames.{no_frames}
 use Rattle.amqp_arrivals.proofs.Kept.{not_found, kept_opened, keys_inserted}
 use Rattle.amqp_arrivals.proofs.log.ArrivalLog.open_id.Goals as goal
 
@@ -20,5 +22,14 @@ returns-in-Ok-clause-ok c =
     let old = c.self.inside.index.entries in
     let none = not_found old c.args.txn_id (ap (λ log. is_opened log c.args.txn_id) c.self.view_is ∙ c.requires) in
     let keys = ap keys_of c.in-Ok.ensures.entries ∙ keys_inserted (pointwise nat_eq) old c.args.txn_id c.new.result none in
-    ap (λ ks. let log : Log = record { cells = c.self.inside.cells.items; opened = ks } in log) keys
-    ∙ ap (λ log. with_opened log c.args.txn_id) c.self.view_is
+    keys ∙ ap (λ (log : Log). log.opened ++ c.args.txn_id ∷ []) c.self.view_is
+
+pub returns-in-Ok-clause-fresh : goal.returns-in-Ok-clause-fresh
+returns-in-Ok-clause-fresh c =
+    let none = not_found c.self.inside.index.entries c.args.txn_id (ap (λ log. is_opened log c.args.txn_id) c.self.view_is ∙ c.requires) in
+    no_frames 0 c.args.txn_id c.self.inside.cells.items (sym (c.self.invariant.places c.args.txn_id) ∙ ap places_in none)
+
+pub returns-clause-fresh : goal.returns-clause-fresh
+returns-clause-fresh c =
+    let none = not_found c.self.inside.index.entries c.args.txn_id (ap (λ log. is_opened log c.args.txn_id) c.self.view_is ∙ c.requires) in
+    no_frames 0 c.args.txn_id c.self.inside.cells.items (sym (c.self.invariant.places c.args.txn_id) ∙ ap places_in none)
