@@ -1,0 +1,168 @@
+-- The frames that are kept for an id, after the log was changed.
+use Rattle.std.proofs.Common.{◌≡◌, ◌+◌, ℕ, Bool, true, false, cond, Option, Some, None, List, [], ◌∷◌, length, suc, arith, refl, sym, ap, subst, ◌∙◌, add-zero, zero-add}
+use Rattle.std.specs.Prelude.{filter, count_by, is_some, IfSome, slice_get, slice_set, zero}
+use Rattle.std.specs.List.{cons_option}
+use Rattle.std.proofs.lemmas.List.Sums.{length-filter}
+use Rattle.std.proofs.lemmas.List.Filters.{length-filter_both}
+use Rattle.std.specs.Cmp.Lexicographic.{same_text}
+use Rattle.amqp_txn_types.specs.declared.id.TransactionId.{TransactionId}
+use Rattle.amqp_txn_types.specs.declared.frames.TxnWorkFrame.{TxnWorkFrame}
+use Rattle.amqp_txn_types.specs.declared.performatives.Frame.{Frame}
+use Rattle.amqp_txn_types.specs.Ids.{same_id}
+use Rattle.amqp_txn_types.specs.Works.{frame_of_work}
+use Rattle.amqp_arrivals.specs.declared.cell.Cell.{Cell}
+use Rattle.amqp_arrivals.specs.declared.cell.Cell.TheVariants as cells
+use Rattle.amqp_arrivals.specs.Cells.{Log, closed_up, dead_count, frame_under, frames_in, frames_of, is_dead_cell, is_live_cell, live_count, places, places_from, without_work, work_at, work_in}
+use Rattle.amqp_arrivals.proofs.Placed.{dead-taken, work-below}
+use Rattle.amqp_arrivals.proofs.Closing.{live_alone}
+use Rattle.std.proofs.Math.ListN.{length-set}
+
+-- ---- how many
+
+one_of : (b : Bool) (n : ℕ) (f : Frame) (ns : List ℕ) (fs : List Frame) → length ns ≡ length fs → length (cond b (n ∷ ns) ns) ≡ length (cons_option (cond b (Some f) None) fs)
+one_of true n f ns fs e = ap suc e
+one_of false n f ns fs e = e
+
+pub as_many : (n : ℕ) (t : TransactionId) (cs : List Cell) → length (places_from n t cs) ≡ length (frames_in cs t)
+as_many n t [] = refl
+as_many n t (cells.Live u w ∷ cs) = one_of (same_id t u) n (frame_of_work w) (places_from (n + 1) t cs) (frames_in cs t) (as_many (n + 1) t cs)
+as_many n t (cells.Dead ∷ cs) = as_many (n + 1) t cs
+
+empty : {X : Type 0} (xs : List X) → length xs ≡ 0 → xs ≡ []
+empty [] e = refl
+empty (x ∷ xs) e = cc
+
+without_first : (ns : List ℕ) → slice_get ns 0 ≡ None → ns ≡ []
+without_first [] e = refl
+without_first (n ∷ ns) e = cc
+
+-- nothing is kept for an id without places, and one for which nothing is kept has none
+pub no_frames : (n : ℕ) (t : TransactionId) (cs : List Cell) → places_from n t cs ≡ [] → frames_in cs t ≡ []
+no_frames n t cs e = empty (frames_in cs t) (sym (as_many n t cs) ∙ ap length e)
+
+pub no_places : (n : ℕ) (t : TransactionId) (cs : List Cell) → frames_in cs t ≡ [] → places_from n t cs ≡ []
+no_places n t cs e = empty (places_from n t cs) (as_many n t cs ∙ ap length e)
+
+pub none_kept : (n : ℕ) (t : TransactionId) (cs : List Cell) → slice_get (places_from n t cs) 0 ≡ None → frames_in cs t ≡ []
+none_kept n t cs e = no_frames n t cs (without_first (places_from n t cs) e)
+
+-- ---- the first work of an id taken
+
+-- the cell at the first place of an id, and what is kept for the id without it
+pub record FirstCell (t : TransactionId) (n p : ℕ) (cs : List Cell) : Type 0 where
+  pub place : ℕ
+  pub work : TxnWorkFrame
+  pub is : p ≡ n + place
+  pub at : slice_get cs place ≡ Some (cells.Live t work)
+  pub frames : frames_in cs t ≡ frame_of_work work ∷ frames_in (slice_set cs place cells.Dead) t
+
+-- a frame that isn't the id's
+unless_here : (b : Bool) (f : Frame) (fs : List Frame) → b ≡ false → cons_option (cond b (Some f) None) fs ≡ fs
+unless_here true f fs e = cc
+unless_here false f fs e = refl
+
+-- a cell before it, in which nothing of the id stands
+later : (t : TransactionId) (n p : ℕ) (c : Cell) (cs : List Cell) (next : FirstCell t (n + 1) p cs) → ((ds : List Cell) → frames_in (c ∷ ds) t ≡ frames_in ds t) → FirstCell t n p (c ∷ cs)
+later t n p c cs next none =
+    let further : n + 1 + next.place ≡ n + suc next.place = omega arith in
+    record {
+      place = suc next.place;
+      work = next.work;
+      is = next.is ∙ further;
+      at = next.at;
+      frames =
+          none cs ∙ next.frames
+          ∙ ap (λ fs. frame_of_work next.work ∷ fs) (sym (none (slice_set cs next.place cells.Dead)));
+    }
+
+differ : (p : ℕ) → None ≡ Some p → ⊥
+differ p e = cc
+
+pub first_cell : (t : TransactionId) (n p : ℕ) (cs : List Cell) → slice_get (places_from n t cs) 0 ≡ Some p → FirstCell t n p cs
+first_cell t n p [] e = absurd (differ p e)
+first_cell t n p (cells.Dead ∷ cs) e = later t n p cells.Dead cs (first_cell t (n + 1) p cs e) (λ ds. refl)
+first_cell t n p (cells.Live u w ∷ cs) e = by_case (same_id t u) refl e (first_cell t (n + 1) p cs)
+  where
+    by_case : (b : Bool) → same_id t u ≡ b → slice_get (cond b (n ∷ places_from (n + 1) t cs) (places_from (n + 1) t cs)) 0 ≡ Some p → (slice_get (places_from (n + 1) t cs) 0 ≡ Some p → FirstCell t (n + 1) p cs) → FirstCell t n p (cells.Live u w ∷ cs)
+    by_case true h f more =
+        let same : n ≡ p = cc in
+        record {
+          place = 0;
+          work = w;
+          is = sym same ∙ sym (add-zero n);
+          at = ap (λ v. Some (cells.Live v w)) (sym (same_text t u (sym h)));
+          frames = ap (λ b. cons_option (cond b (Some (frame_of_work w)) None) (frames_in cs t)) h;
+        }
+    by_case false h f more = later t n p (cells.Live u w) cs (more f) (λ ds. unless_here (same_id t u) (frame_of_work w) (frames_in ds t) h)
+
+-- ---- the other ids
+
+pub others_stay : (t u : TransactionId) (w : TxnWorkFrame) (i : ℕ) (cs : List Cell) → slice_get cs i ≡ Some (cells.Live u w) → same_id t u ≡ false → frames_in (slice_set cs i cells.Dead) t ≡ frames_in cs t
+others_stay t u w i [] e s = cc
+others_stay t u w zero (c ∷ cs) e s =
+    let is : c ≡ cells.Live u w = cc in
+    sym (ap (λ x. cons_option (frame_under t x) (frames_in cs t)) is ∙ unless_here (same_id t u) (frame_of_work w) (frames_in cs t) s)
+others_stay t u w (suc i) (c ∷ cs) e s = ap (λ fs. cons_option (frame_under t c) fs) (others_stay t u w i cs e s)
+
+-- ---- the dead cells taken out
+
+pub live_stay : (t : TransactionId) (cs : List Cell) → frames_in (filter is_live_cell cs) t ≡ frames_in cs t
+live_stay t [] = refl
+live_stay t (cells.Live u w ∷ cs) = ap (λ fs. cons_option (frame_under t (cells.Live u w)) fs) (live_stay t cs)
+live_stay t (cells.Dead ∷ cs) = live_stay t cs
+
+-- ---- live and dead
+
+pub live_and_dead : (cs : List Cell) → count_by is_live_cell cs + count_by is_dead_cell cs ≡ length cs
+live_and_dead cs =
+    ap (λ n. n + count_by is_dead_cell cs) (sym (length-filter is_live_cell cs))
+    ∙ ap (λ n. length (filter is_live_cell cs) + n) (sym (length-filter is_dead_cell cs))
+    ∙ length-filter_both is_live_cell is_dead_cell (λ x. refl) cs
+
+-- ---- the log once the first work of an id was taken
+
+pub record TookFirst (t : TransactionId) (old : Log) (p : ℕ) : Type 0 where
+  pub work : TxnWorkFrame
+  pub at : slice_get old.cells p ≡ Some (cells.Live t work)
+  pub frames : frames_of old t ≡ frame_of_work work ∷ frames_of (without_work old p) t
+
+pub took_first : (t : TransactionId) (old : Log) (p : ℕ) → slice_get (places old t) 0 ≡ Some p → TookFirst t old p
+took_first t old p e =
+    let first = first_cell t 0 p old.cells e in
+    let same : first.place ≡ p = sym (first.is ∙ zero-add first.place) in
+    record {
+      work = first.work;
+      at = subst (λ i. slice_get old.cells i ≡ Some (cells.Live t first.work)) same first.at;
+      frames = subst (λ i. frames_in old.cells t ≡ frame_of_work first.work ∷ frames_in (slice_set old.cells i cells.Dead) t) same first.frames;
+    }
+
+pub first_is_live : (t : TransactionId) (log : Log) (o : Option ℕ) → o ≡ slice_get (places log t) 0 → IfSome o (λ p. is_some (work_at log.cells p) ≡ true)
+first_is_live t log None e = tt
+first_is_live t log (Some p) e = ap (λ o. is_some (work_in o)) (took_first t log p (sym e)).at
+
+pub others-taken : (t u : TransactionId) (old : Log) (p : ℕ) → slice_get (places old t) 0 ≡ Some p → same_id u t ≡ false → frames_of (without_work old p) u ≡ frames_of old u
+others-taken t u old p e s =
+    let first = took_first t old p e in
+    others_stay u t first.work p old.cells first.at s
+
+pub dead-first : (t : TransactionId) (old : Log) (p : ℕ) → slice_get (places old t) 0 ≡ Some p → dead_count (without_work old p) ≡ dead_count old + 1
+dead-first t old p e =
+    let first = took_first t old p e in
+    dead-taken p t first.work old.cells (work-below old.cells p (ap (λ o. is_some (work_in o)) first.at)) first.at
+
+pub live-first : (t : TransactionId) (old : Log) (p : ℕ) → slice_get (places old t) 0 ≡ Some p → live_count (without_work old p) + 1 ≡ live_count old
+live-first t old p e =
+    let dead = dead-first t old p e in
+    let before = live_and_dead old.cells in
+    let after = live_and_dead (slice_set old.cells p cells.Dead) in
+    let long = length-set old.cells p cells.Dead in
+    omega arith
+
+-- ---- the log closed up
+
+pub live-closed : (old : Log) → live_count (closed_up old) ≡ live_count old
+live-closed old =
+    let none = live_alone old.cells in
+    let all = live_and_dead (filter is_live_cell old.cells) in
+    let long = length-filter is_live_cell old.cells in
+    omega arith

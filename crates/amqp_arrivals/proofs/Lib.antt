@@ -1,0 +1,5 @@
+pub mod Places
+pub mod Kept
+pub mod Placed
+pub mod Closing
+pub mod Frames

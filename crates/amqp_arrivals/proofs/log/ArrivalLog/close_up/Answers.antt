@@ -1,0 +1,13 @@
+use Rattle.std.proofs.Common.{ap, sym, ◌∙◌}
+use Rattle.std.specs.Prelude.{count_by}
+use Rattle.amqp_arrivals.specs.Cells.{is_dead_cell, places_from}
+use Rattle.amqp_arrivals.proofs.Closing.{live_alone}
+use Rattle.amqp_arrivals.proofs.log.ArrivalLog.close_up.Goals as goal
+
+pub invariant_of-self : goal.invariant_of-self
+invariant_of-self g c =
+    let left = c.truncate.ensures.items ∙ c.move_live-live.ensures.cells in
+    record {
+      places = λ t. c.move_live-live.ensures.index t ∙ ap (λ cs. places_from 0 t cs) (sym left);
+      gone = live_alone c.self.inside.cells.items ∙ ap (λ cs. count_by is_dead_cell cs) (sym left);
+    }

@@ -1,0 +1,12 @@
+use Rattle.std.proofs.Common.{ap, ◌∙◌, length}
+use Rattle.amqp_arrivals.specs.Cells.{Log, frames_of}
+use Rattle.amqp_arrivals.proofs.Frames.{as_many}
+use Rattle.amqp_arrivals.proofs.log.ArrivalLog.count.Goals as goal
+
+pub returns : goal.returns
+returns c =
+    let id = c.args.txn_id.now in
+    c.place_count.ensures
+    ∙ ap length (c.self.invariant.places id)
+    ∙ as_many 0 id c.self.inside.cells.items
+    ∙ ap (λ (log : Log). length (frames_of log id)) c.self.view_is

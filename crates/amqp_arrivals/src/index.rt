@@ -1,0 +1,110 @@
+//! The index of the log: the places of the live cells of each opened id.
+
+ghost use Rattle.std.specs.Prelude.{◌≡◌, ◌==◌, ◌++◌, ◌∷◌, [], cond, true, OnOk, OnErr, length, position, slice_get, is_some};
+ghost use Rattle.std.specs.Map.{lookup};
+ghost use Rattle.std.specs.HashMap.{keys, spare};
+ghost use Rattle.amqp_txn_types.specs.declared.id.TransactionId.{TransactionId as Id};
+ghost use Rattle.amqp_txn_types.specs.Ids.{same_id};
+ghost use Rattle.amqp_arrivals.specs.Index.{moved_to, places_kept, without_place};
+
+use amqp_txn_types::{NoMemory, TransactionId};
+use indexmap::IndexMap;
+use std::collections::VecDeque;
+
+/// The opened ids, each with the places of its live cells, rising.
+pub type Index = IndexMap<TransactionId, VecDeque<usize>>;
+
+/// The first place of an id.
+pub fn first_place(index: &Index, id: TransactionId) -> Option<usize>
+    ensures { result ≡ slice_get (places_kept index.now.entries id) 0 }
+{
+    index.get(&id)?.front().copied()
+}
+
+/// How many places an id has.
+pub fn place_count(index: &Index, id: TransactionId) -> usize
+    ensures { result ≡ length (places_kept index.now.entries id) }
+{
+    match index.get(&id) {
+        Some(places) => places.len(),
+        None => 0,
+    }
+}
+
+/// Adds a place to those of an opened id. For want of memory all places stay as they were.
+pub fn add_place(index: &mut Index, id: TransactionId, place: usize) -> Result<(), NoMemory>
+    requires { is_some (lookup (same_id id) index.old.entries) ≡ true }
+    ensures ok { OnOk result ((t : Id) → places_kept index.new.entries t ≡ cond (same_id t id)
+        (places_kept index.old.entries t ++ place ∷ []) (places_kept index.old.entries t)) }
+    ensures err { OnErr result ((t : Id) → places_kept index.new.entries t
+        ≡ places_kept index.old.entries t) }
+    ensures keys { keys index.new ≡ keys index.old }
+    ensures spare { spare index.new ≡ spare index.old }
+{
+    let Some(places) = index.get_mut(&id) else {
+        unreachable!()
+    };
+    match places.push_back(place) {
+        Ok(()) => Ok(()),
+        Err(_) => Err(NoMemory),
+    }
+}
+
+/// Where a place stands among some.
+fn place_of(places: &VecDeque<usize>, place: usize) -> Option<usize>
+    ensures { result ≡ position (λ n. n == place) places.now.items }
+{
+    places.iter().position(|n| *n == place)
+}
+
+/// Takes a place out of some.
+fn drop_from(places: &mut VecDeque<usize>, place: usize)
+    ensures { places.new.items ≡ without_place place places.old.items }
+{
+    if let Some(first) = places.front() {
+        if *first == place {
+            let _first = places.pop_front();
+            return;
+        }
+    }
+    if let Some(at) = place_of(places, place) {
+        let _place = places.remove(at);
+    }
+}
+
+/// Takes a place out of those of an id.
+pub fn drop_place(index: &mut Index, id: TransactionId, place: usize)
+    ensures places { (t : Id) → places_kept index.new.entries t ≡ cond (same_id t id)
+        (without_place place (places_kept index.old.entries t))
+        (places_kept index.old.entries t) }
+    ensures keys { keys index.new ≡ keys index.old }
+    ensures spare { spare index.new ≡ spare index.old }
+{
+    if let Some(places) = index.get_mut(&id) {
+        drop_from(places, place);
+    }
+}
+
+/// Takes out the first of some places, and adds another after the rest.
+fn move_in(places: &mut VecDeque<usize>, to: usize)
+    ensures { places.new.items ≡ moved_to to places.old.items }
+{
+    if places.pop_front().is_some() {
+        let Ok(()) = places.push_back(to) else {
+            unreachable!()
+        };
+    }
+}
+
+/// Takes out the first place of an id, and adds another after the rest.
+pub fn move_place(index: &mut Index, id: TransactionId, to: usize)
+    ensures places { (t : Id) → places_kept index.new.entries t ≡ cond (same_id t id)
+        (moved_to to (places_kept index.old.entries t))
+        (places_kept index.old.entries t) }
+    ensures keys { keys index.new ≡ keys index.old }
+    ensures spare { spare index.new ≡ spare index.old }
+{
+    if let Some(places) = index.get_mut(&id) {
+        move_in(places, to);
+    }
+}

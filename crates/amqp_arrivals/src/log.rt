@@ -1,0 +1,249 @@
+//! The log of the work under live transactions.
+
+ghost use Rattle.std.specs.Prelude.{◌≡◌, ◌≤◌, ◌<◌, ◌+◌, ◌++◌, ◌∷◌, [], Some, None, cond, true, false, is_some, length, slice_get, take, filter, count_by, IfErr, IfSome, IsOk, OnSome, MatchOption, OnOk, OnErr};
+ghost use Rattle.std.specs.HashMap.{keys, spare};
+ghost use Rattle.amqp_txn_types.specs.declared.id.TransactionId.{TransactionId as Id};
+ghost use Rattle.amqp_txn_types.specs.Ids.{same_id};
+ghost use Rattle.amqp_arrivals.specs.Cells.{SameLog, OthersStay, after_taken, closed_up, dead_count, frames_of, is_live_cell, is_opened, live_count, places, places_from, settled, with_arrival, without_work, work_at};
+ghost use Rattle.amqp_arrivals.specs.Index.{places_kept};
+
+use crate::cell::Cell;
+use crate::index::{Index, add_place, drop_place, first_place, move_place, place_count};
+use crate::looks::Looks;
+use amqp_txn_types::{NoMemory, TransactionId, TxnWorkFrame};
+use indexmap::IndexMap;
+use std::alloc::Global;
+use std::collections::VecDeque;
+use std::marker::Model;
+use std::mem::replace;
+use std::sync::ledger::Ledger;
+
+/// Moves the live cells to the front, in their order, and their places with them: one look at each.
+/// Their number is answered.
+fn move_live<L: Ledger>(cells: &mut Vec<Cell>, index: &mut Index, looks: &mut Looks<L>) -> usize
+    requires { (t : Id) → places_kept index.old.entries t ≡ places_from 0 t cells.old.items }
+    ensures cells { take result cells.new.items ≡ filter is_live_cell cells.old.items }
+    ensures index { (t : Id) → places_kept index.new.entries t
+        ≡ places_from 0 t (filter is_live_cell cells.old.items) }
+    ensures keys { keys index.new ≡ keys index.old }
+    ensures spare { spare index.new ≡ spare index.old }
+    ensures looks { looks.new ≡ looks.old + count_by is_live_cell cells.old.items }
+{
+    let mut kept = 0;
+    for place in 0..cells.len() {
+        match &cells[place] {
+            Cell::Live { txn_id, .. } => {
+                looks.tick();
+                move_place(index, *txn_id, kept);
+                cells.swap(kept, place);
+                kept += 1;
+            }
+            Cell::Dead => {}
+        }
+    }
+    kept
+}
+
+/// The work under live transactions, in the order in which it came, and for each opened id where
+/// its work stands.
+#[derive(Drop)]
+pub struct ArrivalLog {
+    cells: Vec<Cell>,
+    index: Index,
+    dead: usize,
+    alloc: Global,
+}
+
+impl Model for ArrivalLog {
+    ghost use Rattle.std.specs.HashMap.{keys, spare};
+    ghost use Rattle.amqp_arrivals.specs.Cells.{Log};
+    ghost use Rattle.amqp_arrivals.specs.Index.{Indexed};
+
+    ghost Value = { Log };
+
+    ghost view = { λ log. record {
+      cells = log.cells.items;
+      opened = keys log.index;
+      room = spare log.index;
+    } };
+
+    ghost invariant = { λ log. Indexed log.cells.items log.index.entries log.dead };
+}
+
+impl ArrivalLog {
+    /// A log without cells, of which no id is opened. It takes no memory; later growth takes it
+    /// from `alloc`.
+    pub fn new(alloc: Global) -> Self
+        ensures cells { result.cells ≡ [] }
+        ensures opened { result.opened ≡ [] }
+    {
+        ArrivalLog {
+            cells: Vec::new(alloc),
+            index: IndexMap::new(alloc),
+            dead: 0,
+            alloc,
+        }
+    }
+
+    /// How many cells are dead.
+    pub fn dead(&self) -> usize
+        ensures { result ≡ dead_count self.now }
+    {
+        self.dead
+    }
+
+    /// How many cells are live.
+    pub fn live(&self) -> usize
+        ensures { result ≡ live_count self.now }
+    {
+        self.cells.len() - self.dead
+    }
+
+    /// Whether the id is opened.
+    pub fn is_opened(&self, txn_id: &TransactionId) -> bool
+        ensures { result ≡ is_opened self.now txn_id.now }
+    {
+        self.index.contains_key(txn_id)
+    }
+
+    /// The place of the id's first live cell; `None` where it has none.
+    pub fn first(&self, txn_id: &TransactionId) -> Option<usize>
+        ensures first { result ≡ slice_get (places self.now txn_id.now) 0 }
+        ensures live { IfSome result (λ place. is_some (work_at self.now.cells place) ≡ true) }
+    {
+        first_place(&self.index, *txn_id)
+    }
+
+    /// How many cells are live with the id: so many frames are kept for it.
+    pub fn count(&self, txn_id: &TransactionId) -> usize
+        ensures { result ≡ length (frames_of self.now txn_id.now) }
+    {
+        place_count(&self.index, *txn_id)
+    }
+
+    /// Makes room for one more opened id. The only error is want of memory.
+    pub fn make_room(&mut self) -> Result<(), NoMemory>
+        ensures same { SameLog self.old self.new }
+        ensures room { OnOk result (0 < self.new.room) }
+    {
+        match self.index.reserve(1) {
+            Ok(()) => Ok(()),
+            Err(_) => Err(NoMemory),
+        }
+    }
+
+    /// Opens an id, for which there may be room. For want of memory, the only error, nothing
+    /// changes.
+    pub fn open_id(&mut self, txn_id: TransactionId) -> Result<(), NoMemory>
+        requires { is_opened self.old txn_id ≡ false }
+        ensures fresh { frames_of self.new txn_id ≡ [] }
+        ensures cells { self.new.cells ≡ self.old.cells }
+        ensures ok { OnOk result (self.new.opened ≡ self.old.opened ++ txn_id ∷ []) }
+        ensures err { OnErr result (self.new.opened ≡ self.old.opened) }
+        ensures succeeds { 0 < self.old.room → IsOk result }
+    {
+        match self.index.insert(txn_id, VecDeque::new(self.alloc)) {
+            Ok(_) => Ok(()),
+            Err(_) => Err(NoMemory),
+        }
+    }
+
+    /// Ends an opened id that has no live cell. It takes no memory.
+    pub fn end(&mut self, txn_id: &TransactionId)
+        requires opened { is_opened self.old txn_id.now ≡ true }
+        requires empty { frames_of self.old txn_id.now ≡ [] }
+        ensures cells { self.new.cells ≡ self.old.cells }
+        ensures opened { (t : Id) → is_opened self.new t ≡ cond (same_id txn_id.now t) false
+            (is_opened self.old t) }
+    {
+        let _places = self.index.swap_remove(txn_id);
+    }
+
+    /// Adds work under an opened id, as the last of the log. For want of memory, the only error,
+    /// nothing changes and the work comes back.
+    pub fn append(
+        &mut self,
+        txn_id: &TransactionId,
+        work: TxnWorkFrame,
+    ) -> Result<(), (TxnWorkFrame, NoMemory)>
+        requires { is_opened self.old txn_id.now ≡ true }
+        ensures ok { OnOk result (self.new ≡ with_arrival self.old txn_id.now work) }
+        ensures err { IfErr result (λ unkept. (unkept.0 ≡ work) × (self.new ≡ self.old)) }
+    {
+        let Ok(()) = self.cells.reserve(1) else {
+            return Err((work, NoMemory));
+        };
+        let Ok(()) = add_place(&mut self.index, *txn_id, self.cells.len()) else {
+            return Err((work, NoMemory));
+        };
+        self.cells.push_reserved(Cell::Live {
+            txn_id: *txn_id,
+            work,
+        });
+        Ok(())
+    }
+
+    /// Takes the work of a live cell out, which is dead then: one look. It takes no memory.
+    pub fn take<L: Ledger>(&mut self, place: usize, looks: &mut Looks<L>) -> TxnWorkFrame
+        requires { is_some (work_at self.old.cells place) ≡ true }
+        ensures work { Some result ≡ work_at self.old.cells place }
+        ensures log { self.new ≡ without_work self.old place }
+        ensures looks { looks.new ≡ looks.old + 1 }
+    {
+        looks.tick();
+        let Cell::Live { txn_id, work } = replace(&mut self.cells[place], Cell::Dead) else {
+            unreachable!()
+        };
+        drop_place(&mut self.index, txn_id, place);
+        self.dead += 1;
+        work
+    }
+
+    /// Takes the first work of an id out: one look. `None` where nothing is kept for it, and then
+    /// nothing changes. It takes no memory.
+    pub fn take_first<L: Ledger>(
+        &mut self,
+        txn_id: &TransactionId,
+        looks: &mut Looks<L>,
+    ) -> Option<TxnWorkFrame>
+        ensures taken { frames_of self.old txn_id.now
+            ≡ after_taken result (frames_of self.new txn_id.now) }
+        ensures none { MatchOption result
+            ((frames_of self.old txn_id.now ≡ []) × (self.new ≡ self.old) × (looks.new ≡ looks.old))
+            (λ _. looks.new ≡ looks.old + 1) }
+        ensures others { OthersStay txn_id.now self.old self.new }
+        ensures dead { OnSome result (dead_count self.new ≡ dead_count self.old + 1) }
+        ensures live { OnSome result (live_count self.new + 1 ≡ live_count self.old) }
+    {
+        match self.first(txn_id) {
+            Some(place) => Some(self.take(place, looks)),
+            None => None,
+        }
+    }
+
+    /// Leaves the live cells, in their order, and none that is dead: one look at each. It takes no
+    /// memory.
+    pub fn close_up<L: Ledger>(&mut self, looks: &mut Looks<L>)
+        ensures log { self.new ≡ closed_up self.old }
+        ensures looks { looks.new ≡ looks.old + live_count self.old }
+    {
+        let live = move_live(&mut self.cells, &mut self.index, looks);
+        self.cells.truncate(live);
+        self.dead = 0;
+    }
+
+    /// Closes the log up where more cells are dead than live. It takes no memory.
+    pub fn settle<L: Ledger>(&mut self, looks: &mut Looks<L>)
+        ensures log { self.new ≡ settled self.old }
+        ensures frames { (t : Id) → frames_of self.new t ≡ frames_of self.old t }
+        ensures opened { self.new.opened ≡ self.old.opened }
+        ensures room { self.new.room ≡ self.old.room }
+        ensures live { live_count self.new ≡ live_count self.old }
+        ensures few { dead_count self.new ≤ live_count self.new }
+        ensures looks { looks.new + dead_count self.new ≤ looks.old + dead_count self.old }
+    {
+        if self.live() < self.dead() {
+            self.close_up(looks);
+        }
+    }
+}

@@ -1,0 +1,182 @@
+//! What no clause says: that the calls succeed where there is memory; and the clauses, seen on small
+//! logs.
+
+ghost use Rattle.std.specs.Prelude.{◌≡◌, ◌<◌};
+
+use amqp_arrivals::{ArrivalLog, Looks};
+use amqp_txn_types::{Disposition, Role, TransactionId, TxnWorkFrame};
+use std::marker::Brand;
+use std::process::Abort;
+use std::sync::ledger::{Blank, Ledger};
+use std::test::Fail;
+
+fn id(octet: u8) -> TransactionId {
+    TransactionId::from([octet; 16])
+}
+
+fn work(number: u32) -> TxnWorkFrame {
+    TxnWorkFrame::Retire(Disposition {
+        role: Role::Receiver,
+        first: number,
+        last: None,
+        settled: true,
+        state: None,
+        batchable: false,
+    })
+}
+
+fn number_of(work: Option<TxnWorkFrame>) -> Option<u32> {
+    match work {
+        Some(TxnWorkFrame::Retire(disposition)) => Some(disposition.first),
+        _ => None,
+    }
+}
+
+fn open<R: Abort>(rt: &R, log: &mut ArrivalLog, octet: u8) -> Result<(), Fail> {
+    let txn_id = id(octet);
+    log.make_room()?;
+    assert!(rt; !log.is_opened(&txn_id));
+    log.open_id(txn_id)?;
+    assert!(rt; log.is_opened(&txn_id));
+    Ok(())
+}
+
+fn keep<R: Abort>(rt: &R, log: &mut ArrivalLog, octet: u8, number: u32) -> Result<(), Fail> {
+    let txn_id = id(octet);
+    assert!(rt; log.is_opened(&txn_id));
+    match log.append(&txn_id, work(number)) {
+        Ok(()) => Ok(()),
+        Err(unkept) => Err(Fail::from(unkept.1)),
+    }
+}
+
+/// Works 1 to 5, the odd ones under the id 1 and the even ones under the id 2.
+fn two_ids<R: Abort>(rt: &R, log: &mut ArrivalLog) -> Result<(), Fail> {
+    open(rt, log, 1)?;
+    open(rt, log, 2)?;
+    keep(rt, log, 1, 1)?;
+    keep(rt, log, 2, 2)?;
+    keep(rt, log, 1, 3)?;
+    keep(rt, log, 2, 4)?;
+    keep(rt, log, 1, 5)?;
+    Ok(())
+}
+
+#[test]
+fn new_log_keeps_nothing(rt: HostRuntime) {
+    let log = ArrivalLog::new(rt.alloc());
+    assert_eq!(rt; log.dead(), 0);
+    assert_eq!(rt; log.live(), 0);
+    assert_eq!(rt; log.first(&id(1)), None);
+    assert!(rt; !log.is_opened(&id(1)));
+}
+
+#[test]
+fn ids_interleave(rt: HostRuntime) -> Result<(), Fail> {
+    let mut log = ArrivalLog::new(rt.alloc());
+    two_ids(&rt, &mut log)?;
+    assert_eq!(rt; log.live(), 5);
+    assert_eq!(rt; log.count(&id(1)), 3);
+    assert_eq!(rt; log.count(&id(2)), 2);
+    assert_eq!(rt; log.first(&id(1)), Some(0));
+    assert_eq!(rt; log.first(&id(2)), Some(1));
+    Ok(())
+}
+
+fn takes<L: Ledger, R: Abort>(rt: &R, log: &mut ArrivalLog, blank: Blank)
+    requires name { blank.name ≡ L.name }
+    requires parts { blank.parts ≡ L.parts }
+    requires some { 0 < blank.parts }
+{
+    let mut looks = Looks::<L>::new(blank);
+    assert_eq!(rt; number_of(log.take_first(&id(2), &mut looks)), Some(2));
+    assert_eq!(rt; log.first(&id(2)), Some(3));
+    if let Some(place) = log.first(&id(1)) {
+        assert_eq!(rt; number_of(Some(log.take(place, &mut looks))), Some(1));
+    }
+    assert_eq!(rt; log.dead(), 2);
+    assert_eq!(rt; log.first(&id(1)), Some(2));
+}
+
+#[test]
+fn work_is_taken_in_order(rt: HostRuntime) -> Result<(), Fail> {
+    let mut log = ArrivalLog::new(rt.alloc());
+    two_ids(&rt, &mut log)?;
+    takes::<Brand, HostRuntime>(&rt, &mut log, Blank::new(1));
+    Ok(())
+}
+
+fn closes_up<L: Ledger, R: Abort>(rt: &R, log: &mut ArrivalLog, blank: Blank)
+    requires name { blank.name ≡ L.name }
+    requires parts { blank.parts ≡ L.parts }
+    requires some { 0 < blank.parts }
+{
+    let mut looks = Looks::<L>::new(blank);
+    assert_eq!(rt; number_of(log.take_first(&id(1), &mut looks)), Some(1));
+    log.close_up(&mut looks);
+    assert_eq!(rt; log.dead(), 0);
+    assert_eq!(rt; log.first(&id(2)), Some(0));
+    assert_eq!(rt; log.first(&id(1)), Some(1));
+    assert_eq!(rt; number_of(log.take_first(&id(2), &mut looks)), Some(2));
+    assert_eq!(rt; number_of(log.take_first(&id(2), &mut looks)), Some(4));
+    assert_eq!(rt; number_of(log.take_first(&id(2), &mut looks)), None);
+}
+
+#[test]
+fn closed_up_log_keeps_its_order(rt: HostRuntime) -> Result<(), Fail> {
+    let mut log = ArrivalLog::new(rt.alloc());
+    two_ids(&rt, &mut log)?;
+    closes_up::<Brand, HostRuntime>(&rt, &mut log, Blank::new(1));
+    Ok(())
+}
+
+fn settles<L: Ledger, R: Abort>(rt: &R, log: &mut ArrivalLog, blank: Blank)
+    requires name { blank.name ≡ L.name }
+    requires parts { blank.parts ≡ L.parts }
+    requires some { 0 < blank.parts }
+{
+    let mut looks = Looks::<L>::new(blank);
+    let _one = log.take_first(&id(1), &mut looks);
+    let _three = log.take_first(&id(1), &mut looks);
+    log.settle(&mut looks);
+    assert_eq!(rt; log.dead(), 2);
+    let _five = log.take_first(&id(1), &mut looks);
+    log.settle(&mut looks);
+    assert_eq!(rt; log.dead(), 0);
+    assert_eq!(rt; log.live(), 2);
+}
+
+fn ends<L: Ledger, R: Abort>(rt: &R, log: &mut ArrivalLog, blank: Blank)
+    requires name { blank.name ≡ L.name }
+    requires parts { blank.parts ≡ L.parts }
+    requires some { 0 < blank.parts }
+{
+    let txn_id = id(2);
+    let mut looks = Looks::<L>::new(blank);
+    let _two = log.take_first(&txn_id, &mut looks);
+    let _four = log.take_first(&txn_id, &mut looks);
+    assert!(rt; log.is_opened(&txn_id));
+    if let None = log.take_first(&txn_id, &mut looks) {
+        assert!(rt; log.is_opened(&txn_id));
+        log.end(&txn_id);
+    }
+    assert!(rt; !log.is_opened(&txn_id));
+    assert!(rt; log.is_opened(&id(1)));
+    assert_eq!(rt; log.live(), 3);
+}
+
+#[test]
+fn ended_id_is_opened_no_more(rt: HostRuntime) -> Result<(), Fail> {
+    let mut log = ArrivalLog::new(rt.alloc());
+    two_ids(&rt, &mut log)?;
+    ends::<Brand, HostRuntime>(&rt, &mut log, Blank::new(1));
+    Ok(())
+}
+
+#[test]
+fn log_is_closed_up_once_more_is_dead_than_live(rt: HostRuntime) -> Result<(), Fail> {
+    let mut log = ArrivalLog::new(rt.alloc());
+    two_ids(&rt, &mut log)?;
+    settles::<Brand, HostRuntime>(&rt, &mut log, Blank::new(1));
+    Ok(())
+}
