@@ -1,6 +1,6 @@
 -- How a run ends during which the layer below counted no refusal.
 use Rattle.std.proofs.Common.{◌≡◌, ℕ, zero, suc, ◌+◌, ◌-◌, ◌≤◌, ◌^◌, ◌⊎◌, inl, inr, Bool, true, false, cond, Option, Some, None, List, [], ◌∷◌, ◌++◌, refl, sym, ◌∙◌, ap, subst, arith}
-use Rattle.std.specs.Prelude.{min, IsSome, MatchBool}
+use Rattle.std.specs.Prelude.{min, IfSome, IsSome, MatchBool}
 use Rattle.amqp_txn_types.specs.declared.id.TransactionId.{TransactionId}
 use Rattle.amqp_layer.specs.declared.inner_error.SessionInnerError.{SessionInnerError}
 use Rattle.amqp_layer.specs.declared.inner_error.SessionInnerError.TheVariants as faults
@@ -16,9 +16,11 @@ use Rattle.amqp_record.specs.Legal.{IsLegal}
 use Rattle.amqp_record.specs.Opened.{attach_refused_count}
 use Rattle.amqp_ids.specs.Counted.{ids_from}
 use Rattle.txn_program.specs.Made.{made}
-use Rattle.amqp_resource.specs.Drive.{NextStep, RunRose, StopCause, is_refusal}
+use Rattle.amqp_layer.specs.Told.{Told}
+use Rattle.amqp_resource.specs.Drive.{Left, NextStep, RunRose, StopCause, is_refusal}
 use Rattle.amqp_resource.specs.Steps.{UnderDead, ended_by, is_unknown}
-use Rattle.txn_program.specs.Running.{stop_status}
+use Rattle.txn_program.specs.Running.{IsRun, stop_status}
+use Rattle.txn_program.specs.Writing.{EndsWith}
 use Rattle.txn_program.specs.Completing.{EveryStep, MadeEnds, NoneRose, RunEnds, Stopped, StopsRun}
 use Rattle.txn_program.proofs.MadeRuns.{made_goes_on}
 
@@ -41,6 +43,14 @@ pub none_refused : (before now : ℕ) (r : List Entry) (stop : Stop) → RunRose
 unfolding unit
 none_refused before now r stop rose quiet = no_more before now (attach_refused_count r) (is_refusal stop) rose quiet
 
+-- without a fault of the sink, the status is 6 or that of the table
+pub without_fault : (before after wanted status : ℕ)
+    → EndsWith before after wanted status → NoneRose before after
+    → (status ≡ 6) ⊎ (status ≡ wanted)
+without_fault before after wanted status (inl is) quiet = inl is
+without_fault before after wanted status (inr (inl fault)) quiet = absurd (quiet fault.1)
+without_fault before after wanted status (inr (inr is)) quiet = inr is
+
 -- ---- a run of any steps
 
 is_some : {A : Type 0} (o : Option A) (x : A) → o ≡ Some x → IsSome o
@@ -57,30 +67,33 @@ run-ends all driven status (stops.Fault _) at calm cause (inr is) = cc calm
 run-ends all driven status (stops.Ended reason) at calm cause (inr is) = inr (inr (is, (cause.0, cause.1, cause.2, inr (is_some (ended_by cause.0) reason cause.3))))
 run-ends all driven status stops.NoMemory at calm cause (inr is) = inl is
 
--- ---- a made run
-
--- a stop that is no refusal is none of those that a step makes
-made-ends : (count : ℕ) (r : List Entry) (status : ℕ) (stop : Stop) → count ≤ 20000 → IsLegal r → AreNext (ids_from 1) 0 (drawn_of r) → attach_refused_count r ≡ 0
-    → is_refusal stop ≡ false → StopCause (made count) r stop → (status ≡ 6) ⊎ (status ≡ stop_status stop) → MadeEnds status
-made-ends count r status stop few legal drawn none calm cause (inl is) = inl is
-made-ends count r status stops.Done few legal drawn none calm cause (inr is) = inr is
-made-ends count r status (stops.Fault faults.UnknownTxnId) few legal drawn none calm cause (inr is) =
-    absurd ((made_goes_on count few r legal drawn none cause.0 cause.1 cause.2).0 cause.3)
-made-ends count r status (stops.Fault _) few legal drawn none calm cause (inr is) = cc calm
-made-ends count r status (stops.Ended reason) few legal drawn none calm cause (inr is) =
-    let goes = (made_goes_on count few r legal drawn none cause.0 cause.1 cause.2).1 in
-    let ends = cause.3 in cc (goes, ends)
-made-ends count r status stops.NoMemory few legal drawn none calm cause (inr is) = inl is
-
 -- during which nothing was refused
 pub quiet_run-ends : (all : List Step) (driven : Driven) (status before now : ℕ) → RunRose before now driven.entries driven.stop → NoneRose before now
     → StopCause all driven.entries driven.stop → (status ≡ 6) ⊎ (status ≡ stop_status driven.stop) → RunEnds all (Some driven) status
 quiet_run-ends all driven status before now rose quiet cause says =
     run-ends all driven status driven.stop refl (none_refused before now driven.entries driven.stop rose quiet).1 cause says
 
-pub quiet_made-ends : (count : ℕ) (driven : Driven) (status before now : ℕ) → count ≤ 20000 → IsLegal driven.entries → AreNext (ids_from 1) 0 (drawn_of driven.entries)
-    → RunRose before now driven.entries driven.stop → NoneRose before now
-    → StopCause (made count) driven.entries driven.stop → (status ≡ 6) ⊎ (status ≡ stop_status driven.stop) → MadeEnds status
-quiet_made-ends count driven status before now few legal drawn rose quiet cause says =
+-- ---- a made run
+
+not_none : {A : Type 0} (o : Option A) → o ≡ None → IsSome o → ⊥
+not_none None is some = cc some
+not_none (Some x) is some = cc is
+
+-- none of its steps is an end or a frame under an id that isn't live
+never_stops : (count : ℕ) (r : List Entry) → count ≤ 20000 → IsLegal r → AreNext (ids_from 1) 0 (drawn_of r)
+    → attach_refused_count r ≡ 0 → (s : Step) (rest : List Step) → Left (made count) r (s ∷ rest) → StopsRun r s → ⊥
+never_stops count r few legal drawn none s rest left (inl dead) = (made_goes_on count few r legal drawn none s rest left).0 dead
+never_stops count r few legal drawn none s rest left (inr ends) =
+    not_none (ended_by s) (made_goes_on count few r legal drawn none s rest left).1 ends
+
+-- so where nothing was refused, it goes to its end
+pub made_run-ends : (count : ℕ) (o : Option Driven) (told : Told) (before now status : ℕ) → count ≤ 20000
+    → IfSome o (λ driven. IsRun (ids_from 1) (made count) told driven)
+    → IfSome o (λ driven. RunRose before now driven.entries driven.stop)
+    → NoneRose before now → RunEnds (made count) o status → MadeEnds status
+made_run-ends count None told before now status few run rose quiet ends = inl ends
+made_run-ends count (Some driven) told before now status few run rose quiet (inl is) = inl is
+made_run-ends count (Some driven) told before now status few run rose quiet (inr (inl every)) = inr every.0
+made_run-ends count (Some driven) told before now status few run rose quiet (inr (inr stopped)) =
     let none = none_refused before now driven.entries driven.stop rose quiet in
-    made-ends count driven.entries status driven.stop few legal drawn none.0 none.1 cause says
+    absurd (never_stops count driven.entries few run.legal run.drawn none.0 stopped.1.0 stopped.1.1 stopped.1.2 stopped.1.3)

@@ -1,12 +1,9 @@
-pub mod Names
-pub mod Numbers
-pub mod Pieces
 pub mod Putting
-pub mod Spelling
 pub mod WordLemmas
 pub mod Makes
 pub mod Midway
 pub mod MadeRuns
 pub mod Endings
 pub mod Runs
+pub mod Serving
 pub mod Streaming

@@ -38,19 +38,3 @@ is_run f ids steps told driven taken opened refused same none_taken none_opened 
       opened = subst O none_opened opens_too;
       refused = subst R none_refused refused_too;
     }
-
--- a run of these steps with these ids, under other names of both
-pub is_run-as : (f ids : ℕ → TransactionId) (steps these : List Step) (told : Told) (driven : Driven) → ((n : ℕ) → f n ≡ ids n) → steps ≡ these → IsRun f steps told driven → IsRun ids these told driven
-is_run-as f ids steps these told driven same is run =
-    let renamed : IsRun ids steps told driven = record {
-      legal = run.legal;
-      drawn = AreNext-along f ids 0 (drawn_of driven.entries) same run.drawn;
-      at = run.at;
-      front = run.front;
-      done = run.done;
-      cause = run.cause;
-      taken = run.taken;
-      opened = run.opened;
-      refused = run.refused;
-    } in
-    subst (λ (s : List Step). IsRun ids s told driven) is renamed

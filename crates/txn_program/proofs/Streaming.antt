@@ -4,9 +4,8 @@ use Rattle.std.proofs.lemmas.Bool.{eqb-true}
 use Rattle.std.proofs.lemmas.List.{drop-drop, drop_at, length-drop, take_rest}
 use Rattle.std.proofs.Math.Seq.{take-add, take-length}
 use Rattle.amqp_txn_types.specs.Growing.{grown}
-use Rattle.txn_program.specs.Completing.{NoneRose}
 use Rattle.txn_program.specs.Reading.{IsRead, IsTooLong}
-use Rattle.txn_program.specs.Writing.{EndsWith, Wrote, text_by}
+use Rattle.txn_program.specs.Writing.{Wrote, text_by}
 
 -- one octet more than the limit was read, so the input has more octets than the limit
 pub too_long : (before after : Option (List ℕ)) (octets : List ℕ)
@@ -86,11 +85,3 @@ pub wrote-as : (before after : Option (List ℕ)) (status : ℕ) (text these : L
     → text ≡ these → Wrote before after status text → Wrote before after status these
 wrote-as before after status text these same wrote =
     subst (λ (t : List ℕ). Wrote before after status t) same wrote
-
--- without a fault of the sink, the status is 6 or that of the table
-pub without_fault : (before after wanted status : ℕ)
-    → EndsWith before after wanted status → NoneRose before after
-    → (status ≡ 6) ⊎ (status ≡ wanted)
-without_fault before after wanted status (inl is) quiet = inl is
-without_fault before after wanted status (inr (inl fault)) quiet = absurd (quiet fault.1)
-without_fault before after wanted status (inr (inr is)) quiet = inr is

@@ -7,7 +7,7 @@ use Rattle.amqp_record.specs.declared.stop.Driven.{Driven}
 use Rattle.amqp_record.specs.Entries.{steps_of}
 use Rattle.amqp_resource.specs.Drive.{NextStep}
 use Rattle.amqp_resource.specs.Steps.{UnderDead, ended_by}
-use Rattle.txn_program.specs.Lines.{input_steps}
+use Rattle.txn_lines.specs.Lines.{input_steps}
 use Rattle.txn_program.specs.declared.reading.Reading.{Reading}
 use Rattle.txn_program.specs.declared.reading.Reading.TheVariants as readings
 use Rattle.txn_program.specs.declared.words.Command.{Command}
@@ -55,5 +55,6 @@ MadeEnds status = (status ≡ 6) ⊎ (status ≡ 0)
 -- by the words
 abbrev pub Completes : Option Command → Reading → Option Driven → ℕ → Type 0
 Completes None reading driven status = (status ≡ 6) ⊎ (status ≡ 2)
-Completes (Some (commands.Run plan ids)) reading driven status = InputEnds reading driven status
+Completes (Some (commands.Run layer plan ids)) reading driven status =
+    InputEnds reading driven status
 Completes (Some (commands.Make count)) reading driven status = MadeEnds status

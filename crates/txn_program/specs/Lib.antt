@@ -1,7 +1,3 @@
-pub mod Cutting
-pub mod LineWords
-pub mod Lines
-pub mod Reads
 pub mod Report
 pub mod Made
 pub mod Words

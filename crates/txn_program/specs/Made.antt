@@ -16,7 +16,7 @@ use Rattle.amqp_record.specs.declared.reply.Reply.TheVariants as replies
 use Rattle.amqp_record.specs.declared.entry.Entry.{Entry}
 use Rattle.amqp_txn_codec.specs.Discharges.{is_rollback}
 use Rattle.amqp_ids.specs.Counted.{id_of_number}
-use Rattle.txn_program.specs.Lines.{attach_of, coordinator, transfer_of, state_under}
+use Rattle.txn_lines.specs.Lines.{attach_of, coordinator, transfer_of, state_under}
 use Rattle.txn_program.specs.Report.{line}
 
 -- the attach of the one control link, as the line `attach c 0` spells it

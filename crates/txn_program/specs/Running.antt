@@ -16,14 +16,16 @@ use Rattle.amqp_record.specs.Legal.{IsLegal}
 use Rattle.amqp_record.specs.Opened.{opens}
 use Rattle.amqp_resource.specs.Drive.{RunTook, RunRefused, StopCause}
 use Rattle.amqp_ids.specs.Counted.{ids_from}
-use Rattle.amqp_ids.specs.Listed.{listed}
 use Rattle.amqp_streams.specs.Streams.{SourceTold}
-use Rattle.txn_program.specs.Lines.{input_steps}
+use Rattle.txn_lines.specs.Lines.{input_steps}
 use Rattle.txn_program.specs.Made.{made, made_text}
 use Rattle.txn_program.specs.Reading.{Finds}
 use Rattle.txn_program.specs.declared.reading.Reading.{Reading}
 use Rattle.txn_program.specs.declared.reading.Reading.TheVariants as readings
 use Rattle.txn_program.specs.Report.{report_text}
+use Rattle.txn_program.specs.declared.running.Written.{Written}
+use Rattle.txn_program.specs.declared.running.Written.TheVariants as kinds
+use Rattle.txn_program.specs.Words.{stream_of_ids}
 use Rattle.txn_program.specs.declared.words.Command.{Command}
 use Rattle.txn_program.specs.declared.words.Command.TheVariants as commands
 
@@ -58,7 +60,7 @@ input_status (readings.Whole octets) driven = spelled_status (input_steps octets
 -- sink apart
 abbrev pub status_of : Option Command → Reading → Option Driven → ℕ
 status_of None reading driven = 2
-status_of (Some (commands.Run plan ids)) reading driven = input_status reading driven
+status_of (Some (commands.Run layer plan ids)) reading driven = input_status reading driven
 status_of (Some (commands.Make count)) reading driven = driven_status driven
 
 -- ---- texts
@@ -77,26 +79,32 @@ driven_text below None = []
 driven_text below (Some driven) = report_text driven (taken_of below)
 
 -- the text of a run of what the input spells: of the line that isn't a step, or the report
-abbrev pub spelled_text : Told → Result (List Step) ℕ → Option Driven → List ℕ
-spelled_text below (Err line) driven = line_text line
-spelled_text below (Ok steps) driven = driven_text below driven
+abbrev pub spelled_text : Result (List Step) ℕ → Told → Option Driven → List ℕ
+spelled_text (Err line) below driven = line_text line
+spelled_text (Ok steps) below driven = driven_text below driven
 
 -- the text of a run of the input
-abbrev pub input_text : Told → Reading → Option Driven → List ℕ
-input_text below readings.Fault driven = codes "read fault\n"
-input_text below readings.TooLong driven = codes "input too long\n"
-input_text below (readings.Whole octets) driven = spelled_text below (input_steps octets) driven
+abbrev pub input_text : Reading → Told → Option Driven → List ℕ
+input_text readings.Fault below driven = codes "read fault\n"
+input_text readings.TooLong below driven = codes "input too long\n"
+input_text (readings.Whole octets) below driven = spelled_text (input_steps octets) below driven
 
 -- the text of a made run, where steps were driven
 abbrev pub summary_text : Told → Option Driven → List ℕ
 summary_text below None = []
 summary_text below (Some driven) = made_text driven.entries (length (taken_of below))
 
+-- the text of a run, by what is written of it
+abbrev pub text_of : Written → Told → Option Driven → List ℕ
+text_of kinds.Report = driven_text
+text_of kinds.Summary = summary_text
+
 -- the text that is written, by the words
-abbrev pub written_text : Told → Option Command → Reading → Option Driven → List ℕ
-written_text below None reading driven = codes "usage\n"
-written_text below (Some (commands.Run plan ids)) reading driven = input_text below reading driven
-written_text below (Some (commands.Make count)) reading driven = summary_text below driven
+abbrev pub written_text : Option Command → Reading → Told → Option Driven → List ℕ
+written_text None reading below driven = codes "usage\n"
+written_text (Some (commands.Run layer plan ids)) reading below driven =
+    input_text reading below driven
+written_text (Some (commands.Make count)) reading below driven = summary_text below driven
 
 -- ---- what a call leaves
 
@@ -105,7 +113,7 @@ written_text below (Some (commands.Make count)) reading driven = summary_text be
 abbrev pub ReadFor :
     Option Command → ℕ → Option Driven → SourceTold → SourceTold → Reading → Type 0
 ReadFor None status driven before after reading = after ≡ before
-ReadFor (Some (commands.Run plan ids)) status driven before after reading =
+ReadFor (Some (commands.Run layer plan ids)) status driven before after reading =
     Finds before after reading ⊎ ((status ≡ 6) × IsNone driven)
 ReadFor (Some (commands.Make count)) status driven before after reading = after ≡ before
 
@@ -117,7 +125,7 @@ plan_or before (Some plan) = plan
 -- the plan that the words leave to the recorder
 abbrev pub plan_left : List ℕ → Option Command → List ℕ
 plan_left before None = before
-plan_left before (Some (commands.Run plan ids)) = plan_or before plan
+plan_left before (Some (commands.Run layer plan ids)) = plan_or before plan
 plan_left before (Some (commands.Make count)) = before
 
 -- the plan at the end is the LIST of the words, or as it was without one; for want of memory before
@@ -165,5 +173,6 @@ IsSpelledBy (readings.Whole octets) P = IsOkAnd (input_steps octets) P
 abbrev pub IsRunOf :
     Option Command → Reading → ((ℕ → TransactionId) → List Step → Type 0) → Type 0
 IsRunOf None reading P = ⊥
-IsRunOf (Some (commands.Run plan ids)) reading P = IsSpelledBy reading (P (listed ids))
+IsRunOf (Some (commands.Run layer plan ids)) reading P =
+    IsSpelledBy reading (P (stream_of_ids ids))
 IsRunOf (Some (commands.Make count)) reading P = P (ids_from 1) (made count)

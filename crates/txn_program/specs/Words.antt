@@ -3,9 +3,15 @@ use Rattle.std.specs.Prelude.{ℕ, ◌==◌, ◌<◌, ◌≤◌, ◌&&◌, Optio
 use Rattle.std.specs.List.{slice_split}
 use Rattle.std.specs.Str.{bytes_eq}
 use Rattle.amqp_txn_types.specs.declared.id.TransactionId.{TransactionId}
+use Rattle.txn_program.specs.declared.words.Ids.{Ids}
+use Rattle.txn_program.specs.declared.words.Ids.TheVariants as id_kinds
+use Rattle.txn_program.specs.declared.words.Layer.{Layer}
+use Rattle.txn_program.specs.declared.words.Layer.TheVariants as layers
 use Rattle.txn_program.specs.declared.words.Command.{Command}
 use Rattle.txn_program.specs.declared.words.Command.TheVariants as commands
-use Rattle.txn_program.specs.LineWords.{◌>>=◌, octets_of, between, at_most, decimal_of}
+use Rattle.amqp_ids.specs.Listed.{listed}
+use Rattle.amqp_uuid_ids.specs.Seeded.{seeded}
+use Rattle.txn_lines.specs.LineWords.{◌>>=◌, octets_of, between, at_most, decimal_of, u64_of}
 
 -- what each of the words means, where all mean something
 abbrev pub each : {A : Type 0} → (List ℕ → Option A) → List (List ℕ) → Option (List A)
@@ -40,24 +46,44 @@ call_of word = count_of 18446744073709551615 word
 abbrev pub call_list_of : List ℕ → Option (List ℕ)
 call_list_of word = each call_of (slice_split (λ b. b == 44) word) >>= some_few
 
--- ID ID .., under a plan
-abbrev pub run_of : Option (List ℕ) → List (List ℕ) → Option Command
-run_of plan words = do
+-- ID ID ..
+abbrev pub list_words : List (List ℕ) → Option Ids
+list_words words = do
   ids ← each id_of words >>= some_few
-  Some (commands.Run plan ids)
+  Some (id_kinds.Listed ids)
 
--- LIST ID ID ..
-abbrev pub refusing_words : List (List ℕ) → Option Command
-refusing_words [] = None
-refusing_words (word ∷ words) = do
+-- N, up to 18,446,744,073,709,551,615
+abbrev pub seed_words : List (List ℕ) → Option Ids
+seed_words (word ∷ []) = do
+  seed ← u64_of word
+  Some (id_kinds.Seeded seed)
+seed_words words = None
+
+-- `--seed N`, or ID ID ..
+abbrev pub id_words : List (List ℕ) → Option Ids
+id_words [] = None
+id_words (word ∷ words) =
+    if bytes_eq word (codes "--seed") then seed_words words else list_words (word ∷ words)
+
+-- the ids, over that layer and under a plan
+abbrev pub run_of : Layer → Option (List ℕ) → List (List ℕ) → Option Command
+run_of layer plan words = do
+  ids ← id_words words
+  Some (commands.Run layer plan ids)
+
+-- LIST and the ids
+abbrev pub refusing_words : Layer → List (List ℕ) → Option Command
+refusing_words layer [] = None
+refusing_words layer (word ∷ words) = do
   plan ← call_list_of word
-  run_of (Some plan) words
+  run_of layer (Some plan) words
 
--- `run --refuse LIST ID ID ..`, or without a plan `run ID ID ..`
-abbrev pub run_words : List (List ℕ) → Option Command
-run_words [] = None
-run_words (word ∷ words) =
-    if bytes_eq word (codes "--refuse") then refusing_words words else run_of None (word ∷ words)
+-- `--refuse LIST` and the ids, or without a plan the ids alone
+abbrev pub run_words : Layer → List (List ℕ) → Option Command
+run_words layer [] = None
+run_words layer (word ∷ words) =
+    if bytes_eq word (codes "--refuse") then refusing_words layer words
+    else run_of layer None (word ∷ words)
 
 -- `make N`, with N from 1 to 20,000
 abbrev pub make_words : List (List ℕ) → Option Command
@@ -70,13 +96,24 @@ make_words words = None
 abbrev pub command_of : List (List ℕ) → Option Command
 command_of [] = None
 command_of (word ∷ words) =
-    if bytes_eq word (codes "run") then run_words words
+    if bytes_eq word (codes "run") then run_words layers.Open words
+    else if bytes_eq word (codes "listen") then run_words layers.Listener words
     else if bytes_eq word (codes "make") then make_words words
     else None
 
--- a command stays within the limits of the table: a run names an id, and 1 to 20,000 transactions
--- are made
+-- there are ids to draw
+abbrev pub AreSome : Ids → Type 0
+AreSome (id_kinds.Listed ids) = 0 < length ids
+AreSome (id_kinds.Seeded seed) = Unit {0}
+
+-- a command stays within the limits of the table: a run has an id to draw, and 1 to 20,000
+-- transactions are made
 abbrev pub IsWithin : Option Command → Type 0
 IsWithin None = Unit {0}
-IsWithin (Some (commands.Run plan ids)) = 0 < length ids
+IsWithin (Some (commands.Run layer plan ids)) = AreSome ids
 IsWithin (Some (commands.Make count)) = (1 ≤ count) × (count ≤ 20000)
+
+-- the ids that are drawn, one after another
+abbrev pub stream_of_ids : Ids → ℕ → TransactionId
+stream_of_ids (id_kinds.Listed ids) = listed ids
+stream_of_ids (id_kinds.Seeded seed) = seeded seed

@@ -9,7 +9,7 @@ ghost use Rattle.txn_program.specs.Running.{plan_or};
 ghost use Rattle.txn_program.specs.Serving.{Serves};
 ghost use Rattle.txn_program.specs.Writing.{sink_of};
 
-use crate::running::{Ran, answered, out_of_memory, run_input, run_made};
+use crate::running::{Ran, out_of_memory, run_drawing, run_made, told};
 use crate::status;
 use crate::words::{Command, command_of};
 use amqp_below::{ByteSink, ByteSource, LayerBelow, Recorder, Tells};
@@ -24,7 +24,7 @@ use std::alloc::Global;
 /// # Requires
 ///
 /// The recorder is fresh, as [`Recorder::is_fresh`] tests.
-pub fn run<S: LayerBelow, I: ByteSource, O: ByteSink>(
+pub fn run<S: LayerBelow + Send, I: ByteSource, O: ByteSink>(
     alloc: Global,
     words: &[Text],
     below: Recorder<S>,
@@ -45,7 +45,7 @@ pub fn run<S: LayerBelow, I: ByteSource, O: ByteSink>(
 /// # Requires
 ///
 /// The recorder is fresh, as [`Recorder::is_fresh`] tests.
-pub fn run_commands<S: LayerBelow, I: ByteSource, O: ByteSink>(
+pub fn run_commands<S: LayerBelow + Send, I: ByteSource, O: ByteSink>(
     alloc: Global,
     words: &[Text],
     below: Recorder<S>,
@@ -70,9 +70,9 @@ pub fn run_commands<S: LayerBelow, I: ByteSource, O: ByteSink>(
 /// # Requires
 ///
 /// The recorder is fresh, as [`Recorder::is_fresh`] tests, and the command is within the limits of
-/// the table, as each that [`command_of`] gives: a run has an id, and 1 to 20,000 transactions are
-/// made.
-pub fn run_command<S: LayerBelow, I: ByteSource, O: ByteSink>(
+/// the table, as each that [`command_of`] gives: a run has an id to draw, and 1 to 20,000
+/// transactions are made.
+pub fn run_command<S: LayerBelow + Send, I: ByteSource, O: ByteSink>(
     alloc: Global,
     command: Option<Command>,
     below: Recorder<S>,
@@ -87,11 +87,11 @@ pub fn run_command<S: LayerBelow, I: ByteSource, O: ByteSink>(
         (sink_of O.written O.faults O.spare output.new) result }
 {
     match command {
-        Some(Command::Run { plan, ids }) => {
-            run_input(alloc, ids, with_plan(below, plan), input, output)
+        Some(Command::Run { plan, ids, .. }) => {
+            run_drawing(alloc, ids, with_plan(below, plan), input, output)
         }
         Some(Command::Make(count)) => run_made(alloc, count, below, output),
-        None => answered(status::USAGE, None, b"usage\n", below, output),
+        None => told(status::USAGE, b"usage\n", below, output),
     }
 }
 

@@ -23,10 +23,7 @@
 #![tactic(auto)]
 
 mod commands;
-mod cutting;
 mod frame_text;
-mod line_words;
-mod lines;
 mod making;
 mod reading;
 mod report_words;
@@ -34,16 +31,14 @@ mod reporting;
 mod running;
 pub mod status;
 mod std_streams;
-mod step_lines;
 mod summing;
-mod unread;
 mod words;
 mod writing;
 
 pub use commands::{run, run_command, run_commands};
-pub use lines::{SpellError, spells};
 pub use reading::{INPUT_LIMIT, Reading};
 pub use reporting::report;
 pub use running::Ran;
 pub use std_streams::{StdSink, StdSource};
-pub use words::{Command, TransactionIds, command_of};
+pub use txn_lines::{SpellError, spells};
+pub use words::{Command, Ids, Layer, TransactionIds, command_of};

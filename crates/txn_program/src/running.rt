@@ -1,25 +1,24 @@
 //! A run: steps through a session, and what is written of them.
 
-ghost use Rattle.std.specs.Prelude.{◌≡◌, ◌<◌, ◌≤◌, ◌⊎◌, length, None, Some, Ok, IfSome, IfOk, IsNone, IsOkAnd, List, ℕ, string_bytes};
+ghost use Rattle.std.specs.Prelude.{◌≡◌, ◌≤◌, Some, None, List, ℕ, IfOk, string_bytes};
 ghost use Rattle.amqp_recorder.specs.Recording.{IsFresh, is_unused};
 ghost use Rattle.amqp_ids.specs.Counted.{ids_from};
 ghost use Rattle.amqp_resource.specs.Drive.{RunRose};
-ghost use Rattle.amqp_ids.specs.Listed.{listed};
-ghost use Rattle.txn_program.specs.Lines.{input_steps};
+ghost use Rattle.txn_lines.specs.Lines.{input_steps};
 ghost use Rattle.txn_program.specs.Made.{made};
 ghost use Rattle.txn_program.specs.Reading.{source_of};
-ghost use Rattle.txn_program.specs.Running.{IsRun, IsSpelledBy, Untouched, driven_status, driven_text, input_status, input_text, line_text, spelled_status, spelled_text, stop_status, summary_text};
-ghost use Rattle.txn_program.specs.Completing.{InputEnds, MadeEnds, NoneRose, RunEnds, SpelledEnds};
-ghost use Rattle.txn_program.specs.Serving.{RunsInput};
+ghost use Rattle.txn_program.specs.Running.{IsRun, driven_status, line_text, stop_status, summary_text, text_of};
+ghost use Rattle.txn_program.specs.Completing.{MadeEnds};
+ghost use Rattle.txn_program.specs.Serving.{DrivesNothing, Runs, RunsInput, RunsReading, RunsSpelled, RunsSteps};
+ghost use Rattle.txn_program.specs.Words.{AreSome, stream_of_ids};
 ghost use Rattle.txn_program.specs.Writing.{EndsWith, Wrote, sink_of};
 
-use crate::lines::{SpellError, spells};
 use crate::making::made;
 use crate::reading::{Reading, read_all};
 use crate::reporting::report_string;
 use crate::status;
 use crate::summing::summary_string;
-use crate::words::TransactionIds;
+use crate::words::Ids;
 use crate::writing::write_all;
 use amqp_below::{
     ByteSink, ByteSource, CountIds, IdSource, LayerBelow, ListIds, Recorder, SessionInnerError,
@@ -28,7 +27,9 @@ use amqp_below::{
 use amqp_record::{Driven, Entries, Steps, Stop};
 use amqp_resource::{TxnSession, drive};
 use amqp_txn_types::{Binary, NoMemory};
+use amqp_uuid_ids::seeded_ids;
 use std::alloc::Global;
+use txn_lines::{SpellError, spells};
 
 /// What a call of the program left.
 #[derive(Drop)]
@@ -41,6 +42,15 @@ pub struct Ran<S> {
     pub entries: Option<Entries>,
     /// The recorder that was handed in, with what it took.
     pub below: Recorder<S>,
+}
+
+/// What is written of a run.
+#[derive(Clone, Copy)]
+pub enum Written {
+    /// Its entries, its stop and what was taken.
+    Report,
+    /// How many there were.
+    Summary,
 }
 
 /// The end of a call with that status.
@@ -64,7 +74,7 @@ pub(crate) fn out_of_memory<S: LayerBelow>(driven: Option<Driven>, below: Record
 }
 
 /// The end of a call with that status, once the text is written. Room for the text is made first.
-pub(crate) fn answered<S: LayerBelow, O: ByteSink>(
+fn answered<S: LayerBelow, O: ByteSink>(
     status: u8,
     driven: Option<Driven>,
     text: &[u8],
@@ -87,6 +97,22 @@ pub(crate) fn answered<S: LayerBelow, O: ByteSink>(
     }
 }
 
+/// The end of a call that drives nothing, with that status and its text.
+pub(crate) fn told<S: LayerBelow, O: ByteSink>(
+    status: u8,
+    text: &[u8],
+    below: Recorder<S>,
+    output: &mut O,
+) -> Ran<S>
+    ensures run { DrivesNothing (sink_of O.written O.faults O.spare output.old)
+        (sink_of O.written O.faults O.spare output.new)
+        ⟦<Recorder<S> as Tells>⟧.told (⟦<Recorder<S> as Tells>⟧.told below)
+        status text.now result }
+    ensures below { result.below ≡ below }
+{
+    answered(status, None, text, below, output)
+}
+
 /// The status of a stop.
 fn status_of_stop(stop: &Stop) -> u8
     ensures { result ≡ stop_status stop.now }
@@ -106,108 +132,45 @@ fn line_text(alloc: Global, number: usize) -> Result<String, NoMemory>
     Ok(format!(in alloc; "not a step: line {number}\n")?)
 }
 
-/// A run of what was read of the input, of which declares draw these ids.
-fn run_reading<S: LayerBelow, O: ByteSink>(
+/// A run of the input, with the ids that the words name.
+pub(crate) fn run_drawing<S: LayerBelow, I: ByteSource, O: ByteSink>(
     alloc: Global,
-    ids: TransactionIds,
-    reading: Reading,
-    below: Recorder<S>,
-    output: &mut O,
-) -> Ran<S>
-    requires some { 0 < length ids }
-    requires fresh { IsFresh (is_unused below) (⟦<Recorder<S> as Tells>⟧.told below) }
-    ensures status { EndsWith (O.faults output.old) (O.faults output.new)
-        (input_status reading result.driven) result.status }
-    ensures record { IfSome result.driven (λ driven. IsSpelledBy reading (λ steps.
-        IsRun (listed ids) steps (⟦<Recorder<S> as Tells>⟧.told result.below) driven)) }
-    ensures rose { IfSome result.driven (λ driven. RunRose
-        (⟦<Recorder<S> as Tells>⟧.told below).refusals
-        (⟦<Recorder<S> as Tells>⟧.told result.below).refusals driven.entries driven.stop) }
-    ensures fixed { (⟦<Recorder<S> as Tells>⟧.told result.below).fixed
-        ≡ (⟦<Recorder<S> as Tells>⟧.told below).fixed }
-    ensures untouched { IsNone result.driven →
-        Untouched (⟦<Recorder<S> as Tells>⟧.told below)
-        (⟦<Recorder<S> as Tells>⟧.told result.below) }
-    ensures completes { NoneRose (⟦<Recorder<S> as Tells>⟧.told below).refusals
-        (⟦<Recorder<S> as Tells>⟧.told result.below).refusals →
-        NoneRose (O.faults output.old) (O.faults output.new) →
-        InputEnds reading result.driven result.status }
-    ensures written { Wrote (O.written output.old) (O.written output.new) result.status
-        (input_text (⟦<Recorder<S> as Tells>⟧.told result.below)
-        reading result.driven) }
-    ensures entries { result.entries ≡ None }
-{
-    match reading {
-        Reading::Fault => answered(status::READ_FAULT, None, b"read fault\n", below, output),
-        Reading::TooLong => answered(status::TOO_LONG, None, b"input too long\n", below, output),
-        Reading::Whole(octets) => run_octets(alloc, ids, octets, below, output),
-    }
-}
-
-/// A run of the steps that the octets spell, of which declares draw these ids.
-fn run_octets<S: LayerBelow, O: ByteSink>(
-    alloc: Global,
-    ids: TransactionIds,
-    octets: Binary,
-    below: Recorder<S>,
-    output: &mut O,
-) -> Ran<S>
-    requires some { 0 < length ids }
-    requires fresh { IsFresh (is_unused below) (⟦<Recorder<S> as Tells>⟧.told below) }
-    ensures status { EndsWith (O.faults output.old) (O.faults output.new)
-        (spelled_status (input_steps octets) result.driven) result.status }
-    ensures record { IfSome result.driven (λ driven. IsOkAnd (input_steps octets) (λ steps.
-        IsRun (listed ids) steps (⟦<Recorder<S> as Tells>⟧.told result.below) driven)) }
-    ensures rose { IfSome result.driven (λ driven. RunRose
-        (⟦<Recorder<S> as Tells>⟧.told below).refusals
-        (⟦<Recorder<S> as Tells>⟧.told result.below).refusals driven.entries driven.stop) }
-    ensures fixed { (⟦<Recorder<S> as Tells>⟧.told result.below).fixed
-        ≡ (⟦<Recorder<S> as Tells>⟧.told below).fixed }
-    ensures untouched { IsNone result.driven →
-        Untouched (⟦<Recorder<S> as Tells>⟧.told below)
-        (⟦<Recorder<S> as Tells>⟧.told result.below) }
-    ensures completes { NoneRose (⟦<Recorder<S> as Tells>⟧.told below).refusals
-        (⟦<Recorder<S> as Tells>⟧.told result.below).refusals →
-        NoneRose (O.faults output.old) (O.faults output.new) →
-        SpelledEnds (input_steps octets) result.driven result.status }
-    ensures written { Wrote (O.written output.old) (O.written output.new) result.status
-        (spelled_text (⟦<Recorder<S> as Tells>⟧.told result.below)
-        (input_steps octets) result.driven) }
-    ensures entries { result.entries ≡ None }
-{
-    match spells(alloc, octets.as_slice()) {
-        Ok(steps) => {
-            drop(octets);
-            run_listed(alloc, ids, steps, below, output)
-        }
-        Err(SpellError::Line(number)) => match line_text(alloc, number) {
-            Ok(text) => answered(
-                status::NOT_A_STEP,
-                None,
-                text.as_str().as_bytes(),
-                below,
-                output,
-            ),
-            Err(_) => out_of_memory(None, below),
-        },
-        Err(SpellError::NoMemory) => out_of_memory(None, below),
-    }
-}
-
-/// A run of the steps of the input, of which declares draw these ids.
-pub(crate) fn run_input<S: LayerBelow, I: ByteSource, O: ByteSink>(
-    alloc: Global,
-    ids: TransactionIds,
+    ids: Ids,
     below: Recorder<S>,
     input: &mut I,
     output: &mut O,
 ) -> Ran<S>
-    requires some { 0 < length ids }
+    requires some { AreSome ids }
     requires fresh { IsFresh (is_unused below) (⟦<Recorder<S> as Tells>⟧.told below) }
-    ensures runs { RunsInput (source_of I.rest I.faults input.old)
+    ensures { RunsInput (source_of I.rest I.faults input.old)
         (source_of I.rest I.faults input.new) (sink_of O.written O.faults O.spare output.old)
         (sink_of O.written O.faults O.spare output.new)
-        ⟦<Recorder<S> as Tells>⟧.told below (listed ids) result }
+        ⟦<Recorder<S> as Tells>⟧.told (⟦<Recorder<S> as Tells>⟧.told below)
+        (stream_of_ids ids) result }
+{
+    match ids {
+        Ids::Listed(ids) => match ListIds::new(alloc, ids.as_slice()) {
+            Ok(mut source) => run_input(alloc, &mut source, below, input, output),
+            Err(_) => out_of_memory(None, below),
+        },
+        Ids::Seeded(seed) => run_input(alloc, &mut seeded_ids(seed), below, input, output),
+    }
+}
+
+/// A run of the steps of the input, of which declares draw these ids.
+fn run_input<S: LayerBelow, G: IdSource, I: ByteSource, O: ByteSink>(
+    alloc: Global,
+    ids: &mut G,
+    below: Recorder<S>,
+    input: &mut I,
+    output: &mut O,
+) -> Ran<S>
+    requires { IsFresh (is_unused below) (⟦<Recorder<S> as Tells>⟧.told below) }
+    ensures { RunsInput (source_of I.rest I.faults input.old)
+        (source_of I.rest I.faults input.new) (sink_of O.written O.faults O.spare output.old)
+        (sink_of O.written O.faults O.spare output.new)
+        ⟦<Recorder<S> as Tells>⟧.told (⟦<Recorder<S> as Tells>⟧.told below)
+        (G.next ids.old) result }
 {
     match read_all(alloc, input) {
         Ok(reading) => run_reading(alloc, ids, reading, below, output),
@@ -215,42 +178,72 @@ pub(crate) fn run_input<S: LayerBelow, I: ByteSource, O: ByteSink>(
     }
 }
 
-/// A run of these steps, of which declares draw these ids, and its report.
-fn run_listed<S: LayerBelow, O: ByteSink>(
+/// A run of what was read of the input, of which declares draw these ids.
+fn run_reading<S: LayerBelow, G: IdSource, O: ByteSink>(
     alloc: Global,
-    ids: TransactionIds,
-    steps: Steps,
+    ids: &mut G,
+    reading: Reading,
     below: Recorder<S>,
     output: &mut O,
 ) -> Ran<S>
-    requires some { 0 < length ids }
-    requires fresh { IsFresh (is_unused below) (⟦<Recorder<S> as Tells>⟧.told below) }
-    ensures status { EndsWith (O.faults output.old) (O.faults output.new)
-        (driven_status result.driven) result.status }
-    ensures record { IfSome result.driven (λ driven.
-        IsRun (listed ids) steps (⟦<Recorder<S> as Tells>⟧.told result.below) driven) }
-    ensures rose { IfSome result.driven (λ driven. RunRose
-        (⟦<Recorder<S> as Tells>⟧.told below).refusals
-        (⟦<Recorder<S> as Tells>⟧.told result.below).refusals driven.entries driven.stop) }
+    requires { IsFresh (is_unused below) (⟦<Recorder<S> as Tells>⟧.told below) }
+    ensures run { RunsReading (sink_of O.written O.faults O.spare output.old)
+        (sink_of O.written O.faults O.spare output.new)
+        ⟦<Recorder<S> as Tells>⟧.told (⟦<Recorder<S> as Tells>⟧.told below)
+        (G.next ids.old) reading result }
     ensures fixed { (⟦<Recorder<S> as Tells>⟧.told result.below).fixed
         ≡ (⟦<Recorder<S> as Tells>⟧.told below).fixed }
-    ensures untouched { IsNone result.driven →
-        Untouched (⟦<Recorder<S> as Tells>⟧.told below)
-        (⟦<Recorder<S> as Tells>⟧.told result.below) }
-    ensures completes { NoneRose (⟦<Recorder<S> as Tells>⟧.told below).refusals
-        (⟦<Recorder<S> as Tells>⟧.told result.below).refusals →
-        NoneRose (O.faults output.old) (O.faults output.new) →
-        RunEnds steps result.driven result.status }
-    ensures written { Wrote (O.written output.old) (O.written output.new) result.status
-        (driven_text (⟦<Recorder<S> as Tells>⟧.told result.below) result.driven) }
-    ensures entries { result.entries ≡ None }
 {
-    let Ok(mut source) = ListIds::new(alloc, ids.as_slice()) else {
-        return out_of_memory(None, below);
-    };
-    let Run { driven, below } = run_steps(alloc, steps, &mut source, below);
-    let text = reported(alloc, &driven, &below);
-    finished(driven, text, below, output)
+    match reading {
+        Reading::Fault => told(status::READ_FAULT, b"read fault\n", below, output),
+        Reading::TooLong => told(status::TOO_LONG, b"input too long\n", below, output),
+        Reading::Whole(octets) => run_octets(alloc, ids, octets, below, output),
+    }
+}
+
+/// A run of the steps that the octets spell, of which declares draw these ids.
+fn run_octets<S: LayerBelow, G: IdSource, O: ByteSink>(
+    alloc: Global,
+    ids: &mut G,
+    octets: Binary,
+    below: Recorder<S>,
+    output: &mut O,
+) -> Ran<S>
+    requires { IsFresh (is_unused below) (⟦<Recorder<S> as Tells>⟧.told below) }
+    ensures run { RunsSpelled (sink_of O.written O.faults O.spare output.old)
+        (sink_of O.written O.faults O.spare output.new)
+        ⟦<Recorder<S> as Tells>⟧.told (⟦<Recorder<S> as Tells>⟧.told below)
+        (G.next ids.old) (input_steps octets) result }
+    ensures fixed { (⟦<Recorder<S> as Tells>⟧.told result.below).fixed
+        ≡ (⟦<Recorder<S> as Tells>⟧.told below).fixed }
+{
+    match spells(alloc, octets.as_slice()) {
+        Ok(steps) => {
+            drop(octets);
+            run_steps(alloc, steps, ids, Written::Report, below, output)
+        }
+        Err(SpellError::Line(number)) => no_step(alloc, number, below, output),
+        Err(SpellError::NoMemory) => out_of_memory(None, below),
+    }
+}
+
+/// The end of a call that drives nothing, since that line of the input isn't a step.
+fn no_step<S: LayerBelow, O: ByteSink>(
+    alloc: Global,
+    number: usize,
+    below: Recorder<S>,
+    output: &mut O,
+) -> Ran<S>
+    ensures run { DrivesNothing (sink_of O.written O.faults O.spare output.old)
+        (sink_of O.written O.faults O.spare output.new)
+        ⟦<Recorder<S> as Tells>⟧.told (⟦<Recorder<S> as Tells>⟧.told below)
+        3 (line_text number) result }
+    ensures below { result.below ≡ below }
+{
+    match line_text(alloc, number) {
+        Ok(text) => told(status::NOT_A_STEP, text.as_str().as_bytes(), below, output),
+        Err(_) => out_of_memory(None, below),
+    }
 }
 
 /// A run of that many made transactions, and its summary.
@@ -262,59 +255,58 @@ pub(crate) fn run_made<S: LayerBelow, O: ByteSink>(
 ) -> Ran<S>
     requires few { count ≤ 20000 }
     requires fresh { IsFresh (is_unused below) (⟦<Recorder<S> as Tells>⟧.told below) }
-    ensures status { EndsWith (O.faults output.old) (O.faults output.new)
-        (driven_status result.driven) result.status }
-    ensures record { IfSome result.driven (λ driven.
-        IsRun (ids_from 1) (made count) (⟦<Recorder<S> as Tells>⟧.told result.below) driven) }
-    ensures rose { IfSome result.driven (λ driven. RunRose
-        (⟦<Recorder<S> as Tells>⟧.told below).refusals
-        (⟦<Recorder<S> as Tells>⟧.told result.below).refusals driven.entries driven.stop) }
+    ensures run { Runs (sink_of O.written O.faults O.spare output.old)
+        (sink_of O.written O.faults O.spare output.new)
+        ⟦<Recorder<S> as Tells>⟧.told (⟦<Recorder<S> as Tells>⟧.told below)
+        driven_status (λ P. P (ids_from 1) (made count))
+        (λ driven status. MadeEnds status) summary_text result }
     ensures fixed { (⟦<Recorder<S> as Tells>⟧.told result.below).fixed
         ≡ (⟦<Recorder<S> as Tells>⟧.told below).fixed }
-    ensures untouched { IsNone result.driven →
-        Untouched (⟦<Recorder<S> as Tells>⟧.told below)
-        (⟦<Recorder<S> as Tells>⟧.told result.below) }
-    ensures completes { NoneRose (⟦<Recorder<S> as Tells>⟧.told below).refusals
-        (⟦<Recorder<S> as Tells>⟧.told result.below).refusals →
-        NoneRose (O.faults output.old) (O.faults output.new) → MadeEnds result.status }
-    ensures written { Wrote (O.written output.old) (O.written output.new) result.status
-        (summary_text (⟦<Recorder<S> as Tells>⟧.told result.below) result.driven) }
-    ensures entries { result.entries ≡ None }
 {
     let Ok(steps) = made(alloc, count) else {
         return out_of_memory(None, below);
     };
     let mut source = CountIds::new();
-    let Run { driven, below } = run_steps(alloc, steps, &mut source, below);
-    let text = summed(alloc, &driven, &below);
+    run_steps(alloc, steps, &mut source, Written::Summary, below, output)
+}
+
+/// A run of these steps, of which declares draw these ids, and what is written of it.
+fn run_steps<S: LayerBelow, G: IdSource, O: ByteSink>(
+    alloc: Global,
+    steps: Steps,
+    ids: &mut G,
+    what: Written,
+    below: Recorder<S>,
+    output: &mut O,
+) -> Ran<S>
+    requires { IsFresh (is_unused below) (⟦<Recorder<S> as Tells>⟧.told below) }
+    ensures run { RunsSteps (sink_of O.written O.faults O.spare output.old)
+        (sink_of O.written O.faults O.spare output.new)
+        ⟦<Recorder<S> as Tells>⟧.told (⟦<Recorder<S> as Tells>⟧.told below)
+        (G.next ids.old) steps what result }
+    ensures fixed { (⟦<Recorder<S> as Tells>⟧.told result.below).fixed
+        ≡ (⟦<Recorder<S> as Tells>⟧.told below).fixed }
+{
+    let Run { driven, below } = drive_steps(alloc, steps, ids, below);
+    let text = text_of(alloc, what, &driven, &below);
     finished(driven, text, below, output)
 }
 
-/// The report of a run.
-fn reported<S: LayerBelow>(
+/// What is written of a run.
+fn text_of<S: LayerBelow>(
     alloc: Global,
+    what: Written,
     driven: &Driven,
     below: &Recorder<S>,
 ) -> Result<String, NoMemory>
-    ensures { IfOk result (λ text.
-        string_bytes text
-        ≡ driven_text (⟦<Recorder<S> as Tells>⟧.told below.now) (Some driven.now)) }
+    ensures { IfOk result (λ text. string_bytes text
+        ≡ text_of what (⟦<Recorder<S> as Tells>⟧.told below.now) (Some driven.now)) }
 {
-    report_string(alloc, driven, below.exchanges())
-}
-
-/// The summary of a made run.
-fn summed<S: LayerBelow>(
-    alloc: Global,
-    driven: &Driven,
-    below: &Recorder<S>,
-) -> Result<String, NoMemory>
-    ensures { IfOk result (λ text.
-        string_bytes text
-        ≡ summary_text (⟦<Recorder<S> as Tells>⟧.told below.now) (Some driven.now)) }
-{
-    let taken = below.exchanges().len();
-    summary_string(alloc, driven.entries.as_slice(), taken)
+    let taken = below.exchanges();
+    match what {
+        Written::Report => report_string(alloc, driven, taken),
+        Written::Summary => summary_string(alloc, driven.entries.as_slice(), taken.len()),
+    }
 }
 
 /// Steps that were driven, and the recorder that they were driven over.
@@ -324,7 +316,7 @@ struct Run<S> {
 }
 
 /// Drives the steps through a session over the recorder.
-fn run_steps<S: LayerBelow, G: IdSource>(
+fn drive_steps<S: LayerBelow, G: IdSource>(
     alloc: Global,
     steps: Steps,
     ids: &mut G,

@@ -2,28 +2,47 @@
 
 ghost use Rattle.std.specs.Prelude.{◌≡◌, ◌≤◌, ◌==◌, IfOk, IfSome};
 ghost use Rattle.std.specs.List.{slice_split};
-ghost use Rattle.txn_program.specs.LineWords.{between};
-ghost use Rattle.txn_program.specs.Words.{IsWithin, call_of, command_of, count_of, each, id_of, call_list_of, make_words, refusing_words, run_of, run_words, some_few};
+ghost use Rattle.txn_lines.specs.LineWords.{between};
+ghost use Rattle.txn_program.specs.Words.{AreSome, IsWithin, call_of, command_of, count_of, each, id_of, call_list_of, id_words, list_words, make_words, refusing_words, run_of, run_words, seed_words, some_few};
 
-use crate::cutting::cut_at;
-use crate::line_words::{is_text, number_of};
 use amqp_txn_types::{CallNumbers, Items, NoMemory, Text, TransactionId};
 use hex::FromHexError;
 use std::alloc::Global;
+use txn_lines::{cut_at, is_text, number_of};
 
 /// Ids, in order.
 pub type TransactionIds = Items<TransactionId>;
 
+/// The layer below over which a run is asked for.
+#[derive(Clone, Copy, Debug, PartialEq, Eq)]
+pub enum Layer {
+    /// `run`: a layer that takes everything.
+    Open,
+    /// `listen`: a session that is listened on, of which no link was accepted.
+    Listener,
+}
+
+/// The ids that declares draw.
+#[derive(Debug, Drop, PartialEq)]
+pub enum Ids {
+    /// `ID ID ..`: 1 to 64 ids of 16 octets each, of which the last one repeats.
+    Listed(TransactionIds),
+    /// `--seed N`: the version 4 uuids of the generator that this number seeds.
+    Seeded(u64),
+}
+
 /// What the words ask for.
 #[derive(Debug, Drop, PartialEq)]
 pub enum Command {
-    /// `run ID ID ..`: drives the steps of the input; declares draw these ids.
+    /// `run` or `listen`: drives the steps of the input.
     Run {
+        /// The layer below that the words ask for; a call does the same over every recorder.
+        layer: Layer,
         /// `--refuse LIST`: the numbers, from 1, of the incoming frame calls that the recorder
         /// refuses. Without it the recorder keeps the plan that it has.
         plan: Option<CallNumbers>,
-        /// 1 to 64 ids, of 16 octets each.
-        ids: TransactionIds,
+        /// The ids that declares draw.
+        ids: Ids,
     },
     /// `make N`: drives N made transactions, 1 to 20,000.
     Make(u32),
@@ -34,28 +53,35 @@ pub fn command_of(alloc: Global, words: &[Text]) -> Result<Option<Command>, NoMe
     ensures command { IfOk result (λ command. command ≡ command_of words.now) }
     ensures within { IfOk result IsWithin }
 {
-    match words {
-        [word, others @ ..] if is_text(word.as_str().as_bytes(), "run") => run_words(alloc, others),
-        [word, others @ ..] if is_text(word.as_str().as_bytes(), "make") => Ok(make_words(others)),
-        _ => Ok(None),
+    let [word, others @ ..] = words else {
+        return Ok(None);
+    };
+    let word = word.as_str().as_bytes();
+    if is_text(word, "run") {
+        run_words(alloc, Layer::Open, others)
+    } else if is_text(word, "listen") {
+        run_words(alloc, Layer::Listener, others)
+    } else if is_text(word, "make") {
+        Ok(make_words(others))
+    } else {
+        Ok(None)
     }
 }
 
-fn run_words(alloc: Global, words: &[Text]) -> Result<Option<Command>, NoMemory>
-    ensures command { IfOk result (λ command. command ≡ run_words words.now) }
+fn run_words(alloc: Global, layer: Layer, words: &[Text]) -> Result<Option<Command>, NoMemory>
+    ensures command { IfOk result (λ command. command ≡ run_words layer words.now) }
     ensures within { IfOk result IsWithin }
 {
     match words {
         [word, others @ ..] if is_text(word.as_str().as_bytes(), "--refuse") => {
-            refusing_words(alloc, others)
+            refusing_words(alloc, layer, others)
         }
-        [] => Ok(None),
-        _ => run_of(alloc, None, words),
+        _ => run_of(alloc, layer, None, words),
     }
 }
 
-fn refusing_words(alloc: Global, words: &[Text]) -> Result<Option<Command>, NoMemory>
-    ensures command { IfOk result (λ command. command ≡ refusing_words words.now) }
+fn refusing_words(alloc: Global, layer: Layer, words: &[Text]) -> Result<Option<Command>, NoMemory>
+    ensures command { IfOk result (λ command. command ≡ refusing_words layer words.now) }
     ensures within { IfOk result IsWithin }
 {
     let [word, others @ ..] = words else {
@@ -64,16 +90,53 @@ fn refusing_words(alloc: Global, words: &[Text]) -> Result<Option<Command>, NoMe
     let Some(plan) = call_list_of(alloc, word.as_str().as_bytes())? else {
         return Ok(None);
     };
-    run_of(alloc, Some(plan), others)
+    run_of(alloc, layer, Some(plan), others)
 }
 
 fn run_of(
     alloc: Global,
+    layer: Layer,
     plan: Option<CallNumbers>,
     words: &[Text],
 ) -> Result<Option<Command>, NoMemory>
-    ensures command { IfOk result (λ command. command ≡ run_of plan words.now) }
+    ensures command { IfOk result (λ command. command ≡ run_of layer plan words.now) }
     ensures within { IfOk result IsWithin }
+{
+    let Some(ids) = id_words(alloc, words)? else {
+        return Ok(None);
+    };
+    Ok(Some(Command::Run { layer, plan, ids }))
+}
+
+/// The ids that the words name: a seed's, or those of a list.
+fn id_words(alloc: Global, words: &[Text]) -> Result<Option<Ids>, NoMemory>
+    ensures ids { IfOk result (λ ids. ids ≡ id_words words.now) }
+    ensures some { IfOk result (λ ids. IfSome ids AreSome) }
+{
+    match words {
+        [word, others @ ..] if is_text(word.as_str().as_bytes(), "--seed") => {
+            Ok(seed_words(others))
+        }
+        _ => list_words(alloc, words),
+    }
+}
+
+fn seed_words(words: &[Text]) -> Option<Ids>
+    ensures ids { result ≡ seed_words words.now }
+    ensures some { IfSome result AreSome }
+{
+    let [word] = words else {
+        return None;
+    };
+    let Some(seed) = number_of(word.as_str().as_bytes(), u64::MAX) else {
+        return None;
+    };
+    Some(Ids::Seeded(seed))
+}
+
+fn list_words(alloc: Global, words: &[Text]) -> Result<Option<Ids>, NoMemory>
+    ensures ids { IfOk result (λ ids. ids ≡ list_words words.now) }
+    ensures some { IfOk result (λ ids. IfSome ids AreSome) }
 {
     let Some(ids) = ids_of(alloc, words)? else {
         return Ok(None);
@@ -81,7 +144,7 @@ fn run_of(
     if ids.is_empty() || ids.len() > 64 {
         return Ok(None);
     }
-    Ok(Some(Command::Run { plan, ids }))
+    Ok(Some(Ids::Listed(ids)))
 }
 
 fn make_words(words: &[Text]) -> Option<Command>

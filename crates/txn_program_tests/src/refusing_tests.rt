@@ -1,14 +1,11 @@
 //! Runs that are refused below or ended, and made runs.
 
-use crate::run_tests::{A, B, append_words, assert_run, ran};
-use amqp_acceptors::ControlLinkAcceptor;
-use amqp_below::{LayerBelow, PlainSession, Recorder, SureSink, SureSource};
-use amqp_listener::ListenerSession;
-use amqp_txn_types::{Begin, Binary, Handle, Items, NoMemory, OutgoingChannel, SessionState, Text};
+use crate::run_tests::{A, B, assert_run, ran};
+use amqp_below::SureSink;
+use amqp_txn_types::NoMemory;
 use std::alloc::{Alloc, Global};
 use std::process::Abort;
 use std::test::Fail;
-use txn_program::{run_commands, status};
 
 /// Two transactions of which the second is committed first: their lines, and what each is answered.
 const LINES: [(&str, &str); 8] = [
@@ -276,85 +273,6 @@ fn twenty_thousand_made_transactions_are_summed_up(rt: HostRuntime) -> Result<()
     let written = sink.as_slice() == text.as_bytes();
     drop(sink);
     assert_eq!(rt; status?, 0);
-    assert!(rt; written);
-    Ok(())
-}
-
-/// A session with no link, of which every handle may be used.
-fn plain_session(alloc: Global) -> PlainSession {
-    let begin = Begin {
-        remote_channel: None,
-        next_outgoing_id: 0,
-        incoming_window: 2048,
-        outgoing_window: 2048,
-        handle_max: Handle(u32::MAX),
-        offered_capabilities: None,
-        desired_capabilities: None,
-        properties: None,
-    };
-    PlainSession::new(alloc, OutgoingChannel(0), SessionState::Mapped, begin)
-}
-
-/// The status of a run over a fresh recorder.
-fn status_over<S: LayerBelow + Drop>(
-    alloc: Global,
-    words: &[Text],
-    below: Recorder<S>,
-    source: &mut SureSource,
-    sink: &mut SureSink,
-) -> u8 {
-    if !below.is_fresh() {
-        drop(below);
-        return status::USAGE;
-    }
-    let ran = run_commands(alloc, words, below, source, sink);
-    let ended = ran.status;
-    drop(ran);
-    ended
-}
-
-/// The status of a run over a recorder of this layer, and whether its text is that text.
-fn run_over<S: LayerBelow + Drop>(
-    alloc: Global,
-    below: S,
-    lines: &str,
-    text: &str,
-) -> Result<(u8, bool), NoMemory> {
-    let recorder = Recorder::new(alloc, below);
-    let mut source = SureSource::new(Binary::from_slice(alloc, lines.as_bytes())?);
-    let mut sink = SureSink::new(alloc);
-    let mut texts = Items::new(alloc);
-    let added = append_words(alloc, &mut texts, &["run", A]);
-    let status = status_over(alloc, texts.as_slice(), recorder, &mut source, &mut sink);
-    let written = sink.as_slice() == text.as_bytes();
-    drop(texts);
-    drop(source);
-    drop(sink);
-    added?;
-    Ok((status, written))
-}
-
-#[test]
-fn a_plain_session_refuses_an_unattached_handle(rt: HostRuntime) -> Result<(), Fail> {
-    let lines = "attach c 0\nflow -\ntransfer 4 7 true 61\n";
-    let text = "attached 0\nok\nstop unattached-handle\nhanded 0\ntaken flow - -\n";
-    let (status, written) = run_over(rt.alloc(), plain_session(rt.alloc()), lines, text)?;
-    assert_eq!(rt; status, 1);
-    assert!(rt; written);
-    Ok(())
-}
-
-/// A listener over such a session.
-fn listener_session(alloc: Global) -> ListenerSession<PlainSession> {
-    ListenerSession::new(alloc, plain_session(alloc), ControlLinkAcceptor::default())
-}
-
-#[test]
-fn what_a_listener_lets_pass_is_taken(rt: HostRuntime) -> Result<(), Fail> {
-    let lines = "flow 4 9\ntransfer 4 7 true 61\n";
-    let text = "ok\nok\nstop done\nhanded 0\ntaken flow 4 9\ntaken transfer 4 7 true - 61\n";
-    let (status, written) = run_over(rt.alloc(), listener_session(rt.alloc()), lines, text)?;
-    assert_eq!(rt; status, 0);
     assert!(rt; written);
     Ok(())
 }

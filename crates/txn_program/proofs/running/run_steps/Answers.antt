@@ -1,8 +1,26 @@
-use Rattle.std.proofs.Common.{rules, Some, refl, ◌∙◌}
-use Rattle.txn_program.proofs.Runs.{is_run}
+use Rattle.std.proofs.Common.{◌≡◌, Option, Some, None}
+use Rattle.std.specs.Prelude.{IsNone}
+use Rattle.txn_program.proofs.Endings.{quiet_run-ends, without_fault}
 use Rattle.txn_program.proofs.running.run_steps.Goals as goal
 
-pub returns-clause-record : goal.returns-clause-record
-returns-clause-record g c =
-    let drove = c.drive-driven.ensures in
-    rw c.into_below.ensures (is_run _ _ c.args.steps _ c.drive-driven.result (Some c.new-session.result.below.exchanges) (Some c.new-session.result.below.opened) (Some c.new-session.result.below.refused) (λ n. refl) (search rules) (search rules) (search rules) drove.legal drove.at drove.steps drove.drew.these drove.done drove.cause drove.taken drove.opened drove.refused)
+some_none : {A : Type 0} (o : Option A) (x : A) → o ≡ Some x → IsNone o → ⊥
+some_none None x is none = cc is
+some_none (Some y) x is none = cc none
+
+pub returns-clause-run : goal.returns-clause-run
+returns-clause-run g c =
+    let says = c.finished.ensures in
+    let drove = c.drive_steps-driven in
+    record {
+      status = rw says.driven says.status;
+      runs = rw (says.driven, says.below) drove.ensures.record;
+      untouched = λ none. absurd (some_none _ _ says.driven none);
+      rose = rw (says.driven, says.below) drove.ensures.rose;
+      completes =
+          rw (says.driven, says.below)
+          (λ quiet written. quiet_run-ends c.args.steps drove.result.driven c.finished.result.status _ _
+          drove.ensures.rose quiet drove.ensures.record.cause
+          (without_fault _ _ _ _ says.status written));
+      text = rw (says.driven, says.below) (says.written _ c.text_of-text.ensures);
+      entries = says.entries;
+    }

@@ -1,0 +1,2 @@
+pub mod Uuids
+pub mod Seeded

@@ -1,0 +1,4 @@
+pub mod Cutting
+pub mod LineWords
+pub mod Lines
+pub mod Reads

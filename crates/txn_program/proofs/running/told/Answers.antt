@@ -1,0 +1,16 @@
+use Rattle.std.proofs.Common.{refl}
+use Rattle.txn_program.proofs.Endings.{without_fault}
+use Rattle.txn_program.proofs.running.told.Goals as goal
+
+pub returns-clause-run : goal.returns-clause-run
+returns-clause-run g c =
+    let says = c.answered.ensures in
+    record {
+      status = says.status;
+      runs = rw says.driven tt;
+      untouched = λ none. rw says.below (record { taken = refl; opened = refl; refused = refl; refusals = refl });
+      rose = rw says.driven tt;
+      completes = λ quiet written. without_fault _ _ _ _ says.status written;
+      text = says.written;
+      entries = says.entries;
+    }
