@@ -7,3 +7,4 @@ pub mod Complete
 pub mod Running
 pub mod Keeping
 pub mod Calling
+pub mod Heard

@@ -1,5 +1,5 @@
 -- What a session keeps, and the record that it stands for.
-use Rattle.std.specs.Prelude.{ℕ, nat_eq, ◌≡◌, ◌<◌, ◌==◌, Bool, false, cond, Option, Some, None, List, [], ◌∷◌, ◌++◌, is_some, IfSome}
+use Rattle.std.specs.Prelude.{ℕ, nat_eq, ◌≡◌, ◌<◌, Bool, false, cond, Option, Some, None, List, [], ◌∷◌, ◌++◌, is_some, IfSome}
 use Rattle.std.specs.List.{list_any}
 use Rattle.std.specs.Map.{lookup}
 use Rattle.std.specs.Option.{option_map}

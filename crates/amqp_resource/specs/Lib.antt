@@ -8,6 +8,10 @@ pub mod Transacting
 pub mod Keeping
 pub mod Session
 pub mod Calls
+pub mod Opening
+pub mod Passing
+pub mod Hearing
+pub mod SessionLaws
 pub mod Drive
 pub use Rattle.amqp_record.specs.Entries
 pub use Rattle.amqp_record.specs.Links

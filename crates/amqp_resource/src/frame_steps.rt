@@ -7,6 +7,7 @@ ghost use Rattle.amqp_record.specs.declared.step.Step.TheVariants as steps;
 ghost use Rattle.amqp_txn_types.specs.Presumptive.{answered_under, presumed};
 ghost use Rattle.amqp_resource.specs.Draws.{is_kept};
 ghost use Rattle.amqp_resource.specs.Held.{SameHeld};
+ghost use Rattle.amqp_resource.specs.Opening.{OpensLink};
 ghost use Rattle.amqp_resource.specs.Posting.{Posted};
 ghost use Rattle.amqp_resource.specs.Keeping.{Fits, Keeps};
 ghost use Rattle.amqp_resource.specs.Steps.{StepDoes, StepCause, OnNoMemory, OnNoCall, nothing_drawn};
@@ -98,7 +99,7 @@ fn keep_copy(
 
 /// Keeps a copy of the frame under the id, and gives what it is answered at once; `None` where the
 /// id isn't live.
-fn keep_under(
+pub fn keep_under(
     live: &mut LiveIds,
     alloc: Global,
     frame: &Frame,
@@ -159,6 +160,32 @@ fn post_step<S: LayerBelow>(
     }
 }
 
+/// Opens a control link, where the layer below takes its attach; gives the link's number and the
+/// frames to be sent back. `None` where there is no room for the link, which is made first.
+pub fn open_control<S: LayerBelow>(
+    held: &mut Held,
+    below: &mut S,
+    alloc: Global,
+    attach: &Attach,
+) -> Option<Result<(u64, Frames), SessionInnerError>>
+    requires { held.old.opened < 2 ^ 64 - 1 }
+    ensures { MatchOption result (SameHeld held.old held.new × (below.new ≡ below.old))
+        (OpensLink S.told S.opening_gives held.old held.new below.old below.new attach.now) }
+{
+    let Ok(()) = held.links.reserve(1) else {
+        return None;
+    };
+    match below.on_control_attach(attach) {
+        Ok(frames) => {
+            let link = held.opened;
+            open_link(&mut held.links, alloc, link);
+            held.opened += 1;
+            Some(Ok((link, frames)))
+        }
+        Err(error) => Some(Err(error)),
+    }
+}
+
 /// An attach to a coordinator opens a control link.
 fn attach_step<S: LayerBelow>(
     held: &mut Held,
@@ -181,23 +208,18 @@ fn attach_step<S: LayerBelow>(
     ensures later { (S.told below.old).refusals ≤ (S.told below.new).refusals }
     ensures draws { IfOk result (λ out. out.0 ≡ nothing_drawn) }
 {
-    let Ok(()) = held.links.reserve(1) else {
+    let Some(opened) = open_control(held, below, alloc, attach) else {
         return Err(StepError::NoMemory);
     };
-    match below.on_control_attach(attach) {
-        Ok(frames) => {
-            let link = held.opened;
-            open_link(&mut held.links, alloc, link);
-            held.opened += 1;
-            Ok((no_draws(alloc), Reply::Attached { link, frames }))
-        }
+    match opened {
+        Ok((link, frames)) => Ok((no_draws(alloc), Reply::Attached { link, frames })),
         Err(error) => Ok((no_draws(alloc), Reply::AttachRefused(error))),
     }
 }
 
 /// The attach of a frame that opens a control link.
 #[tactic(auto, unfolding(amqp_txn_types::specs::Frames::is_coordinator_attach))]
-fn control_attach_of(frame: &Frame) -> Option<&Attach>
+pub fn control_attach_of(frame: &Frame) -> Option<&Attach>
     ensures { MatchOption result (is_coordinator_attach frame.now ≡ false)
         (λ attach. (frame.now ≡ frames.Attach attach.now)
         × (attaches_coordinator attach.now ≡ true)) }

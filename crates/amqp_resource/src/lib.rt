@@ -13,7 +13,9 @@
 //!
 //! [`drive`] makes a list of steps on a fresh session, and gives its entries and why it stopped.
 //! A session also has the calls of `HandleDeclare` and `HandleDischarge`: an id that they allocate
-//! is declared on no link, and only they discharge it.
+//! is declared on no link, and only they discharge it. Over a session it is a session, which an
+//! engine can run: frames under a live id are kept, plain ones go below, an attach to a coordinator
+//! opens a control link ([`HandleControlLink`]), and every other call is that of the session below.
 //!
 //! Below stand the types, the codec of control messages, the traits of the outside, the
 //! coordinator, which asks a session by these calls, and the record with its definitions, which
@@ -25,12 +27,14 @@
 #![tactic(auto)]
 
 mod acting;
+mod as_session;
 mod committing;
 mod declaring;
 mod discharging;
 mod driving;
 mod ending;
 mod frame_steps;
+mod hearing;
 mod held;
 mod link_steps;
 mod outcomes;
@@ -46,5 +50,6 @@ pub use amqp_record::{
     Drawn16, Driven, Entries, Entry, RejectText, Reply, Step, StepError, Steps, Stop, StopCode,
     commits, hands, home, is_answer, is_legal, is_live, is_open, work,
 };
+pub use as_session::HandleControlLink;
 pub use driving::drive;
 pub use session::TxnSession;

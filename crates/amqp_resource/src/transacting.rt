@@ -20,7 +20,7 @@ use amqp_sessions::{AllocTxnIdError, CommitFault, HandleDeclare, HandleDischarge
 use amqp_txn_types::{Accepted, TransactionError, TransactionId, refuse};
 
 /// Counts a refusal of a call, and answers it.
-fn refuse_call<T, E>(refusals: &mut u64, error: E) -> Result<T, E>
+pub fn refuse_call<T, E>(refusals: &mut u64, error: E) -> Result<T, E>
     ensures count { refusals.new ≡ one_more refusals.old }
     ensures later { refusals.old ≤ refusals.new }
     ensures answer { result ≡ Err error }
