@@ -1,16 +1,19 @@
 //! The program: its words, standard input and standard output around the top call.
 //!
-//! It reads the words, calls `run_command` over a recorder that takes everything, with standard
-//! input and standard output as its source and its sink, and ends with the status.
+//! It reads the words, calls `run_command` over a recorder of the layer that they ask for, with
+//! standard input and standard output as its source and its sink, and ends with the status.
 #![tactic(auto)]
 
 ghost use Rattle.std.specs.Prelude.{IfOk};
+ghost use Rattle.amqp_recorder.specs.Recording.{IsFresh, is_unused};
 ghost use Rattle.txn_program.specs.Words.{IsWithin};
 
+mod below;
 mod fault;
 
+use crate::below::{Below, below_of, layer_of};
 use crate::fault::{Fault, exit_of};
-use amqp_below::{OpenSession, Recorder};
+use amqp_below::{LayerBelow, Recorder, Tells};
 use amqp_txn_types::{Items, Text};
 use std::alloc::{Alloc, Global};
 use std::env::{self, Env};
@@ -41,16 +44,30 @@ fn command(rt: &(impl Env + Alloc<A = Global>)) -> Result<Option<Command>, Fault
     Ok(command_of(rt.alloc(), words.as_slice())?)
 }
 
-/// What the program does, with the status of the run. The record isn't taken apart at the end: the
-/// process gives all its memory back at once.
+/// What the program does, with the status of the run.
 fn serve(rt: &(impl Env + Input + Print + Alloc<A = Global>)) -> Result<u8, Fault> {
-    let alloc = rt.alloc();
     let command = command(rt)?;
+    match below_of(rt.alloc(), layer_of(&command)) {
+        Below::Open(below) => Ok(serve_over(rt, command, below)),
+        Below::Listener(below) => Ok(serve_over(rt, command, below)),
+    }
+}
+
+/// What the program does for a command over a recorder, with the status of the run. The record
+/// isn't taken apart at the end: the process gives all its memory back at once.
+fn serve_over<S: LayerBelow + Send + Drop>(
+    rt: &(impl Input + Print + Alloc<A = Global>),
+    command: Option<Command>,
+    below: Recorder<S>,
+) -> u8
+    requires fresh { IsFresh (is_unused below) (⟦<Recorder<S> as Tells>⟧.told below) }
+    requires within { IsWithin command }
+{
     let mut input = StdSource::new(rt.reader());
     let mut output = StdSink::new(io::writer(rt));
-    let below = Recorder::new(alloc, OpenSession::new(alloc));
+    let alloc = rt.alloc();
     let ran = ManuallyDrop::new(run_command(alloc, command, below, &mut input, &mut output));
-    Ok(ran.status)
+    ran.status
 }
 
 /// Writes the text of a fault. The answer is the fault that the process ends with.

@@ -1,0 +1,48 @@
+-- The layer below a run.
+use Rattle.std.specs.Prelude.{◌≡◌, Option, Some, None, [], false}
+use Rattle.amqp_txn_types.specs.declared.small.InputHandle.{InputHandle}
+use Rattle.amqp_txn_types.specs.declared.small.SessionState.TheVariants as states
+use Rattle.amqp_layer.specs.Told.{Told}
+use Rattle.amqp_layer.specs.declared.open.OpenSession.{OpenSession}
+use Rattle.amqp_sessions.specs.declared.plain_session.PlainSession.{PlainSession}
+use Rattle.amqp_recorder.specs.Recording.{IsFresh, inner_of, is_unused}
+use Rattle.amqp_recorder.specs.declared.recorder.Recorder.{Recorder}
+use Rattle.amqp_acceptors.specs.Fields.{default_shared}
+use Rattle.amqp_acceptors.specs.Receivers.{IsDefaultReceiver}
+use Rattle.amqp_listener.specs.Listening.{control_of, held_of, inner_of as session_of, own_of, queue_of}
+use Rattle.amqp_listener.specs.declared.listener.ListenerSession.{ListenerSession}
+use Rattle.amqp_session_builder.specs.Builders.{IsNew, begin_built, default_builder}
+use Rattle.txn_program.specs.declared.words.Command.{Command}
+use Rattle.txn_program.specs.declared.words.Command.TheVariants as commands
+use Rattle.txn_program.specs.declared.words.Layer.{Layer}
+use Rattle.txn_program.specs.declared.words.Layer.TheVariants as layers
+use Rattle.txn_main.specs.declared.below.Below.{Below}
+use Rattle.txn_main.specs.declared.below.Below.TheVariants as belows
+
+-- the layer that the words ask for
+abbrev pub layer_of : Option Command → Layer
+layer_of (Some (commands.Run layer plan ids)) = layer
+layer_of (Some (commands.Make count)) = layers.Open
+layer_of None = layers.Open
+
+-- a Mapped session of the default builder that is listened on, with the default acceptor for
+-- control links, of which nothing has come
+pub record IsNewListener (listener : ListenerSession PlainSession) : Type 0 where
+  pub session : IsNew (session_of listener) (record { 0 = 0 }) states.Mapped
+      (begin_built default_builder)
+  pub shared : (control_of listener).shared ≡ default_shared
+  pub receiver : IsDefaultReceiver (control_of listener).receiver
+  pub queue : queue_of listener ≡ record { waiting = []; closed = false }
+  pub held : (input : InputHandle) → held_of listener input ≡ []
+  pub own : own_of listener ≡ 0
+
+-- a fresh recorder over the layer that is asked for, of which these two say what each
+-- tells
+abbrev pub IsOver : (Recorder OpenSession → Told) → (Recorder (ListenerSession PlainSession) → Told)
+    → Layer → Below → Type 0
+IsOver open_told listener_told layers.Open (belows.Open below) =
+    IsFresh (is_unused below) (open_told below)
+IsOver open_told listener_told layers.Open (belows.Listener below) = ⊥
+IsOver open_told listener_told layers.Listener (belows.Open below) = ⊥
+IsOver open_told listener_told layers.Listener (belows.Listener below) =
+    IsFresh (is_unused below) (listener_told below) × IsNewListener (inner_of below)

@@ -1,0 +1,50 @@
+//! The layer below a run: one that takes everything, or a session that is listened on.
+
+ghost use Rattle.std.specs.Prelude.{◌≡◌};
+ghost use Rattle.txn_main.specs.Layers.{IsNewListener, IsOver, layer_of};
+
+use amqp_acceptors::ControlLinkAcceptor;
+use amqp_below::{OpenSession, PlainSession, Recorder, Tells};
+use amqp_listener::ListenerSession;
+use amqp_session_builder::Builder;
+use amqp_txn_types::{OutgoingChannel, SessionState};
+use std::alloc::Global;
+use txn_program::{Command, Layer};
+
+/// A recorder over one of the two layers.
+pub enum Below {
+    /// Over a layer that takes everything.
+    Open(Recorder<OpenSession>),
+    /// Over a session that is listened on.
+    Listener(Recorder<ListenerSession<PlainSession>>),
+}
+
+/// The layer that a command asks for: `listen` a listener, and every other the open one.
+pub fn layer_of(command: &Option<Command>) -> Layer
+    ensures { result ≡ layer_of command.now }
+{
+    match command {
+        Some(Command::Run { layer, .. }) => *layer,
+        _ => Layer::Open,
+    }
+}
+
+/// A fresh recorder over that layer. It takes no memory.
+pub fn below_of(alloc: Global, layer: Layer) -> Below
+    ensures { IsOver ⟦<Recorder<OpenSession> as Tells>⟧.told
+        ⟦<Recorder<ListenerSession<PlainSession>> as Tells>⟧.told layer result }
+{
+    match layer {
+        Layer::Open => Below::Open(Recorder::new(alloc, OpenSession::new(alloc))),
+        Layer::Listener => Below::Listener(Recorder::new(alloc, listener(alloc))),
+    }
+}
+
+/// A listener over a Mapped session of the default builder, with the default acceptor for control
+/// links.
+fn listener(alloc: Global) -> ListenerSession<PlainSession>
+    ensures { IsNewListener result }
+{
+    let session = Builder::new().into_session(alloc, OutgoingChannel(0), SessionState::Mapped);
+    ListenerSession::new(alloc, session, ControlLinkAcceptor::default())
+}
