@@ -72,6 +72,26 @@ fn a_later_read_that_fails_is_a_read_fault(rt: HostRuntime) -> Result<(), Fail> 
     Ok(())
 }
 
+/// How a run of a thousand flows ends, whose octets come in two pieces, where that read fails.
+fn flows_end(alloc: Global, read: u64, text: &str) -> Result<(u8, bool), NoMemory> {
+    let mut lines = Vec::new(alloc);
+    for _ in 0..1000u32 {
+        lines.extend_from_slice(b"flow -\n")?;
+    }
+    let ended = ends_so(alloc, lines.as_slice(), read, 0, text);
+    drop(lines);
+    ended
+}
+
+#[test]
+fn each_read_of_a_long_input_may_fail(rt: HostRuntime) -> Result<(), Fail> {
+    for read in 1..4u64 {
+        assert_eq!(rt; flows_end(rt.alloc(), read, "read fault\n")?, (4, true));
+    }
+    assert_eq!(rt; flows_end(rt.alloc(), 4, "read fault\n")?, (0, false));
+    Ok(())
+}
+
 #[test]
 fn a_sink_that_fails_is_a_write_fault(rt: HostRuntime) -> Result<(), Fail> {
     assert_eq!(rt; ends_so(rt.alloc(), b"", 0, 1, "")?, (5, true));
