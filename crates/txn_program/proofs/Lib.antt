@@ -5,5 +5,4 @@ pub mod Midway
 pub mod MadeRuns
 pub mod Endings
 pub mod Runs
-pub mod Serving
 pub mod Streaming
