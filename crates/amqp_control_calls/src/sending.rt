@@ -16,7 +16,8 @@ pub(crate) fn send_control<L: SenderLink>(
     link: &mut L,
     message: &ControlMessageBody,
 ) -> Result<Sent, ControllerSendError>
-    ensures sends { SendsControl (OneSend L.send_gives L.told) link.old link.new message.now result }
+    ensures sends { SendsControl (OneSend L.send_gives L.told) link.old link.new message.now
+        result }
     ensures later { (L.told link.old).faults ≤ (L.told link.new).faults }
     ensures cause { UnsentByFault result (L.told link.old) (L.told link.new) }
     ensures unsettled { IfOk result (λ sent. sent ≡ sendings.Unsettled

@@ -41,7 +41,8 @@
 #![tactic(auto)]
 
 pub use amqp_acquisition::{
-    AcquisitionDischarging, TransactionAcquisition, TransactionExt, TxnAcquisition,
+    AcquisitionDischarging, TransactionAcquisition, TransactionExt, TxnAcquisition, TxnIdKey,
+    acquire_on_link, clean_up_on_link,
 };
 pub use amqp_control_calls::{
     Abandoned, ControllerSendError, DeclareOnLink, DischargeOnLink, TransactionBase,
