@@ -5,7 +5,7 @@ use Rattle.amqp_txn_types.specs.declared.small.SessionState.TheVariants as state
 use Rattle.amqp_layer.specs.Told.{Told}
 use Rattle.amqp_layer.specs.declared.open.OpenSession.{OpenSession}
 use Rattle.amqp_sessions.specs.declared.plain_session.PlainSession.{PlainSession}
-use Rattle.amqp_recorder.specs.Recording.{IsFresh, inner_of, is_unused}
+use Rattle.amqp_recorder.specs.Recording.{IsFresh, inner_of, is_unused, own_of as refused_by, plan_of}
 use Rattle.amqp_recorder.specs.declared.recorder.Recorder.{Recorder}
 use Rattle.amqp_acceptors.specs.Fields.{default_shared}
 use Rattle.amqp_acceptors.specs.Receivers.{IsDefaultReceiver}
@@ -36,13 +36,17 @@ pub record IsNewListener (listener : ListenerSession PlainSession) : Type 0 wher
   pub held : (input : InputHandle) → held_of listener input ≡ []
   pub own : own_of listener ≡ 0
 
--- a fresh recorder over the layer that is asked for, of which these two say what each
--- tells
+-- a fresh recorder that refuses nothing by a plan and has refused nothing
+abbrev pub IsNewRecorder : {S : Type 0} → Told → Recorder S → Type 0
+IsNewRecorder told below =
+    IsFresh (is_unused below) told × (plan_of below ≡ []) × (refused_by below ≡ 0)
+
+-- a new recorder over the layer that is asked for, of which these two say what each tells
 abbrev pub IsOver : (Recorder OpenSession → Told) → (Recorder (ListenerSession PlainSession) → Told)
     → Layer → Below → Type 0
 IsOver open_told listener_told layers.Open (belows.Open below) =
-    IsFresh (is_unused below) (open_told below)
+    IsNewRecorder (open_told below) below
 IsOver open_told listener_told layers.Open (belows.Listener below) = ⊥
 IsOver open_told listener_told layers.Listener (belows.Open below) = ⊥
 IsOver open_told listener_told layers.Listener (belows.Listener below) =
-    IsFresh (is_unused below) (listener_told below) × IsNewListener (inner_of below)
+    IsNewRecorder (listener_told below) below × IsNewListener (inner_of below)

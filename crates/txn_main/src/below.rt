@@ -20,7 +20,7 @@ pub enum Below {
 }
 
 /// The layer that a command asks for: `listen` a listener, and every other the open one.
-pub fn layer_of(command: &Option<Command>) -> Layer
+fn layer_of(command: &Option<Command>) -> Layer
     ensures { result ≡ layer_of command.now }
 {
     match command {
@@ -29,12 +29,12 @@ pub fn layer_of(command: &Option<Command>) -> Layer
     }
 }
 
-/// A fresh recorder over that layer. It takes no memory.
-pub fn below_of(alloc: Global, layer: Layer) -> Below
+/// A new recorder over the layer that a command asks for. It takes no memory.
+pub fn below_of(alloc: Global, command: &Option<Command>) -> Below
     ensures { IsOver ⟦<Recorder<OpenSession> as Tells>⟧.told
-        ⟦<Recorder<ListenerSession<PlainSession>> as Tells>⟧.told layer result }
+        ⟦<Recorder<ListenerSession<PlainSession>> as Tells>⟧.told (layer_of command.now) result }
 {
-    match layer {
+    match layer_of(command) {
         Layer::Open => Below::Open(Recorder::new(alloc, OpenSession::new(alloc))),
         Layer::Listener => Below::Listener(Recorder::new(alloc, listener(alloc))),
     }

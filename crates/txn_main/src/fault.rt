@@ -2,7 +2,7 @@
 
 ghost use Rattle.std.specs.Prelude.{◌≡◌};
 ghost use Rattle.std.specs.Process.{exit_status};
-ghost use Rattle.txn_main.specs.Ending.{fault_status, process_status};
+ghost use Rattle.txn_main.specs.Ending.{fault_status, fault_text, process_status};
 
 use amqp_txn_types::NoMemory;
 use std::process::ExitCode;
@@ -27,7 +27,9 @@ impl From<NoMemory> for Fault {
 
 impl Fault {
     /// What standard output is told, as far as it can be.
-    pub fn text(self) -> &'static str {
+    pub fn text(self) -> &'static str
+        ensures { result.now ≡ fault_text self }
+    {
         match self {
             Fault::Words => "usage\n",
             Fault::Write | Fault::NoMemory => "",

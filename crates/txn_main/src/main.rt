@@ -11,7 +11,7 @@ ghost use Rattle.txn_program.specs.Words.{IsWithin};
 mod below;
 mod fault;
 
-use crate::below::{Below, below_of, layer_of};
+use crate::below::{Below, below_of};
 use crate::fault::{Fault, exit_of};
 use amqp_below::{LayerBelow, Recorder, Tells};
 use amqp_txn_types::{Items, Text};
@@ -47,7 +47,7 @@ fn command(rt: &(impl Env + Alloc<A = Global>)) -> Result<Option<Command>, Fault
 /// What the program does, with the status of the run.
 fn serve(rt: &(impl Env + Input + Print + Alloc<A = Global>)) -> Result<u8, Fault> {
     let command = command(rt)?;
-    match below_of(rt.alloc(), layer_of(&command)) {
+    match below_of(rt.alloc(), &command) {
         Below::Open(below) => Ok(serve_over(rt, command, below)),
         Below::Listener(below) => Ok(serve_over(rt, command, below)),
     }
