@@ -1,0 +1,142 @@
+//! What the tests are made of.
+
+use amqp_acceptors::ControlLinkAcceptor;
+use amqp_endpoints::{IncomingSession, MemoryConnection};
+use amqp_links::Poll;
+use amqp_session_acceptor::*;
+use amqp_sessions::BeginError;
+use amqp_txn_types::{
+    Attach, Begin, ConnectionStopReason, Coordinator, DeliveryState, Frame, Handle, Payload,
+    ReceiverSettleMode, Role, SenderSettleMode, TargetArchetype, Text, TransactionId,
+    TransactionalState, Transfer,
+};
+use std::alloc::Global;
+
+/// The peer's begin.
+fn begin() -> Begin {
+    Begin {
+        remote_channel: None,
+        next_outgoing_id: 0,
+        incoming_window: 2,
+        outgoing_window: 2,
+        handle_max: Handle(7),
+        offered_capabilities: None,
+        desired_capabilities: None,
+        properties: None,
+    }
+}
+
+/// A session that the peer began on its channel 3.
+pub fn incoming() -> IncomingSession {
+    IncomingSession {
+        channel: 3,
+        begin: begin(),
+    }
+}
+
+/// A connection with one channel, on which so many sessions wait.
+pub fn connection(alloc: Global, count: u8) -> MemoryConnection {
+    let mut connection = MemoryConnection::new(alloc, 0);
+    for _turn in 0..count {
+        drop(connection.push_session(incoming()));
+    }
+    connection
+}
+
+/// The same, stopped by the peer.
+pub fn stopped_connection(alloc: Global, count: u8) -> MemoryConnection {
+    let mut connection = connection(alloc, count);
+    connection.set_stop_reason(ConnectionStopReason::RemoteClosed);
+    connection
+}
+
+/// An acceptor that accepts control links.
+pub fn transactional() -> SessionAcceptor {
+    SessionAcceptor::builder()
+        .control_link_acceptor(ControlLinkAcceptor::default())
+        .build()
+}
+
+/// What an acceptor answers, in a word.
+pub fn word(answer: Poll<Result<(AcceptedSession, Begin), BeginError>>) -> &'static str {
+    match answer {
+        Poll::Pending => "pending",
+        Poll::Ready(Ok((session, begin))) => {
+            drop(begin);
+            kind(session)
+        }
+        Poll::Ready(Err(error)) => error_word(error),
+    }
+}
+
+fn kind(session: AcceptedSession) -> &'static str {
+    let found = match &session {
+        AcceptedSession::Plain(_) => "plain",
+        AcceptedSession::Transactional(_) => "transactional",
+    };
+    drop(session);
+    found
+}
+
+/// An error, in a word.
+pub fn error_word(error: BeginError) -> &'static str {
+    let found = match &error {
+        BeginError::ConnectionStopped(ConnectionStopReason::RemoteClosed) => "stopped by the peer",
+        BeginError::LocalChannelMaxReached => "no channel",
+        _ => "another error",
+    };
+    drop(error);
+    found
+}
+
+/// An attach with that name, handle and target.
+pub fn attach(name: Text, handle: u32, target: Option<TargetArchetype>) -> Attach {
+    Attach {
+        name,
+        handle: Handle(handle),
+        role: Role::Sender,
+        snd_settle_mode: SenderSettleMode::Mixed,
+        rcv_settle_mode: ReceiverSettleMode::First,
+        source: None,
+        target,
+        initial_delivery_count: None,
+        max_message_size: None,
+        offered_capabilities: None,
+        desired_capabilities: None,
+        properties: None,
+    }
+}
+
+/// An attach to a coordinator.
+pub fn control_attach(alloc: Global) -> Attach {
+    let coordinator = TargetArchetype::Coordinator(Coordinator { capabilities: None });
+    attach(Text::new(alloc), 0, Some(coordinator))
+}
+
+/// The state of what is under the id.
+pub fn under(txn_id: TransactionId) -> Option<DeliveryState> {
+    Some(DeliveryState::TransactionalState(TransactionalState {
+        txn_id,
+        outcome: None,
+    }))
+}
+
+/// An unsettled transfer of a delivery on a handle that no link has.
+pub fn transfer(state: Option<DeliveryState>) -> Frame {
+    Frame::Transfer {
+        transfer: Transfer {
+            handle: Handle(5),
+            delivery_id: Some(7),
+            delivery_tag: None,
+            message_format: None,
+            settled: None,
+            more: false,
+            rcv_settle_mode: None,
+            state,
+            resume: false,
+            aborted: false,
+            batchable: false,
+        },
+        payload: Payload::new(),
+    }
+}
