@@ -47,7 +47,7 @@ kept_none f old id none empty t =
 
 -- ---- ids opened and ended
 
-none_in : {X : Type 0} (o : Option X) → is_some o ≡ false → o ≡ None
+pub none_in : {X : Type 0} (o : Option X) → is_some o ≡ false → o ≡ None
 none_in None e = refl
 none_in (Some x) e = cc
 
@@ -85,7 +85,7 @@ kept_ended old new id none u t =
     ∙ dropped (same_id t id) (lookup (same_id t) old)
     ∙ as_it_was (same_id t id) [] (places_kept old t) (λ s. sym (kept_same old t id s ∙ none))
 
-found_unless : {X : Type 0} (b : Bool) (o : Option X) → is_some (cond b None o) ≡ cond b false (is_some o)
+pub found_unless : {X : Type 0} (b : Bool) (o : Option X) → is_some (cond b None o) ≡ cond b false (is_some o)
 found_unless true o = refl
 found_unless false o = refl
 

@@ -3,3 +3,5 @@ pub mod Kept
 pub mod Placed
 pub mod Closing
 pub mod Frames
+pub mod Live
+pub mod Counting

@@ -29,10 +29,12 @@
 mod answering;
 mod cell;
 mod index;
+mod live_work;
 mod log;
 mod looks;
 
 pub use answering::presumptive;
 pub use cell::Cell;
+pub use live_work::LiveWork;
 pub use log::ArrivalLog;
 pub use looks::Looks;

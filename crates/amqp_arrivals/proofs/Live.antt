@@ -1,0 +1,225 @@
+-- What is kept for the live ids, after one change.
+use Rattle.std.proofs.Common.{◌≡◌, ◌||◌, ℕ, Bool, true, false, cond, Option, Some, None, List, [], ◌∷◌, ◌++◌, length, refl, sym, ap, subst, ◌∙◌, append-nil, Result, Ok, Err}
+use Rattle.std.specs.Prelude.{is_some, IfErr, OnOk, OnSome}
+use Rattle.std.specs.List.{IsDistinct, cons_option, list_any}
+use Rattle.std.specs.Map.{keys_of, lookup}
+use Rattle.std.specs.Option.{option_map}
+use Rattle.std.specs.Cmp.Lexicographic.{same_text, nat_list_eq_equiv}
+use Rattle.std.proofs.lemmas.List.Elements.{filter_map-append}
+use Rattle.std.proofs.lemmas.List.Folds.{list_any-append}
+use Rattle.amqp_txn_types.specs.declared.id.TransactionId.{TransactionId}
+use Rattle.amqp_txn_types.specs.declared.frames.TxnWorkFrame.{TxnWorkFrame}
+use Rattle.amqp_txn_types.specs.declared.performatives.Frame.{Frame}
+use Rattle.amqp_txn_types.specs.Ids.{same_id}
+use Rattle.amqp_txn_types.specs.Works.{frame_of_work}
+use Rattle.amqp_arrivals.specs.declared.cell.Cell.{Cell}
+use Rattle.amqp_arrivals.specs.declared.cell.Cell.TheVariants as cells
+use Rattle.amqp_arrivals.specs.Cells.{Log, OthersStay, after_taken, frame_under, frames_in, frames_of, is_opened, with_arrival}
+use Rattle.amqp_arrivals.specs.Live.{Agrees, Homes, Kept, Live, before_taken, frames_kept, home_of, kept, with_frame}
+use Rattle.amqp_arrivals.proofs.Kept.{found_unless}
+
+-- what is kept for an id with these frames, where it has a link
+abbrev pub paired : Option (Option ℕ) → List Frame → Option Kept
+paired o fs = option_map (λ home. (home, fs)) o
+
+-- ---- one id looked up
+
+pub is_kept : (fs : List Frame) (o : Option (Option ℕ)) → is_some o ≡ is_some (paired o fs)
+is_kept fs None = refl
+is_kept fs (Some home) = refl
+
+pub home_kept : (fs : List Frame) (o : Option (Option ℕ)) → o ≡ option_map home_of (paired o fs)
+home_kept fs None = refl
+home_kept fs (Some home) = refl
+
+frames_paired : (fs : List Frame) (o : Option (Option ℕ)) → (o ≡ None → fs ≡ []) → fs ≡ frames_kept (paired o fs)
+frames_paired fs None e = e refl
+frames_paired fs (Some home) e = refl
+
+pub frames_are : (homes : Homes) (log : Log) → Agrees homes log → (t : TransactionId) → frames_of log t ≡ frames_kept (paired (lookup (same_id t) homes) (frames_of log t))
+frames_are homes log agrees t = frames_paired (frames_of log t) (lookup (same_id t) homes) (agrees.none t)
+
+-- ---- no id is live
+
+no_pair : (one : Kept) → Some one ≡ None → ⊥
+no_pair one e = cc
+
+pub none_kept : (homes : Homes) (log : Log) → length homes ≡ 0 → (t : TransactionId) → paired (lookup (same_id t) homes) (frames_of log t) ≡ None
+none_kept [] log e t = refl
+none_kept (home ∷ homes) log e t = cc
+
+pub no_homes : (homes : Homes) (log : Log) → ((t : TransactionId) → paired (lookup (same_id t) homes) (frames_of log t) ≡ None) → length homes ≡ 0
+no_homes [] log none = refl
+no_homes (home ∷ homes) log none = absurd (no_pair (home.1, frames_of log home.0) (sym here ∙ none home.0))
+  where
+    here : paired (lookup (same_id home.0) (home ∷ homes)) (frames_of log home.0) ≡ Some (home.1, frames_of log home.0)
+    here = ap (λ b. paired (cond b (Some home.1) (lookup (same_id home.0) homes)) (frames_of log home.0)) (nat_list_eq_equiv.refl home.0)
+
+pub agrees_new : (homes : Homes) (log : Log) → homes ≡ [] → log.cells ≡ [] → log.opened ≡ [] → IsDistinct same_id (keys_of homes) → Agrees homes log
+agrees_new homes log empty cells opened distinct = record {
+  same = λ t. ap (list_any (same_id t)) opened ∙ sym (ap (λ (hs : Homes). is_some (lookup (same_id t) hs)) empty);
+  none = λ t gone. ap (λ cs. frames_in cs t) cells;
+  distinct = distinct;
+}
+
+-- ---- an id added
+
+picked : (b : Bool) (home : Option ℕ) (o : Option (Option ℕ)) (fs : List Frame) → (b ≡ true → fs ≡ []) → paired (cond b (Some home) o) fs ≡ cond b (Some (home, [])) (paired o fs)
+picked true home o fs e = ap (λ (gs : List Frame). Some (home, gs)) (e refl)
+picked false home o fs e = refl
+
+pub kept_added : (old new : Homes) (before after : Log) (id : TransactionId) (home : Option ℕ) → ((t : TransactionId) → lookup (same_id t) new ≡ cond (same_id id t) (Some home) (lookup (same_id t) old)) → after.cells ≡ before.cells → frames_of after id ≡ [] → (t : TransactionId) → paired (lookup (same_id t) new) (frames_of after t) ≡ cond (same_id t id) (Some (home, [])) (paired (lookup (same_id t) old) (frames_of before t))
+kept_added old new before after id home u cells fresh t =
+    ap (λ o. paired o (frames_of after t)) (u t ∙ ap (λ b. cond b (Some home) (lookup (same_id t) old)) (nat_list_eq_equiv.symm id t))
+    ∙ picked (same_id t id) home (lookup (same_id t) old) (frames_of after t) (λ s. ap (frames_of after) (same_text t id (sym s)) ∙ fresh)
+    ∙ ap (λ cs. cond (same_id t id) (Some (home, [])) (paired (lookup (same_id t) old) (frames_in cs t))) cells
+
+opened_one : (a b : Bool) → (a || (b || false)) ≡ cond b true a
+opened_one true true = refl
+opened_one true false = refl
+opened_one false true = refl
+opened_one false false = refl
+
+some_or : (b : Bool) (home : Option ℕ) (o : Option (Option ℕ)) → is_some (cond b (Some home) o) ≡ cond b true (is_some o)
+some_or true home o = refl
+some_or false home o = refl
+
+not_added : (b : Bool) (home : Option ℕ) (o : Option (Option ℕ)) → cond b (Some home) o ≡ None → o ≡ None
+not_added true home o e = cc
+not_added false home o e = e
+
+pub agrees_added : (old new : Homes) (before after : Log) (id : TransactionId) (home : Option ℕ) → Agrees old before → ((t : TransactionId) → lookup (same_id t) new ≡ cond (same_id id t) (Some home) (lookup (same_id t) old)) → after.cells ≡ before.cells → after.opened ≡ before.opened ++ id ∷ [] → IsDistinct same_id (keys_of new) → Agrees new after
+agrees_added old new before after id home agrees u cells opened distinct = record {
+  same = λ t.
+      ap (list_any (same_id t)) opened
+      ∙ list_any-append (same_id t) before.opened (id ∷ [])
+      ∙ opened_one (list_any (same_id t) before.opened) (same_id t id)
+      ∙ ap (cond (same_id t id) true) (agrees.same t)
+      ∙ sym (some_or (same_id t id) home (lookup (same_id t) old))
+      ∙ ap (λ b. is_some (cond b (Some home) (lookup (same_id t) old))) (nat_list_eq_equiv.symm t id)
+      ∙ sym (ap is_some (u t));
+  none = λ t gone. ap (λ cs. frames_in cs t) cells ∙ agrees.none t (not_added (same_id id t) home (lookup (same_id t) old) (sym (u t) ∙ gone));
+  distinct = distinct;
+}
+
+-- ---- work added
+
+arrived : (b : Bool) (f : Frame) (fs : List Frame) → fs ++ cons_option (cond b (Some f) None) [] ≡ cond b (fs ++ f ∷ []) fs
+arrived true f fs = refl
+arrived false f fs = append-nil fs
+
+frames_arrived : (t u : TransactionId) (w : TxnWorkFrame) (cs : List Cell) → frames_in (cs ++ cells.Live u w ∷ []) t ≡ cond (same_id t u) (frames_in cs t ++ frame_of_work w ∷ []) (frames_in cs t)
+frames_arrived t u w cs = filter_map-append (frame_under t) cs (cells.Live u w ∷ []) ∙ arrived (same_id t u) (frame_of_work w) (frames_in cs t)
+
+with_last : (b : Bool) (o : Option (Option ℕ)) (f : Frame) (fs : List Frame) → paired o (cond b (fs ++ f ∷ []) fs) ≡ cond b (with_frame (paired o fs) f) (paired o fs)
+with_last true None f fs = refl
+with_last true (Some home) f fs = refl
+with_last false o f fs = refl
+
+pub kept_more : (homes : Homes) (log : Log) (id : TransactionId) (w : TxnWorkFrame) (t : TransactionId) → paired (lookup (same_id t) homes) (frames_of (with_arrival log id w) t) ≡ cond (same_id t id) (with_frame (paired (lookup (same_id t) homes) (frames_of log t)) (frame_of_work w)) (paired (lookup (same_id t) homes) (frames_of log t))
+kept_more homes log id w t =
+    ap (paired (lookup (same_id t) homes)) (frames_arrived t id w log.cells)
+    ∙ with_last (same_id t id) (lookup (same_id t) homes) (frame_of_work w) (frames_of log t)
+
+-- an id that isn't live is another than one that is
+apart : (homes : Homes) (t id : TransactionId) → is_some (lookup (same_id id) homes) ≡ true → lookup (same_id t) homes ≡ None → same_id t id ≡ false
+apart homes t id live gone = by_case (same_id t id) refl
+  where
+    by_case : (b : Bool) → same_id t id ≡ b → b ≡ false
+    by_case false s = refl
+    by_case true s =
+        let gone_too : is_some (lookup (same_id id) homes) ≡ false = ap (λ v. is_some (lookup (same_id v) homes)) (sym (same_text t id (sym s))) ∙ ap is_some gone in
+        sym live ∙ gone_too
+
+pub agrees_more : (homes : Homes) (log : Log) (id : TransactionId) (w : TxnWorkFrame) → is_some (lookup (same_id id) homes) ≡ true → Agrees homes log → Agrees homes (with_arrival log id w)
+agrees_more homes log id w live agrees = record {
+  same = agrees.same;
+  none = λ t gone.
+      frames_arrived t id w log.cells
+      ∙ ap (λ b. cond b (frames_of log t ++ frame_of_work w ∷ []) (frames_of log t)) (apart homes t id live gone)
+      ∙ agrees.none t gone;
+  distinct = agrees.distinct;
+}
+
+-- it was added, or nothing changed
+pub agrees_kept : {T E : Type 0} (homes : Homes) (log new : Log) (id : TransactionId) (w : TxnWorkFrame) (P : E → Type 0) (result : Result T E) → is_some (lookup (same_id id) homes) ≡ true → Agrees homes log → OnOk result (new ≡ with_arrival log id w) → IfErr result (λ e. P e × (new ≡ log)) → Agrees homes new
+agrees_kept homes log new id w P (Ok x) live agrees ok err = subst (Agrees homes) (sym ok) (agrees_more homes log id w live agrees)
+agrees_kept homes log new id w P (Err e) live agrees ok err = subst (Agrees homes) (sym err.1) agrees
+
+pub kept_if : (homes : Homes) (log new : Log) (id : TransactionId) (w : TxnWorkFrame) (live : Live) → ((t : TransactionId) → paired (lookup (same_id t) homes) (frames_of log t) ≡ kept live t) → new ≡ with_arrival log id w → (t : TransactionId) → paired (lookup (same_id t) homes) (frames_of new t) ≡ cond (same_id t id) (with_frame (kept live t) (frame_of_work w)) (kept live t)
+kept_if homes log new id w live view e t =
+    ap (λ (l : Log). paired (lookup (same_id t) homes) (frames_of l t)) e
+    ∙ kept_more homes log id w t ∙ ap (λ k. cond (same_id t id) (with_frame k (frame_of_work w)) k) (view t)
+
+pub on_ok : {T E P Q : Type 0} (result : Result T E) → (P → Q) → OnOk result P → OnOk result Q
+on_ok (Ok x) f p = f p
+on_ok (Err e) f p = tt
+
+pub on_some : {T P Q : Type 0} (o : Option T) → (P → Q) → OnSome o P → OnSome o Q
+on_some (Some x) f p = f p
+on_some None f p = tt
+
+-- ---- the first work of an id taken
+
+put_back : (r : Option TxnWorkFrame) (o : Option (Option ℕ)) (fs gs : List Frame) → fs ≡ after_taken r gs → paired o fs ≡ before_taken r (paired o gs)
+put_back r None fs gs e = refl
+put_back r (Some home) fs gs e = ap (λ (hs : List Frame). Some (home, hs)) e
+
+taken_at : (old new : Log) (id t : TransactionId) (r : Option TxnWorkFrame) → frames_of old id ≡ after_taken r (frames_of new id) → same_id t id ≡ true → frames_of old t ≡ after_taken r (frames_of new t)
+taken_at old new id t r taken s = subst (λ v. frames_of old v ≡ after_taken r (frames_of new v)) (sym (same_text t id (sym s))) taken
+
+pub kept_taken : (homes : Homes) (old new : Log) (id : TransactionId) (r : Option TxnWorkFrame) → frames_of old id ≡ after_taken r (frames_of new id) → OthersStay id old new → (t : TransactionId) → paired (lookup (same_id t) homes) (frames_of old t) ≡ cond (same_id t id) (before_taken r (paired (lookup (same_id t) homes) (frames_of new t))) (paired (lookup (same_id t) homes) (frames_of new t))
+kept_taken homes old new id r taken others t = by_case (same_id t id) refl
+  where
+    by_case : (b : Bool) → same_id t id ≡ b → paired (lookup (same_id t) homes) (frames_of old t) ≡ cond b (before_taken r (paired (lookup (same_id t) homes) (frames_of new t))) (paired (lookup (same_id t) homes) (frames_of new t))
+    by_case true s = put_back r (lookup (same_id t) homes) (frames_of old t) (frames_of new t) (taken_at old new id t r taken s)
+    by_case false s = ap (paired (lookup (same_id t) homes)) (sym (others.frames t s))
+
+nothing_left : (r : Option TxnWorkFrame) (fs : List Frame) → after_taken r fs ≡ [] → fs ≡ []
+nothing_left None fs e = e
+nothing_left (Some w) fs e = cc
+
+pub agrees_taken : (homes : Homes) (old new : Log) (id : TransactionId) (r : Option TxnWorkFrame) → frames_of old id ≡ after_taken r (frames_of new id) → OthersStay id old new → Agrees homes old → Agrees homes new
+agrees_taken homes old new id r taken others agrees = record {
+  same = λ t. ap (list_any (same_id t)) others.opened ∙ agrees.same t;
+  none = λ t gone. by_case t gone (same_id t id) refl;
+  distinct = agrees.distinct;
+}
+  where
+    by_case : (t : TransactionId) → lookup (same_id t) homes ≡ None → (b : Bool) → same_id t id ≡ b → frames_of new t ≡ []
+    by_case t gone true s = nothing_left r (frames_of new t) (sym (taken_at old new id t r taken s) ∙ agrees.none t gone)
+    by_case t gone false s = others.frames t s ∙ agrees.none t gone
+
+-- ---- an id ended
+
+dropped : (b : Bool) (o : Option (Option ℕ)) (fs : List Frame) → paired (cond b None o) fs ≡ cond b None (paired o fs)
+dropped true o fs = refl
+dropped false o fs = refl
+
+pub kept_ended : (old new : Homes) (before after : Log) (id : TransactionId) → ((t : TransactionId) → lookup (same_id t) new ≡ cond (same_id id t) None (lookup (same_id t) old)) → after.cells ≡ before.cells → (t : TransactionId) → paired (lookup (same_id t) new) (frames_of after t) ≡ cond (same_id t id) None (paired (lookup (same_id t) old) (frames_of before t))
+kept_ended old new before after id u cells t =
+    ap (λ o. paired o (frames_of after t)) (u t ∙ ap (λ b. cond b None (lookup (same_id t) old)) (nat_list_eq_equiv.symm id t))
+    ∙ dropped (same_id t id) (lookup (same_id t) old) (frames_of after t)
+    ∙ ap (λ cs. cond (same_id t id) None (paired (lookup (same_id t) old) (frames_in cs t))) cells
+
+pub agrees_ended : (old new : Homes) (before after : Log) (id : TransactionId) → Agrees old before → ((t : TransactionId) → lookup (same_id t) new ≡ cond (same_id id t) None (lookup (same_id t) old)) → after.cells ≡ before.cells → ((t : TransactionId) → is_opened after t ≡ cond (same_id id t) false (is_opened before t)) → frames_of before id ≡ [] → IsDistinct same_id (keys_of new) → Agrees new after
+agrees_ended old new before after id agrees u cells opened empty distinct = record {
+  same = λ t.
+      opened t ∙ ap (cond (same_id id t) false) (agrees.same t)
+      ∙ sym (found_unless (same_id id t) (lookup (same_id t) old)) ∙ sym (ap is_some (u t));
+  none = λ t gone. ap (λ cs. frames_in cs t) cells ∙ by_case t (same_id id t) refl (sym (u t) ∙ gone);
+  distinct = distinct;
+}
+  where
+    by_case : (t : TransactionId) (b : Bool) → same_id id t ≡ b → cond b None (lookup (same_id t) old) ≡ None → frames_of before t ≡ []
+    by_case t true s e = ap (frames_of before) (sym (same_text id t (sym s))) ∙ empty
+    by_case t false s e = agrees.none t e
+
+-- ---- the log closed up
+
+pub agrees_settled : (homes : Homes) (old new : Log) → ((t : TransactionId) → frames_of new t ≡ frames_of old t) → new.opened ≡ old.opened → Agrees homes old → Agrees homes new
+agrees_settled homes old new frames opened agrees = record {
+  same = λ t. ap (list_any (same_id t)) opened ∙ agrees.same t;
+  none = λ t gone. frames t ∙ agrees.none t gone;
+  distinct = agrees.distinct;
+}

@@ -1,0 +1,16 @@
+use Rattle.std.proofs.Common.{◌≡◌, ◌+◌, false, length}
+use Rattle.amqp_txn_types.specs.declared.id.TransactionId.{TransactionId}
+use Rattle.amqp_txn_types.specs.Ids.{same_id}
+use Rattle.amqp_arrivals.specs.Live.{frame_count, frames_kept, kept, owed}
+use Rattle.amqp_arrivals.proofs.live_work.LiveWork.drop_all.Given as goal
+
+abbrev pub invariant-loop-work : goal.invariant-loop-work
+invariant-loop-work g l = record {
+  others : (t : TransactionId) → same_id t l.txn_id ≡ false → kept l.self t ≡ kept l.initial.self t;
+  looks : l.looks + length (frames_kept (kept l.self l.txn_id)) ≡ l.initial.looks + length (frames_kept (kept l.initial.self l.txn_id));
+  dead : owed l.self + length (frames_kept (kept l.self l.txn_id)) ≡ owed l.initial.self + length (frames_kept (kept l.initial.self l.txn_id));
+  frames : frame_count l.self + length (frames_kept (kept l.initial.self l.txn_id)) ≡ frame_count l.initial.self + length (frames_kept (kept l.self l.txn_id));
+}
+
+abbrev pub decreases-loop-work : goal.decreases-loop-work
+decreases-loop-work g l = length (frames_kept (kept l.self l.txn_id))

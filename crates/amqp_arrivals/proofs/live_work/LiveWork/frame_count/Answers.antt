@@ -1,0 +1,7 @@
+use Rattle.std.proofs.Common.{ap, ◌∙◌}
+use Rattle.amqp_arrivals.specs.Live.{frame_count}
+use Rattle.amqp_arrivals.proofs.Counting.{live_kept}
+use Rattle.amqp_arrivals.proofs.live_work.LiveWork.frame_count.Goals as goal
+
+pub returns : goal.returns
+returns c = c.live.ensures ∙ live_kept c.self.inside.homes.entries c.self.inside.log c.self.invariant ∙ ap frame_count c.self.view_is

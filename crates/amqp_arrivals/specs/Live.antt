@@ -1,0 +1,80 @@
+-- What is kept for the live ids: for each the link that declared it, if one did, and its frames.
+use Rattle.std.specs.Prelude.{ℕ, ◌≡◌, ◌<◌, ◌∷◌, ◌++◌, Option, Some, None, List, [], length, is_some}
+use Rattle.std.specs.List.{IsDistinct, sum_by}
+use Rattle.std.specs.Map.{keys_of, lookup}
+use Rattle.std.specs.Option.{option_map}
+use Rattle.amqp_txn_types.specs.declared.id.TransactionId.{TransactionId}
+use Rattle.amqp_txn_types.specs.declared.frames.TxnWorkFrame.{TxnWorkFrame}
+use Rattle.amqp_txn_types.specs.declared.performatives.Frame.{Frame}
+use Rattle.amqp_txn_types.specs.Ids.{same_id}
+use Rattle.amqp_arrivals.specs.Cells.{Log, after_taken, dead_count, frames_of, is_opened}
+
+-- the live ids, each with the link that it was declared on
+abbrev pub Homes : Type 0
+Homes = List (TransactionId × Option ℕ)
+
+-- the live ids, the log of their work, and how many more ids can be added without taking memory,
+-- as far as the homes go
+pub record Live : Type 0 where
+  pub homes : Homes
+  pub log : Log
+  pub room : ℕ
+
+-- ---- one id
+
+-- the link that declared an id, if one did, and its frames
+abbrev pub Kept : Type 0
+Kept = Option ℕ × List Frame
+
+-- what is kept for an id: nothing for one that isn't live
+abbrev pub kept : Live → TransactionId → Option Kept
+kept live t = option_map (λ home. (home, frames_of live.log t)) (lookup (same_id t) live.homes)
+
+-- the link of what is kept
+abbrev pub home_of : Kept → Option ℕ
+home_of one = one.0
+
+-- the frames of what is kept; none of an id that isn't live
+abbrev pub frames_kept : Option Kept → List Frame
+frames_kept None = []
+frames_kept (Some one) = one.1
+
+-- one frame more
+abbrev pub with_frame : Option Kept → Frame → Option Kept
+with_frame None frame = None
+with_frame (Some one) frame = Some (one.0, one.1 ++ frame ∷ [])
+
+-- what was kept before the work was taken, if any was
+abbrev pub before_taken : Option TxnWorkFrame → Option Kept → Option Kept
+before_taken taken None = None
+before_taken taken (Some one) = Some (one.0, after_taken taken one.1)
+
+-- ---- all ids
+
+-- the live ids
+abbrev pub live_ids : Live → List TransactionId
+live_ids live = keys_of live.homes
+
+-- how many frames are kept for the live ids, all together
+abbrev pub frame_count : Live → ℕ
+frame_count live = sum_by (λ t. length (frames_of live.log t)) (live_ids live)
+
+-- how many dead cells are yet to be taken out of the log
+abbrev pub owed : Live → ℕ
+owed live = dead_count live.log
+
+-- there is room for one more live id
+pub record HasPlace (live : Live) : Type 0 where
+  pub homes : 0 < live.room
+  pub log : 0 < live.log.room
+
+-- what is kept is as it was
+pub record SameKept (old new : Live) : Type 0 where
+  pub kept : (t : TransactionId) → kept new t ≡ kept old t
+  pub frames : frame_count new ≡ frame_count old
+
+-- the live ids are those that are opened in the log, each once, and nothing is kept for any other
+pub record Agrees (homes : Homes) (log : Log) : Type 0 where
+  pub same : (t : TransactionId) → is_opened log t ≡ is_some (lookup (same_id t) homes)
+  pub none : (t : TransactionId) → lookup (same_id t) homes ≡ None → frames_of log t ≡ []
+  pub distinct : IsDistinct same_id (keys_of homes)

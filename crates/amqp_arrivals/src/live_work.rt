@@ -1,0 +1,212 @@
+//! What is kept for the live ids, as one value.
+
+ghost use Rattle.std.specs.Prelude.{◌≡◌, ◌≤◌, ◌+◌, ◌↔◌, [], IsTrue, Some, None, cond, length, is_some, true, IfErr, IfNone, OnErr, OnOk, OnSome};
+ghost use Rattle.std.specs.Option.{option_map};
+ghost use Rattle.amqp_txn_types.specs.declared.id.TransactionId.{TransactionId as Id};
+ghost use Rattle.amqp_txn_types.specs.Ids.{same_id};
+ghost use Rattle.amqp_txn_types.specs.Works.{frame_of_work};
+ghost use Rattle.amqp_arrivals.specs.Cells.{after_taken};
+ghost use Rattle.amqp_arrivals.specs.Live.{HasPlace, SameKept, before_taken, frame_count, frames_kept, home_of, kept, live_ids, owed, with_frame};
+
+use crate::log::ArrivalLog;
+use crate::looks::Looks;
+use amqp_txn_types::{NoMemory, TransactionId, TxnWorkFrame};
+use indexmap::IndexMap;
+use std::alloc::Global;
+use std::marker::Model;
+use std::sync::ledger::Ledger;
+
+/// The live ids, each with the number of the control link that it was declared on (none for an id
+/// that the session allocated without a control message) and with its work in order of arrival.
+#[derive(Drop)]
+pub struct LiveWork {
+    log: ArrivalLog,
+    homes: IndexMap<TransactionId, Option<u64>>,
+}
+
+impl Model for LiveWork {
+    ghost use Rattle.std.specs.HashMap.{spare};
+    ghost use Rattle.amqp_arrivals.specs.Live.{Agrees, Live};
+
+    ghost Value = { Live };
+
+    ghost view = { λ work. record {
+      homes = work.homes.entries;
+      log = work.log;
+      room = spare work.homes;
+    } };
+
+    ghost invariant = { λ work. Agrees work.homes.entries work.log };
+}
+
+impl LiveWork {
+    /// No live id. It takes no memory; later growth takes it from `alloc`.
+    pub fn new(alloc: Global) -> Self
+        ensures kept { (t : Id) → kept result t ≡ None }
+        ensures owed { owed result ≡ 0 }
+        ensures frames { frame_count result ≡ 0 }
+    {
+        LiveWork {
+            log: ArrivalLog::new(alloc),
+            homes: IndexMap::new(alloc),
+        }
+    }
+
+    /// How many ids are live.
+    pub fn len(&self) -> usize
+        ensures { result ≡ length (live_ids self.now) }
+    {
+        self.homes.len()
+    }
+
+    /// Whether no id is live.
+    pub fn is_empty(&self) -> bool
+        ensures { IsTrue result ↔ ((t : Id) → kept self.now t ≡ None) }
+    {
+        self.homes.is_empty()
+    }
+
+    /// How many frames are kept for the live ids, all together.
+    pub fn frame_count(&self) -> usize
+        ensures { result ≡ frame_count self.now }
+    {
+        self.log.live()
+    }
+
+    /// How many dead cells are yet to be taken out of the log: the looks that are owed for frames
+    /// taken so far.
+    pub fn owed(&self) -> usize
+        ensures { result ≡ owed self.now }
+    {
+        self.log.dead()
+    }
+
+    /// Whether the id is live.
+    pub fn is_live(&self, txn_id: &TransactionId) -> bool
+        ensures { result ≡ is_some (kept self.now txn_id.now) }
+    {
+        self.homes.contains_key(txn_id)
+    }
+
+    /// The link that a live id was declared on, if it was on one; `None` where it isn't live.
+    pub fn home(&self, txn_id: &TransactionId) -> Option<Option<u64>>
+        ensures { result ≡ option_map home_of (kept self.now txn_id.now) }
+    {
+        self.homes.get(txn_id).copied()
+    }
+
+    /// How many frames are kept for the id: none where it isn't live.
+    pub fn count(&self, txn_id: &TransactionId) -> usize
+        ensures { result ≡ length (frames_kept (kept self.now txn_id.now)) }
+    {
+        self.log.count(txn_id)
+    }
+
+    /// Makes room for one more live id. The only error is want of memory.
+    pub fn make_room(&mut self) -> Result<(), NoMemory>
+        ensures same { SameKept self.old self.new }
+        ensures owed { owed self.new ≡ owed self.old }
+        ensures room { OnOk result (HasPlace self.new) }
+    {
+        match self.homes.reserve(1) {
+            Ok(()) => self.log.make_room(),
+            Err(_) => Err(NoMemory),
+        }
+    }
+
+    /// Adds an id without frames, for which there is room. It takes no memory.
+    pub fn add(&mut self, txn_id: TransactionId, home: Option<u64>)
+        requires room { HasPlace self.old }
+        requires unused { kept self.old txn_id ≡ None }
+        ensures kept { (t : Id) → kept self.new t ≡ cond (same_id t txn_id) (Some (home, []))
+            (kept self.old t) }
+        ensures owed { owed self.new ≡ owed self.old }
+        ensures frames { frame_count self.new ≡ frame_count self.old }
+    {
+        let Ok(_) = self.homes.insert(txn_id, home) else {
+            unreachable!()
+        };
+        let Ok(()) = self.log.open_id(txn_id) else {
+            unreachable!()
+        };
+    }
+
+    /// Keeps work for a live id, as its last. For want of memory, the only error, nothing changes
+    /// and the work comes back.
+    pub fn keep(
+        &mut self,
+        txn_id: &TransactionId,
+        work: TxnWorkFrame,
+    ) -> Result<(), (TxnWorkFrame, NoMemory)>
+        requires { is_some (kept self.old txn_id.now) ≡ true }
+        ensures ok { OnOk result ((t : Id) → kept self.new t ≡ cond (same_id t txn_id.now)
+            (with_frame (kept self.old t) (frame_of_work work)) (kept self.old t)) }
+        ensures frames { OnOk result (frame_count self.new ≡ frame_count self.old + 1) }
+        ensures owed { owed self.new ≡ owed self.old }
+        ensures err { IfErr result (λ unkept. (unkept.0 ≡ work) × (self.new ≡ self.old)) }
+    {
+        self.log.append(txn_id, work)
+    }
+
+    /// Takes the first work of an id out: one look, and one dead cell more. `None` where nothing is
+    /// kept for it, and then nothing changes. It takes no memory.
+    pub fn take_first<L: Ledger>(
+        &mut self,
+        txn_id: &TransactionId,
+        looks: &mut Looks<L>,
+    ) -> Option<TxnWorkFrame>
+        ensures kept { (t : Id) → kept self.old t ≡ cond (same_id t txn_id.now)
+            (before_taken result (kept self.new t)) (kept self.new t) }
+        ensures taken { frames_kept (kept self.old txn_id.now)
+            ≡ after_taken result (frames_kept (kept self.new txn_id.now)) }
+        ensures none { IfNone result ((frames_kept (kept self.old txn_id.now) ≡ [])
+            × (self.new ≡ self.old) × (looks.new ≡ looks.old)) }
+        ensures looks { OnSome result (looks.new ≡ looks.old + 1) }
+        ensures owed { OnSome result (owed self.new ≡ owed self.old + 1) }
+        ensures frames { OnSome result (frame_count self.new + 1 ≡ frame_count self.old) }
+    {
+        self.log.take_first(txn_id, looks)
+    }
+
+    /// Ends an id for which no frame is kept; nothing changes where it isn't live. It takes no
+    /// memory.
+    pub fn end(&mut self, txn_id: &TransactionId)
+        requires { frames_kept (kept self.old txn_id.now) ≡ [] }
+        ensures kept { (t : Id) → kept self.new t ≡ cond (same_id t txn_id.now) None
+            (kept self.old t) }
+        ensures owed { owed self.new ≡ owed self.old }
+        ensures frames { frame_count self.new ≡ frame_count self.old }
+    {
+        if self.homes.swap_remove(txn_id).is_some() {
+            self.log.end(txn_id);
+        }
+    }
+
+    /// Lets all that is kept for the id go, and ends it: one look, and one dead cell more, for each
+    /// of its frames. It takes no memory.
+    pub fn drop_all<L: Ledger>(&mut self, txn_id: &TransactionId, looks: &mut Looks<L>)
+        ensures kept { (t : Id) → kept self.new t ≡ cond (same_id t txn_id.now) None
+            (kept self.old t) }
+        ensures looks { looks.new
+            ≡ looks.old + length (frames_kept (kept self.old txn_id.now)) }
+        ensures owed { owed self.new
+            ≡ owed self.old + length (frames_kept (kept self.old txn_id.now)) }
+        ensures frames { frame_count self.new + length (frames_kept (kept self.old txn_id.now))
+            ≡ frame_count self.old }
+    {
+        while let Some(work) = self.take_first(txn_id, looks) {
+            drop(work);
+        }
+        self.end(txn_id);
+    }
+
+    /// Takes the dead cells out where they are more than the frames that are kept: one look for each
+    /// of these. It takes no memory.
+    pub fn settle<L: Ledger>(&mut self, looks: &mut Looks<L>)
+        ensures same { SameKept self.old self.new }
+        ensures few { owed self.new ≤ frame_count self.new }
+        ensures looks { looks.new + owed self.new ≤ looks.old + owed self.old }
+    {
+        self.log.settle(looks);
+    }
+}
