@@ -200,8 +200,8 @@ impl LiveWork {
         self.end(txn_id);
     }
 
-    /// Takes the dead cells out where they are more than the frames that are kept: one look for each
-    /// of these. It takes no memory.
+    /// Takes the dead cells out where they are more than the frames that are kept: one look for
+    /// each of these. It takes no memory.
     pub fn settle<L: Ledger>(&mut self, looks: &mut Looks<L>)
         ensures same { SameKept self.old self.new }
         ensures few { owed self.new ≤ frame_count self.new }
