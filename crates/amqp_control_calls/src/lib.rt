@@ -32,8 +32,6 @@ mod declaring;
 mod discharging;
 mod errors;
 mod sending;
-#[cfg(test)]
-mod tests;
 mod transaction_base;
 
 pub use abandoning::{Abandoned, abandon_on_link};
