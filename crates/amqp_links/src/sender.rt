@@ -30,8 +30,9 @@ pub trait SenderLink {
     ghost send_gives: { Self → Self → Message → Option State → Bool → Result HowSent Unsent
         → Type 0 } = { λ _ _ _ _ _ _. Unit {0} };
 
-    /// What one look answers and leaves of this link, beside what the link tells. A call that
-    /// promises this of the link before and after it made one look, and no other call.
+    /// What one look answers and leaves of this link, beside what the link tells. A call over
+    /// every link that promises this of the link before and after it made one look, and no other
+    /// call; of one link it says as much as that link says here.
     ghost outcome_gives: { Self → Self → Number → Found Told → Type 0 } = { λ _ _ _ _. Unit {0} };
 
     /// Sends a message, with the state that its transfer says.

@@ -14,7 +14,8 @@ use amqp_txn_types::{
 /// committed. Part 4 of the standard, section 4.4.2 (transactional retirement).
 ///
 /// Each call puts one disposition, which doesn't say whether it is settled, with the transactional
-/// state of the id and the outcome. Errors are what the link's `dispose` answered.
+/// state of the id and the outcome. Errors are what the link's `dispose` answered,
+/// which no clause says yet.
 pub trait TransactionRetirement: TransactionBase {
     /// Why a delivery isn't retired.
     type RetireError: From<DispositionError> + Drop;

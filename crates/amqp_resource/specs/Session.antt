@@ -32,7 +32,7 @@ told_of told x = told x.below
 abbrev pub stop_of : {S : Type 0} → TxnSession S → Option StopCode
 stop_of x = x.stop
 
--- how often its own transactional calls refused
+-- how often its own calls, those of its traits, refused
 abbrev pub refusals_of : {S : Type 0} → TxnSession S → ℕ
 refusals_of x = x.refusals
 

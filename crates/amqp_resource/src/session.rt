@@ -27,8 +27,8 @@ use std::alloc::Global;
 /// A session that serves transactions over a layer below. Part 4 of the standard, section 4.4.
 ///
 /// It keeps the frames that come under each live transaction and hands them below when it commits.
-/// Once a refusal below, a frame under an id that isn't live or an end stopped it, it does nothing
-/// more.
+/// Once a refusal below, a frame under an id that isn't live or an end stopped it, it takes no step
+/// and no frame any more.
 #[derive(Drop)]
 pub struct TxnSession<S> {
     pub(crate) held: Held,
@@ -213,7 +213,7 @@ impl<S: LayerBelow> TxnSession<S> {
             result ≡ Err (errors.Fault faults.UnknownTxnId 0) }
         ensures attach_rose { OnAttachRefused result
             (Rose (told_of S.told self.old).refusals (told_of S.told self.new).refusals) }
-        // The session's own transactional calls have no part in it.
+        // The count of its own calls, those of its traits, has no part in it.
         ensures refusals { refusals_of self.new ≡ refusals_of self.old }
         // The stop that is kept.
         ensures stops { stop_of self.old ≡ None → StopAfter result (stop_of self.new) }

@@ -38,10 +38,10 @@
 //! stand the calls on a lent link, of `amqp_control_calls`. The promise that this crate carries is
 //! what values show: a transaction is marked discharged exactly by a poll that is `Ready(Ok)`, the
 //! poll of a discharged one is `Ready(Ok)` or the error of the close of its link, and each refusal
-//! hands back the value or the controller: from a declare on it is one controller, in the wait, in
-//! the transaction and in what is handed back. No contract can say what a link under a lock holds:
-//! which calls are made under the lock, that a discharged transaction makes none but the close, and
-//! that a poll makes exactly one look, is only tested. 'The standard' is OASIS AMQP 1.0.
+//! hands back the value or the controller. Contracts see all controllers as equal, so which one it
+//! is the types alone keep apart. No contract can say what a link under a lock holds: which calls
+//! are made under the lock and that their answers are passed on, that a discharged transaction makes
+//! none but the close, and that a poll makes exactly one look, is only tested. 'The standard' is OASIS AMQP 1.0.
 #![tactic(auto)]
 
 mod attaching;
