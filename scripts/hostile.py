@@ -112,7 +112,7 @@ def devices():
             # (a write on a closed pipe must be an answer, not a signal)
             end = End(words, source, writer)
         os.close(writer)
-        say(f"{name} on a closed pipe", end, end.status in (5, -13))
+        say(f"{name} on a closed pipe", end, end.status == 5)
     dripping = subprocess.Popen([sys.executable, "-c", "import os,sys\nfor octet in bytes.fromhex(sys.argv[1]): os.write(1, bytes([octet]))", steps.hex()], stdout=subprocess.PIPE)
     end = End(RUN, dripping.stdout)
     dripping.wait()
