@@ -77,6 +77,15 @@ impl Drawn {
         self.ids.push_reserved(id);
         self.spare -= 1;
     }
+
+    /// Gives back the room that is left.
+    pub fn trim(&mut self)
+        ensures ids { self.new.ids ≡ self.old.ids }
+        ensures spare { self.new.spare ≡ 0 }
+    {
+        self.ids.shrink_to_fit();
+        self.spare = 0;
+    }
 }
 
 impl TryClone for Drawn {
