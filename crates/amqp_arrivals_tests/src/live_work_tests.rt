@@ -10,12 +10,7 @@ use std::process::Abort;
 use std::sync::ledger::{Blank, Ledger};
 use std::test::Fail;
 
-fn add<R: Abort>(
-    rt: &R,
-    live: &mut LiveWork,
-    octet: u8,
-    home: Option<u64>,
-) -> Result<(), Fail> {
+fn add<R: Abort>(rt: &R, live: &mut LiveWork, octet: u8, home: Option<u64>) -> Result<(), Fail> {
     let txn_id = id(octet);
     live.make_room()?;
     assert!(rt; !live.is_live(&txn_id));
