@@ -1,6 +1,7 @@
 pub mod Polls
 pub mod Sending
 pub mod Receiving
+pub mod OneCall
 pub mod Calls
 pub mod Answers
 pub mod SenderWire

@@ -1,17 +1,20 @@
 -- The plain receiving end of a link.
-use Rattle.std.specs.Prelude.{ℕ, ◌≡◌, Bool, true, false, if◌then◌else◌, Option, Some, None, Result, Ok, Err, List, [], ◌∷◌, ◌++◌, drop}
+use Rattle.std.specs.Prelude.{ℕ, ◌≡◌, if◌then◌else◌, Option, Some, None, Result, Ok, Err, List, [], ◌∷◌, ◌++◌, drop}
 use Rattle.amqp_txn_types.specs.declared.performatives.LinkEnd.{LinkEnd}
 use Rattle.amqp_txn_types.specs.declared.calls.Calls.{Calls}
 use Rattle.amqp_links.specs.declared.delivery.Delivery.{Delivery}
 use Rattle.amqp_links.specs.declared.errors.IllegalLinkStateError.{IllegalLinkStateError}
+use Rattle.amqp_links.specs.declared.errors.IllegalLinkStateError.TheVariants as faults
 use Rattle.amqp_links.specs.declared.errors.LinkStateError.TheVariants as link_errors
 use Rattle.amqp_links.specs.declared.errors.RecvError.{RecvError}
 use Rattle.amqp_links.specs.declared.errors.RecvError.TheVariants as recv_errors
 use Rattle.amqp_links.specs.declared.messages.ReceiverMessage.{ReceiverMessage}
+use Rattle.amqp_links.specs.declared.messages.ReceiverMessage.TheVariants as messages
 use Rattle.amqp_links.specs.declared.poll.Poll.{Poll}
 use Rattle.amqp_txn_types.specs.Calls.{is_failing, faulted, after_call}
-use Rattle.amqp_links.specs.Calls.{after_look}
-use Rattle.amqp_links.specs.Receiving.{Properties, ReceiverTold, put_by}
+use Rattle.amqp_links.specs.Calls.{FailsAsListed, FailsOnlyAsListed, after_look}
+use Rattle.amqp_links.specs.OneCall.{DisposesOn, SetsCreditOn, SendsFlowOn}
+use Rattle.amqp_links.specs.Receiving.{Properties, ReceiverTold, included, put_by}
 
 -- a receiving wire: the deliveries that wait, in order
 pub record ReceiverWire : Type 0 where
@@ -87,3 +90,22 @@ after_credit wire credit result = record wire {
   credit = credit_by wire.credit credit result;
   calls = after_call wire.calls result;
 }
+
+-- a disposition on a wire: it fails where it is to, and is put where it is Ok
+abbrev pub DisposesOnWire : DisposesOn ReceiverWire
+DisposesOnWire old new delivery settled state result =
+    FailsAsListed (is_failing old.calls) faults.IllegalState faults.NoMemory result
+    × (new ≡ after_put old (messages.Disposition delivery settled state) result)
+
+-- a flow on a wire: it fails where it is to, and is put where it is Ok
+abbrev pub SendsFlowOnWire : SendsFlowOn ReceiverWire
+SendsFlowOnWire old new credit drain echo include result =
+    FailsAsListed (is_failing old.calls) faults.IllegalState faults.NoMemory result
+    × (new ≡ after_put old (messages.Flow credit drain echo (included include old.properties))
+    result)
+
+-- a credit on a wire: it is set but where the call is to fail
+abbrev pub SetsCreditOnWire : SetsCreditOn ReceiverWire
+SetsCreditOnWire old new credit result =
+    FailsOnlyAsListed (is_failing old.calls) faults.IllegalState result
+    × (new ≡ after_credit old credit result)

@@ -1,6 +1,8 @@
 -- What the receiving end of a link tells, and what each of its calls does to it.
 use Rattle.std.specs.Prelude.{ℕ, ◌≡◌, ◌≤◌, Bool, if◌then◌else◌, Option, Some, None, Result, Ok, Err, List, [], ◌∷◌, ◌++◌, OnErr, option_map, nat_eq}
 use Rattle.std.specs.Cmp.Lexicographic.{pointwise}
+use Rattle.std.specs.List.{IsDistinct}
+use Rattle.std.specs.Map.{keys_of, lookup}
 use Rattle.indexmap.specs.IndexMap.{insert_entry, shift_remove_entry}
 use Rattle.amqp_txn_types.specs.declared.delivery.DeliveryState.{DeliveryState}
 use Rattle.amqp_txn_types.specs.declared.fields.Value.{Value}
@@ -80,6 +82,19 @@ abbrev pub pairs_of : Properties → List (Symbol × Value)
 pairs_of None = []
 pairs_of (Some pairs) = pairs
 
+-- the value of a key
+abbrev pub value_of : Symbol → List (Symbol × Value) → Option Value
+value_of key pairs = lookup (pointwise nat_eq key) pairs
+
+-- one key has this value, and every other has the value that it had
+abbrev pub GivesOne : Symbol → Properties → Properties → Option Value → Type 0
+GivesOne named old new value = (key : Symbol) → value_of key (pairs_of new)
+    ≡ (if pointwise nat_eq named key then value else value_of key (pairs_of old))
+
+-- no two pairs have the same key
+abbrev pub HasDistinctKeys : Properties → Type 0
+HasDistinctKeys properties = IsDistinct (pointwise nat_eq) (keys_of (pairs_of properties))
+
 -- an Ok gives the key its value, an Err changes nothing
 abbrev pub inserted : Properties → Symbol → Value → Result Unit NoMemory → Properties
 inserted properties key value (Ok done) =
@@ -97,8 +112,9 @@ pub record Inserts (old new : ReceiverTold) (key : Symbol) (value : Value)
 abbrev pub removed : Properties → Symbol → Properties
 removed properties key = option_map (shift_remove_entry (pointwise nat_eq key)) properties
 
--- a property was taken out
+-- a property was taken out: no pair has the key any more
 pub record Removes (old new : ReceiverTold) (key : Symbol) : Type 0 where
   pub put : new.put ≡ old.put
   pub properties : new.properties ≡ removed old.properties key
+  pub alone : GivesOne key old.properties new.properties None
   pub later : old.faults ≤ new.faults

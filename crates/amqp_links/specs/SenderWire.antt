@@ -1,5 +1,5 @@
 -- The plain sending end of a link.
-use Rattle.std.specs.Prelude.{ℕ, ◌≡◌, Bool, true, false, if◌then◌else◌, Option, Some, None, Result, Ok, Err, List, [], ◌∷◌, ◌++◌, slice_get, slice_set, option_map}
+use Rattle.std.specs.Prelude.{ℕ, ◌≡◌, Bool, if◌then◌else◌, Option, Some, None, Result, Ok, Err, List, [], ◌∷◌, ◌++◌, slice_get, slice_set, option_map}
 use Rattle.amqp_txn_types.specs.declared.delivery.DeliveryState.{DeliveryState}
 use Rattle.amqp_txn_types.specs.declared.delivery.Error.{Error}
 use Rattle.amqp_txn_types.specs.declared.performatives.LinkEnd.{LinkEnd}
@@ -8,17 +8,17 @@ use Rattle.amqp_links.specs.declared.answer_slot.AnswerSlot.{AnswerSlot}
 use Rattle.amqp_links.specs.declared.answer_slot.AnswerSlot.TheVariants as slots
 use Rattle.amqp_txn_types.specs.declared.calls.Calls.{Calls}
 use Rattle.amqp_links.specs.declared.errors.DetachError.{DetachError}
+use Rattle.amqp_links.specs.declared.errors.DetachError.TheVariants as detach_errors
 use Rattle.amqp_links.specs.declared.errors.LinkStateError.TheVariants as link_errors
 use Rattle.amqp_links.specs.declared.errors.SendError.{SendError}
-use Rattle.amqp_links.specs.declared.errors.SendError.TheVariants as send_errors
 use Rattle.amqp_links.specs.declared.messages.SentMessage.{SentMessage}
 use Rattle.amqp_links.specs.declared.poll.Poll.{Poll}
 use Rattle.amqp_links.specs.declared.sendable.Sendable.{Sendable}
 use Rattle.amqp_links.specs.declared.sendable.Sent.{Sent}
 use Rattle.amqp_links.specs.declared.sendable.Sent.TheVariants as sendings
-use Rattle.amqp_links.specs.Answers.{answer_in, is_awaited, filled_slot, emptied_slot}
+use Rattle.amqp_links.specs.Answers.{answer_in, filled_slot, emptied_slot}
 use Rattle.amqp_txn_types.specs.Calls.{is_failing, after_call}
-use Rattle.amqp_links.specs.Calls.{after_look}
+use Rattle.amqp_links.specs.Calls.{FailsAsListed, after_look}
 use Rattle.amqp_links.specs.Sending.{Answer, SenderTold, as_sent}
 
 -- a sending wire: the answers stand by the number of their token
@@ -112,3 +112,9 @@ after_close wire error result = record wire {
   closes = closes_by wire.closes error result;
   calls = after_call wire.calls result;
 }
+
+-- a close of a wire: it fails where it is to, and is listed where it is Ok
+abbrev pub ClosesOnWire : SenderWire → SenderWire → Option Error → Result Unit DetachError → Type 0
+ClosesOnWire old new error result =
+    FailsAsListed (is_failing old.calls) detach_errors.IllegalState detach_errors.NoMemory result
+    × (new ≡ after_close old error result)

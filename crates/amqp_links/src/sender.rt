@@ -16,7 +16,9 @@ pub type Answer = Result<Option<DeliveryState>, LinkStateError>;
 pub trait SenderLink {
     ghost use Rattle.std.specs.Prelude.{Bool, Option, Result};
     ghost use Rattle.amqp_txn_types.specs.declared.delivery.DeliveryState.{DeliveryState as State};
+    ghost use Rattle.amqp_txn_types.specs.declared.delivery.Error.{Error as Cause};
     ghost use Rattle.amqp_txn_types.specs.declared.small.Token.{Token as Number};
+    ghost use Rattle.amqp_links.specs.declared.errors.DetachError.{DetachError as Unclosed};
     ghost use Rattle.amqp_links.specs.declared.errors.SendError.{SendError as Unsent};
     ghost use Rattle.amqp_links.specs.declared.poll.Poll.{Poll as Found};
     ghost use Rattle.amqp_links.specs.declared.sendable.Sendable.{Sendable as Message};
@@ -34,6 +36,9 @@ pub trait SenderLink {
     /// every link that promises this of the link before and after it made one look, and no other
     /// call; of one link it says as much as that link says here.
     ghost outcome_gives: { Self → Self → Number → Found Told → Type 0 } = { λ _ _ _ _. Unit {0} };
+
+    /// What one close answers and leaves of this link, beside what the link tells.
+    ghost close_gives: { Self → Self → Option Cause → Result Unit Unclosed → Type 0 } = { λ _ _ _ _. Unit {0} };
 
     /// Sends a message, with the state that its transfer says.
     ///
@@ -55,5 +60,6 @@ pub trait SenderLink {
 
     /// Closes the link, with an error where there is one. Section 2.6.6 (closing a link).
     fn close(&mut self, error: Option<Error>) -> Result<(), DetachError>
-        ensures { Closes (told self.old) (told self.new) result };
+        ensures told { Closes (told self.old) (told self.new) result }
+        ensures gives { close_gives self.old self.new error result };
 }

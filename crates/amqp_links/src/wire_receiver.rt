@@ -6,7 +6,7 @@ ghost use Rattle.amqp_links.specs.declared.messages.ReceiverMessage.TheVariants 
 ghost use Rattle.amqp_txn_types.specs.Calls.{is_failing};
 ghost use Rattle.amqp_links.specs.Calls.{FailsAsListed, FailsOnlyAsListed};
 ghost use Rattle.amqp_links.specs.Receiving.{Disposes, Receives, SetsCredit, SendsFlow, Inserts, Removes, included, inserted, removed};
-ghost use Rattle.amqp_links.specs.ReceiverWire.{ReceiverWire, receiver_tells, after_put, received, after_credit, delivered, with_failing, with_properties, with_put};
+ghost use Rattle.amqp_links.specs.ReceiverWire.{ReceiverWire, receiver_tells, after_put, received, after_credit, delivered, with_failing, with_properties, with_put, DisposesOnWire, SetsCreditOnWire, SendsFlowOnWire};
 
 use crate::delivery::{Delivery, DeliveryInfo};
 use crate::errors::{
@@ -40,6 +40,7 @@ pub struct WireReceiver {
 }
 
 impl Model for WireReceiver {
+    ghost use Rattle.amqp_links.specs.Receiving.{HasDistinctKeys};
     ghost use Rattle.amqp_links.specs.ReceiverWire.{ReceiverWire as WireValue};
 
     ghost Value = { WireValue };
@@ -52,6 +53,8 @@ impl Model for WireReceiver {
       properties = w.properties;
       calls = w.calls;
     } };
+
+    ghost invariant = { λ w. HasDistinctKeys w.properties };
 }
 
 impl WireReceiver {
@@ -178,10 +181,33 @@ fn insert_into(
     }
 }
 
+/// Takes the key and its value out, where there is a map.
+fn remove_from(properties: &mut Option<Fields>, key: &Symbol)
+    ensures { properties.new ≡ removed properties.old key.now }
+{
+    if let Some(fields) = properties {
+        fields.remove(key);
+    }
+}
+
 impl ReceiverLink for WireReceiver {
     ghost use Rattle.std.specs.Prelude.{◌≡◌, option_map};
 
     ghost told = { receiver_tells };
+
+    ghost dispose_gives = { DisposesOnWire };
+
+    ghost recv_gives = { λ old new result. new ≡ received old result };
+
+    ghost credit_gives = { SetsCreditOnWire };
+
+    ghost flow_gives = { SendsFlowOnWire };
+
+    ghost insert_gives = { λ old new key value result.
+        new ≡ with_properties old (inserted old.properties key value result) };
+
+    ghost remove_gives = { λ old new key.
+        new ≡ with_properties old (removed old.properties key) };
 
     fn dispose(
         &mut self,
@@ -282,8 +308,6 @@ impl ReceiverLink for WireReceiver {
         ensures told { Removes (receiver_tells self.old) (receiver_tells self.new) key.now }
         ensures wire { self.new ≡ with_properties self.old (removed self.old.properties key.now) }
     {
-        if let Some(properties) = &mut self.properties {
-            properties.remove(key);
-        }
+        remove_from(&mut self.properties, key);
     }
 }

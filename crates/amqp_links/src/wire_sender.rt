@@ -8,7 +8,7 @@ ghost use Rattle.amqp_links.specs.Answers.{answer_in, is_awaited};
 ghost use Rattle.amqp_txn_types.specs.Calls.{is_failing};
 ghost use Rattle.amqp_links.specs.Calls.{FailsAsListed};
 ghost use Rattle.amqp_links.specs.Sending.{Sends, Looks, Closes as ClosesLink, sent_after};
-ghost use Rattle.amqp_links.specs.SenderWire.{SenderWire, sender_tells, after_send, after_close, answered, filled_at, given_at, looked, with_failing, with_message};
+ghost use Rattle.amqp_links.specs.SenderWire.{SenderWire, sender_tells, after_send, after_close, answered, filled_at, given_at, looked, with_failing, with_message, ClosesOnWire};
 
 use crate::answer_slot::AnswerSlot;
 use crate::errors::{DetachError, LinkStateError, SendError};
@@ -188,6 +188,8 @@ impl SenderLink for WireSender {
         new ≡ after_send old sendable state batchable result };
 
     ghost outcome_gives = { λ old new token result. new ≡ looked old token result };
+
+    ghost close_gives = { ClosesOnWire };
 
     fn send(
         &mut self,

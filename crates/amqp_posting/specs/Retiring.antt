@@ -5,7 +5,7 @@ use Rattle.amqp_txn_types.specs.declared.delivery.Outcome.{Outcome}
 use Rattle.amqp_txn_types.specs.declared.id.TransactionId.{TransactionId}
 use Rattle.amqp_links.specs.declared.delivery.DeliveryInfo.{DeliveryInfo}
 use Rattle.amqp_links.specs.declared.errors.IllegalLinkStateError.{IllegalLinkStateError}
-use Rattle.amqp_links.specs.Receiving.{Disposes, ReceiverTold}
+use Rattle.amqp_links.specs.OneCall.{DisposesOn}
 use Rattle.amqp_posting.specs.Posting.{under}
 
 -- the answer to a retirement is the link's, with its error as another
@@ -17,9 +17,9 @@ SameOr from answer result = ⊥
 
 -- a retirement: one disposition of the delivery, with the outcome under the transaction, and which
 -- doesn't say whether it is settled
-abbrev pub Retires : {E : Type 0} → (IllegalLinkStateError → E → Type 0) → ReceiverTold
-    → ReceiverTold → TransactionId → DeliveryInfo → Outcome → Result Unit E → Type 0
-Retires from old new txn_id delivery outcome result =
+abbrev pub Retires : {R E : Type 0} → (IllegalLinkStateError → E → Type 0) → DisposesOn R → R → R
+    → TransactionId → DeliveryInfo → Outcome → Result Unit E → Type 0
+Retires from disposes old new txn_id delivery outcome result =
     (answer : Result Unit IllegalLinkStateError)
-    × Disposes old new delivery None (under txn_id (Some outcome)) answer
+    × disposes old new delivery None (under txn_id (Some outcome)) answer
     × SameOr from answer result

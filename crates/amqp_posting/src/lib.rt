@@ -16,8 +16,8 @@
 //! A transaction is any type with `TransactionBase` of `amqp_control_calls`; links are those of
 //! `amqp_links`, lent by the caller, and nothing here waits or takes a lock. The promise that this
 //! crate carries: each post makes one send, with the transactional state of the id and no outcome,
-//! and no other call; each retirement puts one disposition with the state of id and outcome, and
-//! nothing else; a poll makes one look and no other call, and answers by what the link has. 'The
+//! and no other call; each retirement makes one `dispose`, with the state of id and outcome, and no
+//! other call; a poll makes one look and no other call, and answers by what the link has. 'The
 //! standard' is OASIS AMQP 1.0.
 #![tactic(auto)]
 

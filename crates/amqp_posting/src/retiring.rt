@@ -2,6 +2,7 @@
 
 ghost use Rattle.std.specs.Prelude.{◌≡◌};
 ghost use Rattle.amqp_txn_types.specs.declared.delivery.Outcome.TheVariants as outcomes;
+ghost use Rattle.amqp_links.specs.OneCall.{OneDisposition};
 ghost use Rattle.amqp_posting.specs.Retiring.{Retires};
 
 use amqp_control_calls::TransactionBase;
@@ -13,9 +14,9 @@ use amqp_txn_types::{
 /// Disposing of received deliveries under a transaction: the resource settles them so when it is
 /// committed. Part 4 of the standard, section 4.4.2 (transactional retirement).
 ///
-/// Each call puts one disposition, which doesn't say whether it is settled, with the transactional
-/// state of the id and the outcome. Errors are what the link's `dispose` answered,
-/// which no clause says yet.
+/// Each call makes one `dispose`, which doesn't say whether it is settled, with the transactional
+/// state of the id and the outcome, and no other call. Errors are what the link's `dispose`
+/// answered.
 pub trait TransactionRetirement: TransactionBase {
     /// Why a delivery isn't retired.
     type RetireError: From<DispositionError> + Drop;
@@ -27,8 +28,8 @@ pub trait TransactionRetirement: TransactionBase {
         delivery: &DeliveryInfo,
         outcome: Outcome,
     ) -> Result<(), Self::RetireError>
-        ensures { Retires Self.RetireError.from_gives (R.told recver.old) (R.told recver.new)
-            (Self.id self.now) delivery.now outcome result }
+        ensures { Retires Self.RetireError.from_gives (OneDisposition R.dispose_gives R.told)
+            recver.old recver.new (Self.id self.now) delivery.now outcome result }
     {
         let state = DeliveryState::TransactionalState(TransactionalState {
             txn_id: *self.txn_id(),
@@ -46,8 +47,8 @@ pub trait TransactionRetirement: TransactionBase {
         recver: &mut R,
         delivery: &DeliveryInfo,
     ) -> Result<(), Self::RetireError>
-        ensures { Retires Self.RetireError.from_gives (R.told recver.old) (R.told recver.new)
-            (Self.id self.now) delivery.now outcomes.Accepted result }
+        ensures { Retires Self.RetireError.from_gives (OneDisposition R.dispose_gives R.told)
+            recver.old recver.new (Self.id self.now) delivery.now outcomes.Accepted result }
     {
         self.retire(recver, delivery, Outcome::Accepted)
     }
@@ -59,8 +60,9 @@ pub trait TransactionRetirement: TransactionBase {
         delivery: &DeliveryInfo,
         error: Option<Error>,
     ) -> Result<(), Self::RetireError>
-        ensures { Retires Self.RetireError.from_gives (R.told recver.old) (R.told recver.new)
-            (Self.id self.now) delivery.now (outcomes.Rejected (record { error = error })) result }
+        ensures { Retires Self.RetireError.from_gives (OneDisposition R.dispose_gives R.told)
+            recver.old recver.new (Self.id self.now) delivery.now
+            (outcomes.Rejected (record { error = error })) result }
     {
         self.retire(recver, delivery, Outcome::Rejected(Rejected { error }))
     }
@@ -71,8 +73,8 @@ pub trait TransactionRetirement: TransactionBase {
         recver: &mut R,
         delivery: &DeliveryInfo,
     ) -> Result<(), Self::RetireError>
-        ensures { Retires Self.RetireError.from_gives (R.told recver.old) (R.told recver.new)
-            (Self.id self.now) delivery.now outcomes.Released result }
+        ensures { Retires Self.RetireError.from_gives (OneDisposition R.dispose_gives R.told)
+            recver.old recver.new (Self.id self.now) delivery.now outcomes.Released result }
     {
         self.retire(recver, delivery, Outcome::Released)
     }
@@ -84,8 +86,8 @@ pub trait TransactionRetirement: TransactionBase {
         delivery: &DeliveryInfo,
         modified: Modified,
     ) -> Result<(), Self::RetireError>
-        ensures { Retires Self.RetireError.from_gives (R.told recver.old) (R.told recver.new)
-            (Self.id self.now) delivery.now (outcomes.Modified modified) result }
+        ensures { Retires Self.RetireError.from_gives (OneDisposition R.dispose_gives R.told)
+            recver.old recver.new (Self.id self.now) delivery.now (outcomes.Modified modified) result }
     {
         self.retire(recver, delivery, Outcome::Modified(modified))
     }
