@@ -3,7 +3,7 @@
 ghost use Rattle.std.specs.Prelude.{◌≡◌, ◌≤◌, [], length};
 ghost use Rattle.amqp_txn_types.specs.Calls.{after_call, is_failing};
 ghost use Rattle.amqp_streams.specs.Memory.{FailsWhere, sink_told};
-ghost use Rattle.amqp_streams.specs.Streams.{Writes};
+ghost use Rattle.amqp_streams.specs.Streams.{Reserves, Writes};
 
 use crate::sink::{ByteSink, SureSink};
 use crate::source::Failed;
@@ -61,7 +61,12 @@ impl ByteSink for MemorySink {
 
     ghost spare = { λ s. (sink_told s).spare };
 
-    fn reserve(&mut self, more: usize) -> Result<(), NoMemory> {
+    fn reserve(&mut self, more: usize) -> Result<(), NoMemory>
+        ensures told { Reserves (sink_told self.old).written (sink_told self.new).written
+            (sink_told self.old).faults (sink_told self.new).faults
+            (sink_told self.old).spare (sink_told self.new).spare more result }
+        ensures calls { self.new.calls ≡ self.old.calls }
+    {
         self.sink.reserve(more)
     }
 
