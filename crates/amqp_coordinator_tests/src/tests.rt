@@ -4,10 +4,11 @@ use amqp_coordinator::*;
 use amqp_ids::{Drawn, IdSource, ListIds};
 use amqp_layer::{Answers, Echoes, SessionInnerError, Tells};
 use amqp_sessions::{AllocTxnIdError, CommitFault, HandleDeclare, HandleDischarge};
+use amqp_test_values::{other_text, transfer};
 use amqp_txn_codec::{ControlMessageBody, Declare, Discharge};
 use amqp_txn_types::{
-    Accepted, Declared, DeliveryState, Disposition, Frames, Handle, NoMemory, Payload, Role,
-    TransactionError, TransactionId, Transfer,
+    Accepted, Declared, DeliveryState, Disposition, Frames, NoMemory, Payload, TransactionError,
+    TransactionId, Transfer,
 };
 use std::alloc::Global;
 use std::test::Fail;
@@ -18,24 +19,6 @@ use std::test::Fail;
 struct Willing {
     alloc: Global,
     refusals: u64,
-}
-
-/// A source that gives one id again and again.
-#[derive(Drop)]
-struct One {
-    id: TransactionId,
-}
-
-impl IdSource for One {
-    ghost use Rattle.std.specs.Prelude.{None};
-
-    ghost next = { λ source n. source.id };
-
-    ghost start = { λ source. None };
-
-    fn draw(&mut self) -> TransactionId {
-        self.id
-    }
 }
 
 impl Tells for Willing {
@@ -121,7 +104,7 @@ fn declare(global_id: Option<TransactionId>) -> ControlMessageBody {
 fn a_coordinator_holds_what_it_declared(rt: HostRuntime) -> Result<(), Fail> {
     let alloc = rt.alloc();
     let id = TransactionId::new(b"\x01")?;
-    let mut ids = One { id };
+    let mut ids = ListIds::new(alloc, &[id])?;
     let mut session = Willing { alloc, refusals: 0 };
     let mut coordinator = TxnCoordinator::new(alloc);
     let unheld = size(coordinator.on_delivery(&discharge(id, None), &mut session, &mut ids));
@@ -142,7 +125,7 @@ fn a_coordinator_holds_what_it_declared(rt: HostRuntime) -> Result<(), Fail> {
 fn a_rollback_has_no_echoes(rt: HostRuntime) -> Result<(), Fail> {
     let alloc = rt.alloc();
     let id = TransactionId::new(b"\x01")?;
-    let mut ids = One { id };
+    let mut ids = ListIds::new(alloc, &[id])?;
     let mut session = Willing { alloc, refusals: 0 };
     let mut coordinator = TxnCoordinator::new(alloc);
     let declared = size(coordinator.on_delivery(&declare(None), &mut session, &mut ids));
@@ -154,19 +137,10 @@ fn a_rollback_has_no_echoes(rt: HostRuntime) -> Result<(), Fail> {
 }
 
 fn post(delivery_id: Option<u32>, settled: Option<bool>) -> Transfer {
-    Transfer {
-        handle: Handle(1),
-        delivery_id,
-        delivery_tag: None,
-        message_format: None,
-        settled,
-        more: false,
-        rcv_settle_mode: None,
-        state: None,
-        resume: false,
-        aborted: false,
-        batchable: false,
-    }
+    let mut post = transfer(1);
+    post.delivery_id = delivery_id;
+    post.settled = settled;
+    post
 }
 
 /// The delivery id of the disposition that answers a post; 100 for none, 101 for want of memory.
@@ -219,12 +193,6 @@ fn a_manager_keeps_work(rt: HostRuntime) -> Result<(), Fail> {
     Ok(())
 }
 
-/// Whether the error's text is this.
-fn has_text(alloc: Global, error: CoordinatorError, text: &str) -> Result<bool, Fail> {
-    let found = format!(in alloc; "{error}")?;
-    Ok(found.as_str() == text)
-}
-
 fn refused_frame() -> CommitFault {
     CommitFault::Refused {
         error: SessionInnerError::IllegalState,
@@ -257,9 +225,7 @@ fn each_error_has_its_text(rt: HostRuntime) -> Result<(), Fail> {
         ),
         (CoordinatorError::NoMemory, "out of memory"),
     ];
-    for (error, text) in rows {
-        assert!(rt; has_text(rt.alloc(), error, text)?);
-    }
+    assert_eq!(rt; other_text(rt.alloc(), &rows)?, None);
     Ok(())
 }
 

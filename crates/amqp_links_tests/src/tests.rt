@@ -1,32 +1,16 @@
 //! What no clause says: that the calls succeed where there is memory, and printed texts.
 
 use amqp_links::*;
+use amqp_test_values::{call_numbers, link_end, not_allowed, other_text, same};
 use amqp_txn_types::{
-    AmqpError, Binary, CallNumbers, DeliveryState, Error, ErrorCondition, Fields, LinkEnd,
-    NoMemory, OutputHandle, Payload, ReceiverSettleMode, Role, SenderSettleMode, SessionStopReason,
-    Symbol, Text, Token, TryClone, Value,
+    Binary, DeliveryState, Fields, LinkEnd, NoMemory, Payload, Role, SessionStopReason, Symbol,
+    Text, Token, TryClone, Value,
 };
 use std::alloc::Global;
-use std::fmt::Display;
 use std::test::Fail;
 
-/// Whether the two are equal.
-fn same<T: PartialEq + Drop>(found: T, want: T) -> bool {
-    let equal = found == want;
-    drop(found);
-    drop(want);
-    equal
-}
-
 fn end(alloc: Global, role: Role) -> Result<LinkEnd, NoMemory> {
-    let name = Text::from_str(alloc, "q")?;
-    Ok(LinkEnd {
-        name,
-        role,
-        output: OutputHandle(3),
-        snd_settle_mode: SenderSettleMode::Mixed,
-        rcv_settle_mode: ReceiverSettleMode::First,
-    })
+    Ok(link_end(Text::from_str(alloc, "q")?, role, 3))
 }
 
 /// Whether an end is that of the tests.
@@ -128,19 +112,6 @@ fn delivery(alloc: Global, delivery_id: u32) -> Result<Delivery, NoMemory> {
             Err(error)
         }
     }
-}
-
-fn not_allowed() -> Error {
-    Error {
-        condition: ErrorCondition::AmqpError(AmqpError::NotAllowed),
-        description: None,
-        info: None,
-    }
-}
-
-fn numbers(alloc: Global, listed: &[u64]) -> Result<CallNumbers, NoMemory> {
-    let listed = Vec::from_slice(alloc, listed)?;
-    Ok(CallNumbers::from_vec(listed))
 }
 
 /// Looks and answers: each whether it went as it must.
@@ -291,7 +262,7 @@ fn an_answer_goes_to_its_token(rt: HostRuntime) -> Result<(), Fail> {
 
 /// A sender whose calls of these numbers are to fail.
 fn failing_sender(alloc: Global, listed: &[u64]) -> Result<WireSender, NoMemory> {
-    let numbers = numbers(alloc, listed)?;
+    let numbers = call_numbers(alloc, listed)?;
     let mut wire = sender(alloc)?;
     wire.set_failing(numbers);
     Ok(wire)
@@ -551,7 +522,7 @@ fn failed_receive() -> Poll<Result<Delivery, RecvError>> {
 
 /// A receiver whose calls of these numbers are to fail.
 fn failing_receiver(alloc: Global, listed: &[u64]) -> Result<WireReceiver, NoMemory> {
-    let numbers = numbers(alloc, listed)?;
+    let numbers = call_numbers(alloc, listed)?;
     let mut wire = receiver(alloc)?;
     wire.set_failing(numbers);
     Ok(wire)
@@ -609,17 +580,6 @@ fn properties_change_by_their_two_calls(rt: HostRuntime) -> Result<(), Fail> {
     changed?;
     assert!(rt; has?);
     Ok(())
-}
-
-/// The place of the first error whose text is another than the one beside it.
-fn other_text<E: Display>(alloc: Global, table: &[(E, &str)]) -> Result<Option<usize>, Fail> {
-    for (place, (error, want)) in table.iter().enumerate() {
-        let text = format!(in alloc; "{error}")?;
-        if text.as_str() != *want {
-            return Ok(Some(place));
-        }
-    }
-    Ok(None)
 }
 
 #[test]

@@ -3,29 +3,9 @@
 use amqp_ids::Drawn;
 use amqp_layer::SessionInnerError;
 use amqp_sessions::*;
-use amqp_txn_types::{AmqpError, ConnectionStopReason, Error, ErrorCondition, SessionStopReason};
-use std::alloc::Global;
-use std::fmt::Display;
+use amqp_test_values::{not_allowed, other_text};
+use amqp_txn_types::{ConnectionStopReason, SessionStopReason};
 use std::test::Fail;
-
-/// The place of the first error whose text is another than the one beside it.
-fn other_text<E: Display>(alloc: Global, table: &[(E, &str)]) -> Result<Option<usize>, Fail> {
-    for (place, (error, want)) in table.iter().enumerate() {
-        let text = format!(in alloc; "{error}")?;
-        if text.as_str() != *want {
-            return Ok(Some(place));
-        }
-    }
-    Ok(None)
-}
-
-fn not_allowed() -> Error {
-    Error {
-        condition: ErrorCondition::AmqpError(AmqpError::NotAllowed),
-        description: None,
-        info: None,
-    }
-}
 
 #[test]
 fn errors_have_their_texts(rt: HostRuntime) -> Result<(), Fail> {

@@ -1,95 +1,17 @@
 //! The plain session, called as its users call it.
 
-use amqp_ids::IdSource;
+use amqp_ids::CountIds;
 use amqp_layer::{Answers, LayerBelow, SessionInnerError, take_frame};
+use amqp_session_test_values::{plain_session, relay};
 use amqp_sessions::*;
+use amqp_test_values::{begin, detach, disposition, flow, gives, refuses, sender_attach, transfer};
 use amqp_txn_types::{
-    Attach, Begin, ConnectionStopReason, Detach, Disposition, End, Flow, Frame, Frames, Handle,
-    IncomingChannel, InputHandle, Items, LinkFlow, LinkFlows, OutgoingChannel, OutputHandle,
-    Payload, ReceiverSettleMode, Role, SenderSettleMode, SessionState, SessionStopReason, Text,
-    TransactionError, TransactionId, Transfer,
+    ConnectionStopReason, End, Frame, Frames, Handle, IncomingChannel, InputHandle, LinkFlow,
+    LinkFlows, OutputHandle, Payload, Role, SessionState, SessionStopReason, Text,
+    TransactionError, TransactionId,
 };
 use std::alloc::Global;
 use std::test::Fail;
-
-fn begin(handle_max: u32) -> Begin {
-    Begin {
-        remote_channel: None,
-        next_outgoing_id: 0,
-        incoming_window: 2,
-        outgoing_window: 2,
-        handle_max: Handle(handle_max),
-        offered_capabilities: None,
-        desired_capabilities: None,
-        properties: None,
-    }
-}
-
-fn session(alloc: Global, state: SessionState, handle_max: u32) -> PlainSession {
-    PlainSession::new(alloc, OutgoingChannel(7), state, begin(handle_max))
-}
-
-fn relay(alloc: Global, role: Role) -> Relay {
-    Relay {
-        name: Text::new(alloc),
-        role,
-        rcv_settle_mode: ReceiverSettleMode::First,
-        flows: Items::new(alloc),
-        transfers: 0,
-    }
-}
-
-fn attach(name: Text, handle: u32) -> Attach {
-    Attach {
-        name,
-        handle: Handle(handle),
-        role: Role::Sender,
-        snd_settle_mode: SenderSettleMode::Mixed,
-        rcv_settle_mode: ReceiverSettleMode::First,
-        source: None,
-        target: None,
-        initial_delivery_count: None,
-        max_message_size: None,
-        offered_capabilities: None,
-        desired_capabilities: None,
-        properties: None,
-    }
-}
-
-fn transfer(handle: u32) -> Transfer {
-    Transfer {
-        handle: Handle(handle),
-        delivery_id: None,
-        delivery_tag: None,
-        message_format: None,
-        settled: None,
-        more: false,
-        rcv_settle_mode: None,
-        state: None,
-        resume: false,
-        aborted: false,
-        batchable: false,
-    }
-}
-
-fn detach(handle: u32) -> Detach {
-    Detach {
-        handle: Handle(handle),
-        closed: true,
-        error: None,
-    }
-}
-
-fn disposition() -> Disposition {
-    Disposition {
-        role: Role::Receiver,
-        first: 0,
-        last: None,
-        settled: true,
-        state: None,
-        batchable: false,
-    }
-}
 
 fn link_flow(handle: u32) -> LinkFlow {
     LinkFlow {
@@ -106,28 +28,6 @@ fn link_flow(handle: u32) -> LinkFlow {
 /// Whether the answer is an Ok.
 fn is_done<T: Drop, E: Drop>(answer: Result<T, E>) -> bool {
     answer.is_ok()
-}
-
-/// Whether the answer is this Ok.
-fn gives<T: PartialEq + Drop, E: Drop>(answer: Result<T, E>, wanted: T) -> bool {
-    match answer {
-        Ok(value) => value == wanted,
-        Err(error) => {
-            drop(error);
-            false
-        }
-    }
-}
-
-/// Whether the answer is this Err.
-fn refuses<T: Drop, E: PartialEq + Drop>(answer: Result<T, E>, wanted: E) -> bool {
-    match answer {
-        Ok(value) => {
-            drop(value);
-            false
-        }
-        Err(error) => error == wanted,
-    }
 }
 
 /// Allocates a link of this side's receiver.
@@ -149,7 +49,7 @@ fn attach_to(
     name: &str,
 ) -> Result<Frames, SessionInnerError> {
     match Text::from_str(alloc, name) {
-        Ok(name) => plain.on_incoming_attach(attach(name, 5)),
+        Ok(name) => plain.on_incoming_attach(sender_attach(name, 5, None)),
         Err(_) => Err(SessionInnerError::NoMemory),
     }
 }
@@ -177,7 +77,7 @@ fn is_known(alloc: Global, plain: &PlainSession, name: &str, state: NameState) -
 #[test]
 fn a_transfer_on_an_unmapped_handle_is_refused(rt: HostRuntime) {
     let alloc = rt.alloc();
-    let mut plain = session(alloc, SessionState::Mapped, 9);
+    let mut plain = plain_session(alloc, SessionState::Mapped, 9);
     let answer = transfer_to(alloc, &mut plain, 4);
     assert!(rt; refuses(answer, SessionInnerError::UnattachedHandle));
     drop(plain);
@@ -186,7 +86,7 @@ fn a_transfer_on_an_unmapped_handle_is_refused(rt: HostRuntime) {
 #[test]
 fn a_name_is_allocated_once(rt: HostRuntime) {
     let alloc = rt.alloc();
-    let mut plain = session(alloc, SessionState::Mapped, 9);
+    let mut plain = plain_session(alloc, SessionState::Mapped, 9);
     assert!(rt; gives(allocate(alloc, &mut plain, "a"), OutputHandle(0)));
     assert!(rt; is_known(alloc, &plain, "a", NameState::Waiting));
     let again = allocate(alloc, &mut plain, "a");
@@ -197,7 +97,7 @@ fn a_name_is_allocated_once(rt: HostRuntime) {
 #[test]
 fn a_freed_handle_comes_next(rt: HostRuntime) {
     let alloc = rt.alloc();
-    let mut plain = session(alloc, SessionState::Mapped, 9);
+    let mut plain = plain_session(alloc, SessionState::Mapped, 9);
     assert!(rt; gives(allocate(alloc, &mut plain, "a"), OutputHandle(0)));
     assert!(rt; plain.deallocate_link(OutputHandle(0)));
     assert!(rt; !plain.deallocate_link(OutputHandle(0)));
@@ -208,7 +108,7 @@ fn a_freed_handle_comes_next(rt: HostRuntime) {
 #[test]
 fn the_last_freed_handle_comes_first(rt: HostRuntime) {
     let alloc = rt.alloc();
-    let mut plain = session(alloc, SessionState::Mapped, 9);
+    let mut plain = plain_session(alloc, SessionState::Mapped, 9);
     assert!(rt; is_done(allocate(alloc, &mut plain, "a")));
     assert!(rt; is_done(allocate(alloc, &mut plain, "b")));
     assert!(rt; is_done(allocate(alloc, &mut plain, "c")));
@@ -237,7 +137,7 @@ fn allocate_incoming(
 #[test]
 fn an_incoming_link_is_taken_at_once(rt: HostRuntime) {
     let alloc = rt.alloc();
-    let mut plain = session(alloc, SessionState::Mapped, 9);
+    let mut plain = plain_session(alloc, SessionState::Mapped, 9);
     assert!(rt; gives(allocate_incoming(alloc, &mut plain), OutputHandle(0)));
     assert!(rt; is_known(alloc, &plain, "a", NameState::Taken));
     let again = allocate_incoming(alloc, &mut plain);
@@ -245,29 +145,12 @@ fn an_incoming_link_is_taken_at_once(rt: HostRuntime) {
     drop(plain);
 }
 
-/// A flow of this session's numbers, of the link with handle 5 where it names one.
-fn flow(handle: Option<Handle>, next_incoming_id: Option<u32>) -> Flow {
-    Flow {
-        next_incoming_id,
-        incoming_window: 2,
-        next_outgoing_id: 0,
-        outgoing_window: 2,
-        handle,
-        delivery_count: None,
-        link_credit: None,
-        available: None,
-        drain: false,
-        echo: false,
-        properties: None,
-    }
-}
-
 #[test]
 fn the_relay_keeps_a_flow(rt: HostRuntime) -> Result<(), Fail> {
     let alloc = rt.alloc();
-    let mut plain = session(alloc, SessionState::Mapped, 9);
+    let mut plain = plain_session(alloc, SessionState::Mapped, 9);
     let output = allocate_incoming(alloc, &mut plain)?;
-    let mut came = flow(Some(Handle(5)), None);
+    let mut came = flow(Some(Handle(5)));
     came.link_credit = Some(10);
     plain.on_incoming_flow(came)?;
     let mut wanted = LinkFlows::new(alloc);
@@ -290,16 +173,18 @@ fn plain_transfer(alloc: Global, handle: u32) -> Result<Frame, Fail> {
 
 /// The answer to a plain transfer after which the peer's next one has this id.
 fn told_window(alloc: Global, next_incoming_id: u32) -> Answers {
+    let mut told = flow(None);
+    told.next_incoming_id = Some(next_incoming_id);
     Answers {
         given: Frames::new(alloc),
-        window: Some(flow(None, Some(next_incoming_id))),
+        window: Some(told),
     }
 }
 
 #[test]
 fn each_transfer_of_a_run_tells_a_window_of_two(rt: HostRuntime) -> Result<(), Fail> {
     let alloc = rt.alloc();
-    let mut plain = session(alloc, SessionState::BeginSent, 9);
+    let mut plain = plain_session(alloc, SessionState::BeginSent, 9);
     plain.on_incoming_begin(IncomingChannel(3), begin(9))?;
     allocate_incoming(alloc, &mut plain)?;
     let first = take_frame(&mut plain, plain_transfer(alloc, 5)?);
@@ -312,7 +197,7 @@ fn each_transfer_of_a_run_tells_a_window_of_two(rt: HostRuntime) -> Result<(), F
 #[test]
 fn no_handle_above_the_greatest(rt: HostRuntime) {
     let alloc = rt.alloc();
-    let mut plain = session(alloc, SessionState::Mapped, 0);
+    let mut plain = plain_session(alloc, SessionState::Mapped, 0);
     assert!(rt; gives(allocate(alloc, &mut plain, "a"), OutputHandle(0)));
     let next = allocate(alloc, &mut plain, "b");
     assert!(rt; refuses(next, AllocLinkError::HandleMaxReached));
@@ -322,7 +207,7 @@ fn no_handle_above_the_greatest(rt: HostRuntime) {
 #[test]
 fn a_link_lives_from_attach_to_detach(rt: HostRuntime) {
     let alloc = rt.alloc();
-    let mut plain = session(alloc, SessionState::Mapped, 9);
+    let mut plain = plain_session(alloc, SessionState::Mapped, 9);
     assert!(rt; is_done(allocate(alloc, &mut plain, "a")));
     assert!(rt; is_done(attach_to(alloc, &mut plain, "a")));
     assert!(rt; is_known(alloc, &plain, "a", NameState::Taken));
@@ -335,7 +220,7 @@ fn a_link_lives_from_attach_to_detach(rt: HostRuntime) {
 #[test]
 fn the_window_is_told_once(rt: HostRuntime) {
     let alloc = rt.alloc();
-    let mut plain = session(alloc, SessionState::Mapped, 9);
+    let mut plain = plain_session(alloc, SessionState::Mapped, 9);
     assert!(rt; is_done(allocate(alloc, &mut plain, "a")));
     assert!(rt; is_done(attach_to(alloc, &mut plain, "a")));
     assert!(rt; is_done(transfer_to(alloc, &mut plain, 5)));
@@ -352,7 +237,7 @@ fn is_some<T: Drop>(answer: Option<T>) -> bool {
 #[test]
 fn a_session_begins_and_ends(rt: HostRuntime) {
     let alloc = rt.alloc();
-    let mut plain = session(alloc, SessionState::Unmapped, 9);
+    let mut plain = plain_session(alloc, SessionState::Unmapped, 9);
     assert!(rt; is_done(plain.on_incoming_begin(IncomingChannel(3), begin(4))));
     assert!(rt; is_done(plain.send_begin()));
     assert!(rt; plain.local_state() == SessionState::Mapped);
@@ -368,13 +253,13 @@ fn a_session_begins_and_ends(rt: HostRuntime) {
 #[test]
 fn what_goes_out_is_checked(rt: HostRuntime) {
     let alloc = rt.alloc();
-    let mut plain = session(alloc, SessionState::Mapped, 9);
+    let mut plain = plain_session(alloc, SessionState::Mapped, 9);
     let mut sent = transfer(0);
     let untagged = plain.on_outgoing_transfer(InputHandle(2), &mut sent, true);
     assert!(rt; refuses(untagged, SessionInnerError::IllegalState));
     assert!(rt; is_done(plain.on_outgoing_transfer(InputHandle(2), &mut sent, false)));
     assert!(rt; is_done(plain.on_outgoing_flow(link_flow(0))));
-    let answer = disposition();
+    let answer = disposition(0);
     assert!(rt; is_done(plain.on_outgoing_disposition(&answer)));
     drop(answer);
     let last = detach(0);
@@ -387,7 +272,7 @@ fn what_goes_out_is_checked(rt: HostRuntime) {
 #[test]
 fn the_first_stop_reason_is_kept(rt: HostRuntime) {
     let alloc = rt.alloc();
-    let mut plain = session(alloc, SessionState::Mapped, 9);
+    let mut plain = plain_session(alloc, SessionState::Mapped, 9);
     plain.set_session_stop_reason(SessionStopReason::Ended);
     plain.set_session_stop_reason(SessionStopReason::RemoteEnded);
     plain.set_connection_stop_reason(ConnectionStopReason::Closed);
@@ -397,28 +282,12 @@ fn the_first_stop_reason_is_kept(rt: HostRuntime) {
     drop(plain);
 }
 
-/// A source that gives one id again and again.
-#[derive(Drop)]
-struct OneId(TransactionId);
-
-impl IdSource for OneId {
-    ghost use Rattle.std.specs.Prelude.{None};
-
-    ghost next = { λ s n. s.0 };
-
-    ghost start = { λ s. None };
-
-    fn draw(&mut self) -> TransactionId {
-        self.0
-    }
-}
-
 #[test]
 fn a_plain_session_does_no_transactions(rt: HostRuntime) {
     let alloc = rt.alloc();
-    let mut plain = session(alloc, SessionState::Mapped, 9);
+    let mut plain = plain_session(alloc, SessionState::Mapped, 9);
     let id = TransactionId::from([7; 16]);
-    let allocated = plain.allocate_transaction_id(&mut OneId(id));
+    let allocated = plain.allocate_transaction_id(&mut CountIds::new());
     assert!(rt; refuses(allocated, AllocTxnIdError::NotImplemented));
     assert!(rt;
         gives(

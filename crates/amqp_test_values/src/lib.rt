@@ -1,0 +1,17 @@
+//! Values that the tests of several crates use, and how they compare what they find with what they
+//! want.
+//!
+//! Each value is the plainest of its kind: what a test is about it sets in the value that it got.
+#![tactic(auto)]
+
+mod answers;
+mod errors;
+mod frames;
+mod links;
+
+pub use answers::{gives, refuses, same};
+pub use errors::{not_allowed, other_text, plain_error, reads};
+pub use frames::{
+    begin, control_attach, detach, disposition, flow, sender_attach, transfer, under,
+};
+pub use links::{call_numbers, link_end};
