@@ -17,6 +17,7 @@ use Rattle.amqp_control_calls.specs.declared.errors.ControllerSendError.{Control
 use Rattle.amqp_control_calls.specs.Abandoning.{Abandons, FailsByFault}
 use Rattle.amqp_control_calls.specs.Polling.{LooksOn, LooksOnce, OneLook, accepted_by, found_of}
 use Rattle.amqp_control_calls.specs.Sending.{OneSend, SendsControl, SendsOn}
+use Rattle.amqp_transactions.specs.declared.begun.Begun.{Begun}
 
 -- a declare (part 4, section 4.5.2)
 abbrev pub declare_of : Option TransactionId → ControlMessageBody
@@ -51,6 +52,18 @@ AbandonsUnder {L} sends looks told txn_id trials result =
 -- what one close answers and leaves of a link
 abbrev pub ClosesOn : Type 0 → Type 1
 ClosesOn L = L → L → Option Error → Result Unit DetachError → Type 0
+
+-- the discharge of a transaction was sent
+abbrev pub DischargesUnder : {L : Type 0} → SendsOn L → (L → SenderTold) → Begun → Bool
+    → Result Sent ControllerSendError → Type 0
+DischargesUnder gives told begun fail result =
+    SendsUnder gives told (discharge_of begun.txn_id fail) result
+
+-- a transaction was given up by a rollback
+abbrev pub GivesUpUnder : {L : Type 0} → SendsOn L → LooksOn L → (L → SenderTold) → Begun
+    → Abandoned → Type 0
+GivesUpUnder sends looks told begun result =
+    AbandonsUnder sends looks told begun.txn_id begun.rollback_on_drop_trials result
 
 -- the link was closed once, with an error or without
 abbrev pub ClosesUnder : {L : Type 0} → ClosesOn L → (L → SenderTold) → Option Error

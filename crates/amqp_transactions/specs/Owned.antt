@@ -27,7 +27,7 @@ use Rattle.amqp_transactions.specs.declared.owned_declaring.Awaited.{Awaited}
 use Rattle.amqp_transactions.specs.declared.owned_declaring.Awaited.TheVariants as awaits
 use Rattle.amqp_transactions.specs.Attaching.{IsStopped}
 use Rattle.amqp_transactions.specs.Declaring.{PollsToBegin}
-use Rattle.amqp_transactions.specs.Locked.{ClosesOn, ClosesUnder, PollsUnder, SendsUnder, declare_of, discharge_of}
+use Rattle.amqp_transactions.specs.Locked.{ClosesOn, ClosesUnder, DischargesUnder, PollsUnder, SendsUnder, declare_of}
 
 -- the error is that of the close of the link
 abbrev pub is_close_error : OwnedDischargeError → Bool
@@ -49,7 +49,8 @@ owned_declare_sent (Ok declaring) = Ok (owned_sent declaring)
 owned_declare_sent (Err refused) = Err refused.1
 
 -- an error of the discharge, as an owned transaction's
-abbrev pub owned_by_send : {R : Type 0} → Result R ControllerSendError → Result R OwnedDischargeError
+abbrev pub owned_by_send : {R : Type 0} → Result R ControllerSendError
+    → Result R OwnedDischargeError
 owned_by_send (Ok done) = Ok done
 owned_by_send (Err error) = Err (discharges.ControllerSendError error)
 
@@ -69,7 +70,7 @@ abbrev pub OwnedDischarges : {L : Type 0} → SendsOn L → (L → SenderTold) �
     → Result Sent OwnedDischargeError → Type 0
 OwnedDischarges gives told begun fail result =
     (sent : Result Sent ControllerSendError)
-    × SendsUnder gives told (discharge_of begun.txn_id fail) sent × (result ≡ owned_by_send sent)
+    × DischargesUnder gives told begun fail sent × (result ≡ owned_by_send sent)
 
 -- a poll of it: one look
 abbrev pub OwnedPolls : {L : Type 0} → LooksOn L → (L → SenderTold) → Sent

@@ -2,7 +2,7 @@
 
 ghost use Rattle.std.specs.Prelude.{◌≡◌};
 ghost use Rattle.amqp_transactions.specs.Begun.{AsksToDischarge, GivesUp, IfTried, IfUndischarged, PollsDischarge, begun_as};
-ghost use Rattle.amqp_transactions.specs.Locked.{AbandonsUnder, PollsUnder, SendsUnder, discharge_of};
+ghost use Rattle.amqp_transactions.specs.Locked.{DischargesUnder, GivesUpUnder, PollsUnder};
 
 use crate::controller::Controller;
 use amqp_control_calls::{Abandoned, ControllerSendError, DischargeOnLink};
@@ -45,8 +45,8 @@ impl Begun {
         fail: bool,
     ) -> Result<DischargeOnLink, ControllerSendError>
         ensures asks { AsksToDischarge self.old self.new result }
-        ensures sends { IfUndischarged self.old (SendsUnder L.send_gives L.told
-            (discharge_of self.old.txn_id fail) result) }
+        ensures sends { IfUndischarged self.old (DischargesUnder L.send_gives L.told self.old
+            fail result) }
     {
         if self.is_discharged {
             return Ok(DischargeOnLink::unsent());
@@ -85,8 +85,8 @@ impl Begun {
         controller: &Controller<L>,
     ) -> Abandoned
         ensures given { GivesUp self.now result }
-        ensures link { IfTried self.now (AbandonsUnder L.send_gives L.outcome_gives L.told
-            self.now.txn_id self.now.rollback_on_drop_trials result) }
+        ensures link { IfTried self.now (GivesUpUnder L.send_gives L.outcome_gives L.told
+            self.now result) }
     {
         if self.is_discharged {
             return Abandoned::Discharged;

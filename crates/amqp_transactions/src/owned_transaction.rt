@@ -3,7 +3,7 @@
 ghost use Rattle.std.specs.Prelude.{◌≡◌};
 ghost use Rattle.amqp_transactions.specs.Begun.{with_trials};
 ghost use Rattle.amqp_transactions.specs.Declaring.{PollsToBegin};
-ghost use Rattle.amqp_transactions.specs.Locked.{AbandonsUnder, SendsUnder, declare_of};
+ghost use Rattle.amqp_transactions.specs.Locked.{GivesUpUnder, SendsUnder, declare_of};
 ghost use Rattle.amqp_transactions.specs.Owned.{ClosesAtEnd, OwnedDischarges, OwnedPolls, is_close_error, owned_begun, owned_declare_sent, owned_sent};
 
 use crate::begun::Begun;
@@ -100,8 +100,7 @@ impl<L: SenderLink + Drop> TransactionDischarge for OwnedTransaction<L> {
 
     ghost poll_gives = { OwnedPolls L.outcome_gives L.told };
 
-    ghost abandon_gives = { λ begun end. AbandonsUnder L.send_gives L.outcome_gives L.told
-        begun.txn_id begun.rollback_on_drop_trials end };
+    ghost abandon_gives = { GivesUpUnder L.send_gives L.outcome_gives L.told };
 
     ghost spend_gives = { ClosesAtEnd L.close_gives L.told };
 

@@ -3,7 +3,7 @@
 ghost use Rattle.std.specs.Prelude.{◌≡◌, Ok, false, IfOk};
 ghost use Rattle.amqp_transactions.specs.Begun.{with_trials};
 ghost use Rattle.amqp_transactions.specs.Declaring.{OnBegun, PollsToBegin};
-ghost use Rattle.amqp_transactions.specs.Locked.{AbandonsUnder, PollsUnder, SendsUnder, declare_of, discharge_of};
+ghost use Rattle.amqp_transactions.specs.Locked.{DischargesUnder, GivesUpUnder, PollsUnder, SendsUnder, declare_of};
 ghost use Rattle.amqp_transactions.specs.Transactions.{begun_of, controller_of, declare_sent, put_over, sent_of};
 
 use crate::begun::Begun;
@@ -96,13 +96,11 @@ impl<L: SenderLink> TransactionDischarge for Transaction<'_, L> {
 
     ghost of_spend = { λ _. false };
 
-    ghost discharge_gives = { λ begun fail result. SendsUnder L.send_gives L.told
-        (discharge_of begun.txn_id fail) result };
+    ghost discharge_gives = { DischargesUnder L.send_gives L.told };
 
     ghost poll_gives = { PollsUnder L.outcome_gives L.told };
 
-    ghost abandon_gives = { λ begun end. AbandonsUnder L.send_gives L.outcome_gives L.told
-        begun.txn_id begun.rollback_on_drop_trials end };
+    ghost abandon_gives = { GivesUpUnder L.send_gives L.outcome_gives L.told };
 
     ghost spend_gives = { λ result. result ≡ Ok tt };
 
@@ -156,8 +154,8 @@ impl<'t, L: SenderLink> Declaring<'t, L> {
         self,
         rt: &R,
     ) -> Progress<Declaring<'t, L>, Result<Transaction<'t, L>, ControllerSendError>>
-        ensures declares { PollsToBegin L.outcome_gives L.told begun_of (λ error found. error ≡ found)
-            (sent_of self.entry) self.entry result }
+        ensures declares { PollsToBegin L.outcome_gives L.told begun_of
+            (λ error found. error ≡ found) (sent_of self.entry) self.entry result }
         ensures over { OnBegun result (λ transaction. controller_of transaction
             ≡ put_over self.entry) }
     {
