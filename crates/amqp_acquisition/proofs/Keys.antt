@@ -3,7 +3,6 @@ use Rattle.std.proofs.Common.{◌≡◌, ℕ, ◌+◌, ◌<◌, true, false, Som
 use Rattle.std.specs.List.{slice_get}
 use Rattle.std.proofs.lemmas.Option.{slice_get_within, get_or_from_slice_get}
 use Rattle.std.proofs.lemmas.Bool.{cases_Bool}
-use Rattle.std.proofs.lemmas.Map.{lookup-remove_entry}
 use Rattle.std.proofs.Math.Seq.{drop-cons}
 use Rattle.std.specs.Cmp.Lexicographic.{pointwise, nat_list_eq_equiv}
 use Rattle.indexmap.specs.IndexMap.{insert_entry, shift_remove_entry}
@@ -13,8 +12,8 @@ use Rattle.amqp_txn_types.specs.declared.fields.Value.TheVariants as values
 use Rattle.amqp_txn_types.specs.declared.id.TransactionId.{TransactionId}
 use Rattle.amqp_links.specs.declared.errors.IllegalLinkStateError.{IllegalLinkStateError}
 use Rattle.amqp_links.specs.declared.errors.IllegalLinkStateError.TheVariants as faults
-use Rattle.amqp_links.specs.Receiving.{Properties, pairs_of, removed}
-use Rattle.amqp_acquisition.specs.Acquiring.{GivesOne, HasDistinctKeys, OnFlowFault, has_key, naming, txn_id_key, value_of}
+use Rattle.amqp_links.specs.Receiving.{GivesOne, Properties, pairs_of, removed, value_of}
+use Rattle.amqp_acquisition.specs.Acquiring.{OnFlowFault, has_key, naming, txn_id_key}
 
 -- what is left from an item on
 drop-get : {X : Type 0} (xs : List X) (i : ℕ) (x : X) → slice_get xs i ≡ Some x
@@ -90,18 +89,6 @@ given-inserted named key value (pair ∷ pairs) none = elim (cases_Bool (pointwi
 -- the properties that name a transaction differ from those before in that one key
 pub gives-one-named : (old new : Properties) (txn_id : TransactionId)
     → has_key txn_id_key (pairs_of old) ≡ false → new ≡ naming old txn_id
-    → GivesOne old new (Some (values.Binary txn_id))
+    → GivesOne txn_id_key old new (Some (values.Binary txn_id))
 gives-one-named old new txn_id none is_named key =
     rw is_named (given-inserted txn_id_key key (values.Binary txn_id) (pairs_of old) none)
-
--- the properties without the key differ from those before in that one key
-pub gives-one-removed : (old new : Properties) → new ≡ removed old txn_id_key
-    → HasDistinctKeys old → GivesOne old new None
-gives-one-removed None new is_removed distinct key =
-    elim (cases_Bool (pointwise nat_eq txn_id_key key)) [
-      | inl same ↦ rw (is_removed, same)
-      | inr other ↦ rw (is_removed, other)
-    ]
-gives-one-removed (Some pairs) new is_removed distinct key =
-    rw is_removed (lookup-remove_entry nat_list_eq_equiv (pointwise nat_eq txn_id_key)
-    (nat_list_eq_equiv.congr txn_id_key) key pairs distinct)

@@ -4,11 +4,9 @@ use Rattle.std.specs.Borrow.{MutBor}
 use Rattle.amqp_endpoints.specs.declared.progress.Progress.{Progress}
 use Rattle.amqp_endpoints.specs.declared.progress.Progress.TheVariants as waits
 use Rattle.amqp_links.specs.declared.errors.IllegalLinkStateError.{IllegalLinkStateError}
-use Rattle.amqp_links.specs.Receiving.{ReceiverTold}
 use Rattle.amqp_transactions.specs.declared.begun.Begun.{Begun}
 use Rattle.amqp_acquisition.specs.declared.acquisition.TxnAcquisition.{TxnAcquisition}
 use Rattle.amqp_acquisition.specs.declared.discharging.AcquisitionDischarging.{AcquisitionDischarging}
-use Rattle.amqp_acquisition.specs.Acquiring.{CleansUp}
 use Rattle.amqp_acquisition.specs.Acquisitions.{lent_to, recver_of, txn_of}
 
 -- the acquisition whose discharge is awaited
@@ -16,18 +14,27 @@ abbrev pub acquisition_of : {Txn R E W : Type 0} → AcquisitionDischarging Txn 
     → TxnAcquisition Txn R
 acquisition_of discharging = discharging.acquisition
 
+-- what one cleanup answers and leaves of a receiver
+abbrev pub CleansUpOn : Type 0 → Type 1
+CleansUpOn R = R → R → Result Unit IllegalLinkStateError → Type 0
+
+-- the receiver was cleaned up, whatever that answered and left of it
+abbrev pub IsCleanedUp : {R : Type 0} → CleansUpOn R → R → Type 0
+IsCleanedUp {R} cleans old = (final : R) × (answer : Result Unit IllegalLinkStateError)
+    × cleans old final answer
+
 -- the flow of the cleanup was refused, and so is the end
-abbrev pub CleanupRefused : {E : Type 0} → (IllegalLinkStateError → E → Type 0) → ReceiverTold
-    → ReceiverTold → E → Type 0
-CleanupRefused from old new error =
-    (fault : IllegalLinkStateError) × CleansUp old new (Err fault) × from fault error
+abbrev pub CleanupRefused : {R E : Type 0} → (IllegalLinkStateError → E → Type 0) → CleansUpOn R
+    → R → R → E → Type 0
+CleanupRefused from cleans old new error =
+    (fault : IllegalLinkStateError) × cleans old new (Err fault) × from fault error
 
 -- the end of an acquisition is refused: by its receiver, or its discharge isn't put
-abbrev pub EndRefused : {E : Type 0} → (IllegalLinkStateError → E → Type 0) → ReceiverTold
-    → ReceiverTold → Begun → E → Type 0
-EndRefused from old new begun error =
-    CleanupRefused from old new error
-    ⊎ (CleansUp old new (Ok tt) × (begun.is_discharged ≡ false))
+abbrev pub EndRefused : {R E : Type 0} → (IllegalLinkStateError → E → Type 0) → CleansUpOn R
+    → R → R → Begun → E → Type 0
+EndRefused from cleans old new begun error =
+    CleanupRefused from cleans old new error
+    ⊎ (cleans old new (Ok tt) × (begun.is_discharged ≡ false))
 
 -- the acquisition keeps its receiver, and what its owner sees of its transaction
 pub record Keeps {Txn R : Type 0} (begun : Txn → Begun) (old new : TxnAcquisition Txn R) : Type 0 where
@@ -35,16 +42,15 @@ pub record Keeps {Txn R : Type 0} (begun : Txn → Begun) (old new : TxnAcquisit
   pub seen : begun (txn_of new) ≡ begun (txn_of old)
 
 -- the end of an acquisition is asked for once it is cleaned up; a refusal hands it back
-abbrev pub AsksToEnd : {Txn R E W : Type 0} → (Txn → Begun) → (R → ReceiverTold)
+abbrev pub AsksToEnd : {Txn R E W : Type 0} → (Txn → Begun) → CleansUpOn R
     → (IllegalLinkStateError → E → Type 0) → TxnAcquisition Txn R
     → Result (AcquisitionDischarging Txn R E W) (TxnAcquisition Txn R × E) → Type 0
-AsksToEnd begun told from old (Ok wait) =
+AsksToEnd begun cleans from old (Ok wait) =
     Keeps begun old (acquisition_of wait)
-    × CleansUp (told (recver_of old)) (told (recver_of (acquisition_of wait))) (Ok tt)
-AsksToEnd begun told from old (Err refused) =
+    × cleans (recver_of old) (recver_of (acquisition_of wait)) (Ok tt)
+AsksToEnd begun cleans from old (Err refused) =
     Keeps begun old refused.0
-    × EndRefused from (told (recver_of old)) (told (recver_of refused.0)) (begun (txn_of old))
-    refused.1
+    × EndRefused from cleans (recver_of old) (recver_of refused.0) (begun (txn_of old)) refused.1
 
 -- a poll leaves the receiver, which is let go with the transaction
 abbrev pub KeepsReceiver : {Txn R W E : Type 0} → (W → TxnAcquisition Txn R) → MutBor R

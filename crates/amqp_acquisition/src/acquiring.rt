@@ -1,11 +1,11 @@
 //! Transactions that may acquire deliveries.
 
 ghost use Rattle.std.specs.Prelude.{◌≡◌, Ok, IfErr, IfOk};
-ghost use Rattle.amqp_acquisition.specs.Acquiring.{Acquires, NamedBefore, names_transaction};
+ghost use Rattle.amqp_acquisition.specs.Acquiring.{OneAcquisition, RefusesToAcquire};
 ghost use Rattle.amqp_acquisition.specs.Acquisitions.{lent_to, recver_of, txn_of};
 
 use crate::acquisition::TxnAcquisition;
-use crate::receiving::{TxnIdKey, acquire_on_link};
+use crate::receiving::acquire_on_link;
 use amqp_control_calls::TransactionBase;
 use amqp_links::{FlowError, ReceiverLink, SenderLink};
 use amqp_posting::{TransactionPosting, TransactionRetirement};
@@ -17,31 +17,30 @@ use std::alloc::Global;
 /// acquisition).
 pub trait TransactionAcquisition: TransactionBase + TransactionDischarge + TransactionRetirement {
     /// Names the transaction in the receiver's properties, and puts a flow with the credit and the
-    /// properties.
+    /// properties: see [`acquire_on_link`].
     ///
-    /// Errors, each with the transaction handed back: `IllegalState` where the properties named a
-    /// transaction already, or what the receiver's `send_flow` answered, or `NoMemory`. The
-    /// receiver's properties are as before then, and no map of them is as an empty one.
+    /// Errors, each with the transaction handed back: `IllegalState` exactly where the properties
+    /// named a transaction already, or the receiver's `send_flow` answered it; what else that
+    /// answered; or `NoMemory`. The receiver's properties are as before then, and no map of them is
+    /// as an empty one.
     final fn acquire<'r, R: ReceiverLink>(
         self,
         alloc: Global,
         recver: &'r mut R,
         credit: u32,
     ) -> Result<TxnAcquisition<'r, Self, R>, (Self, FlowError)>
-        ensures acquired { IfOk result (λ acquisition. Acquires (R.told recver.old)
-            (R.told (recver_of acquisition)) (Self.id self) credit (Ok tt)) }
+        ensures acquired { IfOk result (λ acquisition. OneAcquisition {T = Unit} R.told
+            R.insert_gives R.remove_gives R.flow_gives recver.old (recver_of acquisition)
+            (Self.id self) credit (Ok tt)) }
         ensures lent { IfOk result (λ acquisition. (lent_to acquisition).ghost_name
             ≡ recver.entry.ghost_name) }
         ensures txn { IfOk result (λ acquisition. txn_of acquisition ≡ self) }
+        ensures refused { IfErr result (λ refused. RefusesToAcquire R.told R.insert_gives
+            R.remove_gives R.flow_gives recver.old (Self.id self) credit refused.1) }
         ensures back { IfErr result (λ refused. refused.0 ≡ self) }
-        ensures named { IfErr result (λ refused. NamedBefore
-            (names_transaction (R.told recver.old)) refused.1) }
     {
-        let Ok(key) = TxnIdKey::new(alloc) else {
-            return Err((self, FlowError::NoMemory));
-        };
-        match acquire_on_link(alloc, recver, &key, self.txn_id(), credit) {
-            Ok(()) => Ok(TxnAcquisition::new(self, recver, key)),
+        match acquire_on_link(alloc, recver, self.txn_id(), credit) {
+            Ok(key) => Ok(TxnAcquisition::new(self, recver, key)),
             Err(fault) => Err((self, fault)),
         }
     }

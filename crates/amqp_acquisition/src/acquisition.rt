@@ -1,8 +1,8 @@
 //! A transaction that acquires deliveries.
 
 ghost use Rattle.std.specs.Prelude.{◌≡◌};
-ghost use Rattle.amqp_links.specs.Receiving.{Receives, SetsCredit};
-ghost use Rattle.amqp_acquisition.specs.Acquiring.{CleansUp};
+ghost use Rattle.amqp_links.specs.OneCall.{OneCredit, OneReceipt};
+ghost use Rattle.amqp_acquisition.specs.Acquiring.{OneCleanup};
 
 use crate::receiving::{TxnIdKey, clean_up_on_link};
 use amqp_control_calls::TransactionBase;
@@ -55,8 +55,8 @@ impl<'r, Txn: TransactionBase, R: ReceiverLink> TxnAcquisition<'r, Txn, R> {
 
     /// Gives the receiver's next delivery: see [`ReceiverLink::recv`].
     pub fn recv(&mut self) -> Poll<Result<Delivery, RecvError>>
-        ensures recver { Receives (R.told (recver_of self.old)) (R.told (recver_of self.new))
-            result }
+        ensures recver { OneReceipt R.recv_gives R.told (recver_of self.old)
+            (recver_of self.new) result }
         ensures txn { txn_of self.new ≡ txn_of self.old }
         ensures lent { (lent_to self.new).ghost_name ≡ (lent_to self.old).ghost_name }
     {
@@ -65,8 +65,8 @@ impl<'r, Txn: TransactionBase, R: ReceiverLink> TxnAcquisition<'r, Txn, R> {
 
     /// Sets how many deliveries the receiver wants: see [`ReceiverLink::set_credit`].
     pub fn set_credit(&mut self, credit: u32) -> Result<(), FlowError>
-        ensures recver { SetsCredit (R.told (recver_of self.old)) (R.told (recver_of self.new))
-            result }
+        ensures recver { OneCredit R.credit_gives R.told (recver_of self.old)
+            (recver_of self.new) credit result }
         ensures txn { txn_of self.new ≡ txn_of self.old }
         ensures lent { (lent_to self.new).ghost_name ≡ (lent_to self.old).ghost_name }
     {
@@ -77,8 +77,8 @@ impl<'r, Txn: TransactionBase, R: ReceiverLink> TxnAcquisition<'r, Txn, R> {
     /// credit, to be drained, to be answered. After an error, which is that of the receiver's
     /// `send_flow`, it is taken out all the same.
     pub fn cleanup(&mut self) -> Result<(), FlowError>
-        ensures recver { CleansUp (R.told (recver_of self.old)) (R.told (recver_of self.new))
-            result }
+        ensures recver { OneCleanup R.told R.remove_gives R.flow_gives (recver_of self.old)
+            (recver_of self.new) result }
         ensures txn { txn_of self.new ≡ txn_of self.old }
         ensures lent { (lent_to self.new).ghost_name ≡ (lent_to self.old).ghost_name }
     {
@@ -160,13 +160,14 @@ impl<'r, Txn: TransactionDischarge, R> TxnAcquisition<'r, Txn, R> {
 /// The outcomes of deliveries that this receiver received, under the transaction.
 impl<'r, Txn: TransactionRetirement, R: ReceiverLink> TxnAcquisition<'r, Txn, R> {
     ghost use Rattle.amqp_txn_types.specs.declared.delivery.Outcome.TheVariants as outcomes;
+    ghost use Rattle.amqp_links.specs.OneCall.{OneDisposition};
     ghost use Rattle.amqp_posting.specs.Retiring.{Retires};
     ghost use Rattle.amqp_acquisition.specs.Acquisitions.{lent_to, recver_of, txn_of};
 
     /// Retires a delivery as accepted. See [`TransactionRetirement::accept`].
     pub fn accept(&mut self, delivery: &DeliveryInfo) -> Result<(), Txn::RetireError>
-        ensures recver { Retires Txn.RetireError.from_gives (R.told (recver_of self.old))
-            (R.told (recver_of self.new)) (Txn.id (txn_of self.old)) delivery.now
+        ensures recver { Retires Txn.RetireError.from_gives (OneDisposition R.dispose_gives R.told)
+            (recver_of self.old) (recver_of self.new) (Txn.id (txn_of self.old)) delivery.now
             outcomes.Accepted result }
         ensures txn { txn_of self.new ≡ txn_of self.old }
         ensures lent { (lent_to self.new).ghost_name ≡ (lent_to self.old).ghost_name }
@@ -180,8 +181,8 @@ impl<'r, Txn: TransactionRetirement, R: ReceiverLink> TxnAcquisition<'r, Txn, R>
         delivery: &DeliveryInfo,
         error: Option<Error>,
     ) -> Result<(), Txn::RetireError>
-        ensures recver { Retires Txn.RetireError.from_gives (R.told (recver_of self.old))
-            (R.told (recver_of self.new)) (Txn.id (txn_of self.old)) delivery.now
+        ensures recver { Retires Txn.RetireError.from_gives (OneDisposition R.dispose_gives R.told)
+            (recver_of self.old) (recver_of self.new) (Txn.id (txn_of self.old)) delivery.now
             (outcomes.Rejected (record { error = error })) result }
         ensures txn { txn_of self.new ≡ txn_of self.old }
         ensures lent { (lent_to self.new).ghost_name ≡ (lent_to self.old).ghost_name }
@@ -191,8 +192,8 @@ impl<'r, Txn: TransactionRetirement, R: ReceiverLink> TxnAcquisition<'r, Txn, R>
 
     /// Retires a delivery as released. See [`TransactionRetirement::release`].
     pub fn release(&mut self, delivery: &DeliveryInfo) -> Result<(), Txn::RetireError>
-        ensures recver { Retires Txn.RetireError.from_gives (R.told (recver_of self.old))
-            (R.told (recver_of self.new)) (Txn.id (txn_of self.old)) delivery.now
+        ensures recver { Retires Txn.RetireError.from_gives (OneDisposition R.dispose_gives R.told)
+            (recver_of self.old) (recver_of self.new) (Txn.id (txn_of self.old)) delivery.now
             outcomes.Released result }
         ensures txn { txn_of self.new ≡ txn_of self.old }
         ensures lent { (lent_to self.new).ghost_name ≡ (lent_to self.old).ghost_name }
@@ -206,8 +207,8 @@ impl<'r, Txn: TransactionRetirement, R: ReceiverLink> TxnAcquisition<'r, Txn, R>
         delivery: &DeliveryInfo,
         modified: Modified,
     ) -> Result<(), Txn::RetireError>
-        ensures recver { Retires Txn.RetireError.from_gives (R.told (recver_of self.old))
-            (R.told (recver_of self.new)) (Txn.id (txn_of self.old)) delivery.now
+        ensures recver { Retires Txn.RetireError.from_gives (OneDisposition R.dispose_gives R.told)
+            (recver_of self.old) (recver_of self.new) (Txn.id (txn_of self.old)) delivery.now
             (outcomes.Modified modified) result }
         ensures txn { txn_of self.new ≡ txn_of self.old }
         ensures lent { (lent_to self.new).ghost_name ≡ (lent_to self.old).ghost_name }

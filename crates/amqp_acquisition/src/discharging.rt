@@ -1,9 +1,10 @@
 //! How an acquisition ends.
 
-ghost use Rattle.std.specs.Prelude.{◌≡◌};
+ghost use Rattle.std.specs.Prelude.{◌≡◌, false};
 ghost use Rattle.amqp_transactions.specs.Begun.{GivesUp, PollsToEnd};
-ghost use Rattle.amqp_acquisition.specs.Acquisitions.{lent_to, txn_of};
-ghost use Rattle.amqp_acquisition.specs.Ending.{AsksToEnd, KeepsReceiver, acquisition_of};
+ghost use Rattle.amqp_acquisition.specs.Acquiring.{OneCleanup};
+ghost use Rattle.amqp_acquisition.specs.Acquisitions.{lent_to, recver_of, txn_of};
+ghost use Rattle.amqp_acquisition.specs.Ending.{AsksToEnd, IsCleanedUp, KeepsReceiver, acquisition_of};
 
 use crate::acquisition::TxnAcquisition;
 use amqp_control_calls::{Abandoned, TransactionBase};
@@ -24,7 +25,8 @@ impl<'r, Txn: TransactionBase + TransactionDischarge, R: ReceiverLink> TxnAcquis
     pub fn commit<W: Wait>(self, rt: &W) -> EndAsked<'r, Txn, R, Txn::Error>
     where
         Txn::Error: From<FlowError>,
-        ensures { AsksToEnd Txn.begun R.told Txn.Error.from_gives self.entry result }
+        ensures { AsksToEnd Txn.begun (OneCleanup R.told R.remove_gives R.flow_gives)
+            Txn.Error.from_gives self.entry result }
     {
         discharge(self, rt, false)
     }
@@ -34,7 +36,8 @@ impl<'r, Txn: TransactionBase + TransactionDischarge, R: ReceiverLink> TxnAcquis
     pub fn rollback<W: Wait>(self, rt: &W) -> EndAsked<'r, Txn, R, Txn::Error>
     where
         Txn::Error: From<FlowError>,
-        ensures { AsksToEnd Txn.begun R.told Txn.Error.from_gives self.entry result }
+        ensures { AsksToEnd Txn.begun (OneCleanup R.told R.remove_gives R.flow_gives)
+            Txn.Error.from_gives self.entry result }
     {
         discharge(self, rt, true)
     }
@@ -42,12 +45,15 @@ impl<'r, Txn: TransactionBase + TransactionDischarge, R: ReceiverLink> TxnAcquis
     /// Gives the transaction up, after a cleanup where it isn't discharged, whether that succeeds
     /// or not: see [`TransactionDischarge::abandon`].
     pub fn abandon<W: Wait>(self, rt: &W) -> Abandoned
-        ensures { GivesUp (Txn.begun (txn_of self.entry)) result }
+        ensures end { GivesUp (Txn.begun (txn_of self.entry)) result }
+        ensures cleaned { (Txn.begun (txn_of self.entry)).is_discharged ≡ false
+            → IsCleanedUp (OneCleanup R.told R.remove_gives R.flow_gives) (recver_of self.entry) }
     {
         let mut acquisition = self;
-        if !acquisition.txn().is_discharged() {
-            let _ = acquisition.cleanup();
+        if acquisition.txn().is_discharged() {
+            return acquisition.into_txn().abandon(rt);
         }
+        drop(acquisition.cleanup());
         acquisition.into_txn().abandon(rt)
     }
 }
@@ -66,7 +72,8 @@ fn discharge<'r, Txn: TransactionBase + TransactionDischarge, R: ReceiverLink, W
 ) -> EndAsked<'r, Txn, R, Txn::Error>
 where
     Txn::Error: From<FlowError>,
-    ensures { AsksToEnd Txn.begun R.told Txn.Error.from_gives acquisition.entry result }
+    ensures { AsksToEnd Txn.begun (OneCleanup R.told R.remove_gives R.flow_gives)
+        Txn.Error.from_gives acquisition.entry result }
 {
     if let Err(fault) = acquisition.cleanup() {
         return Err((acquisition, Txn::Error::from(fault)));

@@ -1,9 +1,8 @@
 //! What an acquisition does to its receiver.
 
-ghost use Rattle.std.specs.Prelude.{◌≡◌, IfOk, None, codes};
-ghost use Rattle.amqp_txn_types.specs.declared.fields.Value.TheVariants as values;
-ghost use Rattle.amqp_links.specs.Receiving.{Inserts, Removes};
-ghost use Rattle.amqp_acquisition.specs.Acquiring.{Acquires, CleansUp, GivesOne, HasDistinctKeys, has_key, names_transaction, txn_id_key};
+ghost use Rattle.std.specs.Prelude.{◌≡◌, IfOk, codes};
+ghost use Rattle.amqp_links.specs.OneCall.{OneInsertion, OneRemoval};
+ghost use Rattle.amqp_acquisition.specs.Acquiring.{OneAcquisition, OneCleanup, PutsKey, has_key, names_transaction, txn_id_key};
 
 use amqp_links::{FlowError, ReceiverLink};
 use amqp_txn_types::{Binary, Fields, NoMemory, Symbol, TransactionId, Value};
@@ -31,12 +30,12 @@ impl TxnIdKey {
 }
 
 /// Whether the pairs have the key.
-fn has_key(fields: &Fields, key: &Symbol) -> bool
+fn has_key(fields: &Fields, key: &str) -> bool
     ensures { result ≡ has_key key.now fields.now }
 {
     for index in 0..fields.len() {
         let (other, _) = fields.get(index).unwrap();
-        if *key == *other {
+        if key == other.as_str() {
             return true;
         }
     }
@@ -44,39 +43,40 @@ fn has_key(fields: &Fields, key: &Symbol) -> bool
 }
 
 /// Whether the receiver's properties name a transaction.
-fn names_transaction<R: ReceiverLink>(recver: &R, key: &TxnIdKey) -> bool
+fn names_transaction<R: ReceiverLink>(recver: &R) -> bool
     ensures { result ≡ names_transaction (R.told recver.now) }
 {
     match recver.properties() {
         None => false,
-        Some(fields) => has_key(fields, &key.symbol),
+        Some(fields) => has_key(fields, TXN_ID),
     }
 }
 
 /// What an acquisition does to its receiver: names the transaction in the properties, and tells the
-/// peer so by one flow with the credit.
+/// peer so by one flow with the credit. It answers the key, by which a cleanup takes that out.
 ///
-/// Errors: `IllegalState` where the properties named a transaction, or what the link's `send_flow`
-/// answered, or `NoMemory`. The properties are as before then, and no map of them is as an empty
-/// one; nothing was put.
+/// Errors: `IllegalState` exactly where the properties named a transaction, or the link's
+/// `send_flow` answered it; what else that answered; or `NoMemory`. The properties are as before
+/// then, and no map of them is as an empty one; nothing was put.
 pub fn acquire_on_link<R: ReceiverLink>(
     alloc: Global,
     recver: &mut R,
-    key: &TxnIdKey,
     txn_id: &TransactionId,
     credit: u32,
-) -> Result<(), FlowError>
-    ensures { Acquires (R.told recver.old) (R.told recver.new) txn_id.now credit result }
+) -> Result<TxnIdKey, FlowError>
+    ensures { OneAcquisition R.told R.insert_gives R.remove_gives R.flow_gives recver.old
+        recver.new txn_id.now credit result }
 {
-    if names_transaction(recver, key) {
+    if names_transaction(recver) {
         return Err(FlowError::IllegalState);
     }
+    let key = TxnIdKey::new(alloc)?;
     name_transaction(alloc, recver, txn_id)?;
     if let Err(fault) = recver.send_flow(Some(credit), None, false, true) {
-        unname(recver, key);
+        unname(recver, &key);
         return Err(fault);
     }
-    Ok(())
+    Ok(key)
 }
 
 /// Puts the key with the binary id.
@@ -85,8 +85,7 @@ fn name_transaction<R: ReceiverLink>(
     recver: &mut R,
     txn_id: &TransactionId,
 ) -> Result<(), NoMemory>
-    ensures { Inserts (R.told recver.old) (R.told recver.new) txn_id_key
-        (values.Binary txn_id.now) result }
+    ensures { PutsKey (OneInsertion R.insert_gives R.told) recver.old recver.new txn_id.now result }
 {
     let TxnIdKey { symbol } = TxnIdKey::new(alloc)?;
     let octets = Binary::from_slice(alloc, txn_id.as_ref())?;
@@ -95,9 +94,7 @@ fn name_transaction<R: ReceiverLink>(
 
 /// Takes the key out.
 fn unname<R: ReceiverLink>(recver: &mut R, key: &TxnIdKey)
-    ensures removes { Removes (R.told recver.old) (R.told recver.new) txn_id_key }
-    ensures alone { HasDistinctKeys (R.told recver.old).properties
-        → GivesOne (R.told recver.old).properties (R.told recver.new).properties None }
+    ensures { OneRemoval R.remove_gives R.told recver.old recver.new txn_id_key }
 {
     recver.remove_property(&key.symbol);
 }
@@ -106,7 +103,7 @@ fn unname<R: ReceiverLink>(recver: &mut R, key: &TxnIdKey)
 /// peer so by one flow, without credit, to be drained, to be answered. After an error, which is
 /// that of the link's `send_flow`, it is taken out all the same.
 pub fn clean_up_on_link<R: ReceiverLink>(recver: &mut R, key: &TxnIdKey) -> Result<(), FlowError>
-    ensures { CleansUp (R.told recver.old) (R.told recver.new) result }
+    ensures { OneCleanup R.told R.remove_gives R.flow_gives recver.old recver.new result }
 {
     unname(recver, key);
     recver.send_flow(Some(0), Some(true), true, true)

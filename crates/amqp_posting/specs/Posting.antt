@@ -5,10 +5,7 @@ use Rattle.amqp_txn_types.specs.declared.delivery.DeliveryState.{DeliveryState}
 use Rattle.amqp_txn_types.specs.declared.delivery.DeliveryState.TheVariants as states
 use Rattle.amqp_txn_types.specs.declared.delivery.Outcome.{Outcome}
 use Rattle.amqp_txn_types.specs.declared.delivery.Outcome.TheVariants as outcomes
-use Rattle.amqp_txn_types.specs.declared.delivery.SessionStopReason.{SessionStopReason}
 use Rattle.amqp_txn_types.specs.declared.id.TransactionId.{TransactionId}
-use Rattle.amqp_links.specs.declared.errors.LinkStateError.{LinkStateError}
-use Rattle.amqp_links.specs.declared.errors.LinkStateError.TheVariants as links
 use Rattle.amqp_links.specs.declared.errors.SendError.{SendError}
 use Rattle.amqp_links.specs.declared.sendable.Sendable.{Sendable}
 use Rattle.amqp_links.specs.declared.sendable.Sent.{Sent}

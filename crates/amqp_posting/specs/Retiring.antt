@@ -1,6 +1,6 @@
 -- Retirements under a transaction. Part 4 of the standard (OASIS AMQP 1.0), section 4.4.2
 -- (Transactional Retirement).
-use Rattle.std.specs.Prelude.{◌≡◌, Option, Some, None, Result, Ok, Err}
+use Rattle.std.specs.Prelude.{Some, None, Result, Ok, Err}
 use Rattle.amqp_txn_types.specs.declared.delivery.Outcome.{Outcome}
 use Rattle.amqp_txn_types.specs.declared.id.TransactionId.{TransactionId}
 use Rattle.amqp_links.specs.declared.delivery.DeliveryInfo.{DeliveryInfo}

@@ -4,8 +4,7 @@ use Rattle.std.proofs.lemmas.Bool.{cases_Bool, cases_eq}
 use Rattle.std.specs.Cmp.Lexicographic.{pointwise, same_text, nat_list_eq_equiv}
 use Rattle.amqp_txn_types.specs.declared.small.OutputHandle.{OutputHandle}
 use Rattle.amqp_txn_types.specs.declared.text.Text.{Text}
-use Rattle.amqp_sessions.specs.declared.relay.NameState.{NameState}
-use Rattle.amqp_sessions.specs.declared.relay.NameState.TheVariants.{Unknown, Waiting}
+use Rattle.amqp_sessions.specs.declared.relay.NameState.TheVariants.{Waiting}
 use Rattle.amqp_sessions.specs.Names.{Names, Freed, FreesLink, Placed, SameNames}
 
 -- two names are one, or they aren't

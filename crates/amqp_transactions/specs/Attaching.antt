@@ -1,5 +1,5 @@
 -- How a control link is attached.
-use Rattle.std.specs.Prelude.{◌≡◌, ◌≤◌, ◌⊎◌, Bool, false, Option, Some, None, Result, Ok, Err, [], IsOk}
+use Rattle.std.specs.Prelude.{◌≡◌, ◌⊎◌, Bool, false, Option, Some, None, Result, Ok, Err, [], IsOk}
 use Rattle.amqp_txn_types.specs.declared.delivery.SessionStopReason.{SessionStopReason}
 use Rattle.amqp_txn_types.specs.declared.performatives.Attach.{Attach}
 use Rattle.amqp_txn_types.specs.declared.performatives.Coordinator.{Coordinator}
@@ -14,7 +14,7 @@ use Rattle.amqp_txn_types.specs.Counts.{Rose}
 use Rattle.amqp_layer.specs.declared.inner_error.SessionInnerError.{SessionInnerError}
 use Rattle.amqp_layer.specs.Told.{Steady, Told}
 use Rattle.amqp_sessions.specs.declared.relay.NameState.{NameState}
-use Rattle.amqp_sessions.specs.declared.relay.NameState.TheVariants.{Unknown, Waiting, Taken}
+use Rattle.amqp_sessions.specs.declared.relay.NameState.TheVariants.{Waiting, Taken}
 use Rattle.amqp_sessions.specs.declared.relay.Relay.{Relay}
 use Rattle.amqp_sessions.specs.declared.session_errors.AllocLinkError.{AllocLinkError}
 use Rattle.amqp_sessions.specs.Names.{Names, Placed, SameNames}

@@ -1,5 +1,5 @@
 -- What the owner of a transaction sees of it.
-use Rattle.std.specs.Prelude.{ℕ, ◌≡◌, ◌↔◌, Bool, true, false, if◌then◌else◌, Result, Ok, Err}
+use Rattle.std.specs.Prelude.{ℕ, ◌≡◌, ◌≤◌, ◌↔◌, Bool, true, false, if◌then◌else◌, Result, Ok, Err}
 use Rattle.amqp_txn_types.specs.declared.id.TransactionId.{TransactionId}
 use Rattle.amqp_endpoints.specs.declared.progress.Progress.{Progress}
 use Rattle.amqp_endpoints.specs.declared.progress.Progress.TheVariants as waits
@@ -22,6 +22,14 @@ discharged begun = record begun { is_discharged = true }
 -- with another number of looks
 abbrev pub with_trials : Begun → ℕ → Begun
 with_trials begun trials = record begun { rollback_on_drop_trials = trials }
+
+-- the fact holds of a transaction that isn't discharged
+abbrev pub IfUndischarged : Begun → Type 0 → Type 0
+IfUndischarged begun P = begun.is_discharged ≡ false → P
+
+-- the fact holds of a transaction whose rollback is put where it is given up
+abbrev pub IfTried : Begun → Type 0 → Type 0
+IfTried begun P = begun.is_discharged ≡ false → 1 ≤ begun.rollback_on_drop_trials → P
 
 -- a discharge is refused only where there is something to send
 abbrev pub AsksToDischarge : {W E : Type 0} → Begun → Begun → Result W E → Type 0

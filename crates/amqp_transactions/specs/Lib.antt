@@ -1,4 +1,5 @@
 pub mod Begun
+pub mod Locked
 pub mod Declaring
 pub mod Attaching
 pub mod Owned

@@ -1,7 +1,8 @@
 //! A transaction that was declared, as its owner sees it.
 
 ghost use Rattle.std.specs.Prelude.{◌≡◌};
-ghost use Rattle.amqp_transactions.specs.Begun.{AsksToDischarge, GivesUp, PollsDischarge, begun_as};
+ghost use Rattle.amqp_transactions.specs.Begun.{AsksToDischarge, GivesUp, IfTried, IfUndischarged, PollsDischarge, begun_as};
+ghost use Rattle.amqp_transactions.specs.Locked.{DischargesUnder, GivesUpUnder, PollsUnder};
 
 use crate::controller::Controller;
 use amqp_control_calls::{Abandoned, ControllerSendError, DischargeOnLink};
@@ -43,7 +44,9 @@ impl Begun {
         controller: &Controller<L>,
         fail: bool,
     ) -> Result<DischargeOnLink, ControllerSendError>
-        ensures { AsksToDischarge self.old self.new result }
+        ensures asks { AsksToDischarge self.old self.new result }
+        ensures sends { IfUndischarged self.old (DischargesUnder L.send_gives L.told self.old
+            fail result) }
     {
         if self.is_discharged {
             return Ok(DischargeOnLink::unsent());
@@ -58,7 +61,9 @@ impl Begun {
         controller: &Controller<L>,
         waiting: DischargeOnLink,
     ) -> Progress<DischargeOnLink, Result<(), ControllerSendError>>
-        ensures { PollsDischarge self.old self.new waiting result }
+        ensures polls { PollsDischarge self.old self.new waiting result }
+        ensures looks { IfUndischarged self.old (PollsUnder L.outcome_gives L.told waiting
+            result) }
     {
         if self.is_discharged {
             return Progress::Ready(Ok(()));
@@ -79,7 +84,9 @@ impl Begun {
         rt: &R,
         controller: &Controller<L>,
     ) -> Abandoned
-        ensures { GivesUp self.now result }
+        ensures given { GivesUp self.now result }
+        ensures link { IfTried self.now (GivesUpUnder L.send_gives L.outcome_gives L.told
+            self.now result) }
     {
         if self.is_discharged {
             return Abandoned::Discharged;

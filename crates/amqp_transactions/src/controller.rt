@@ -1,8 +1,10 @@
 //! The controller: a control link under a lock.
 
-ghost use Rattle.std.specs.Prelude.{◌≡◌, ◌≤◌, IfErr};
+ghost use Rattle.std.specs.Prelude.{◌≤◌};
 ghost use Rattle.amqp_control_calls.specs.Abandoning.{WasTried};
+ghost use Rattle.amqp_control_calls.specs.Polling.{accepted_by, declared_by};
 ghost use Rattle.amqp_transactions.specs.Begun.{KeepsWait};
+ghost use Rattle.amqp_transactions.specs.Locked.{AbandonsUnder, ClosesUnder, LooksUnder, SendsUnder, declare_of, discharge_of, error_of};
 
 use amqp_control_calls::{
     Abandoned, ControllerSendError, DeclareOnLink, DischargeOnLink, abandon_on_link,
@@ -44,7 +46,9 @@ impl<L: SenderLink> Controller<L> {
         &self,
         rt: &R,
         global_id: Option<TransactionId>,
-    ) -> Result<DeclareOnLink, ControllerSendError> {
+    ) -> Result<DeclareOnLink, ControllerSendError>
+        ensures { SendsUnder L.send_gives L.told (declare_of global_id) result }
+    {
         let mut link = self.link.lock(rt);
         declare_on_link(self.alloc, &mut *link, global_id)
     }
@@ -55,7 +59,8 @@ impl<L: SenderLink> Controller<L> {
         rt: &R,
         declare: DeclareOnLink,
     ) -> Progress<DeclareOnLink, Result<Declared, ControllerSendError>>
-        ensures { KeepsWait declare result }
+        ensures wait { KeepsWait declare result }
+        ensures looks { LooksUnder L.outcome_gives L.told declared_by declare result }
     {
         let mut link = self.link.lock(rt);
         declare.poll(&mut *link)
@@ -67,7 +72,9 @@ impl<L: SenderLink> Controller<L> {
         rt: &R,
         txn_id: &TransactionId,
         fail: bool,
-    ) -> Result<DischargeOnLink, ControllerSendError> {
+    ) -> Result<DischargeOnLink, ControllerSendError>
+        ensures { SendsUnder L.send_gives L.told (discharge_of txn_id.now fail) result }
+    {
         let mut link = self.link.lock(rt);
         discharge_on_link(self.alloc, &mut *link, txn_id, Some(fail))
     }
@@ -78,7 +85,8 @@ impl<L: SenderLink> Controller<L> {
         rt: &R,
         discharge: DischargeOnLink,
     ) -> Progress<DischargeOnLink, Result<Accepted, ControllerSendError>>
-        ensures { KeepsWait discharge result }
+        ensures wait { KeepsWait discharge result }
+        ensures looks { LooksUnder L.outcome_gives L.told accepted_by discharge result }
     {
         let mut link = self.link.lock(rt);
         discharge.poll(&mut *link)
@@ -87,7 +95,8 @@ impl<L: SenderLink> Controller<L> {
     /// Gives a transaction up, with that many looks under one lock.
     pub(crate) fn abandon<R: Wait>(&self, rt: &R, txn_id: &TransactionId, trials: u32) -> Abandoned
         requires { 1 ≤ trials }
-        ensures { WasTried result }
+        ensures tried { WasTried result }
+        ensures link { AbandonsUnder L.send_gives L.outcome_gives L.told txn_id.now trials result }
     {
         let mut link = self.link.lock(rt);
         abandon_on_link(self.alloc, &mut *link, txn_id, trials)
@@ -98,7 +107,9 @@ impl<L: SenderLink> Controller<L> {
         &self,
         rt: &R,
         error: Option<Error>,
-    ) -> Result<(), DetachError> {
+    ) -> Result<(), DetachError>
+        ensures { ClosesUnder L.close_gives L.told error result }
+    {
         let mut link = self.link.lock(rt);
         link.close(error)
     }
@@ -110,7 +121,7 @@ impl<L: SenderLink + Drop> Controller<L> {
     ///
     /// An error is the link's, with the controller handed back as it was.
     pub fn close<R: Wait>(self, rt: &R) -> Result<(), (Self, DetachError)>
-        ensures { IfErr result (λ refused. refused.0 ≡ self) }
+        ensures { ClosesUnder L.close_gives L.told None (error_of result) }
     {
         match self.close_link(rt, None) {
             Ok(()) => Ok(()),
@@ -120,7 +131,7 @@ impl<L: SenderLink + Drop> Controller<L> {
 
     /// Closes the control link with an error, as [`Controller::close`] does without one.
     pub fn close_with_error<R: Wait>(self, rt: &R, error: Error) -> Result<(), (Self, DetachError)>
-        ensures { IfErr result (λ refused. refused.0 ≡ self) }
+        ensures { ClosesUnder L.close_gives L.told (Some error) (error_of result) }
     {
         match self.close_link(rt, Some(error)) {
             Ok(()) => Ok(()),

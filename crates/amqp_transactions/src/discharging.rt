@@ -1,8 +1,8 @@
 //! A transaction whose discharge is awaited.
 
 ghost use Rattle.std.specs.Prelude.{◌≡◌};
-ghost use Rattle.amqp_transactions.specs.Begun.{PollsToEnd};
-ghost use Rattle.amqp_transactions.specs.Discharging.{value_of};
+ghost use Rattle.amqp_transactions.specs.Begun.{IfUndischarged, PollsToEnd};
+ghost use Rattle.amqp_transactions.specs.Discharging.{FindsEnd, SpendsAtEnd, WaitsOn, value_of, waiting_of};
 
 use crate::discharge::TransactionDischarge;
 use amqp_endpoints::Progress;
@@ -16,7 +16,8 @@ pub struct Discharging<T: TransactionDischarge> {
 
 impl<T: TransactionDischarge> Discharging<T> {
     pub(crate) fn new(value: T, waiting: T::Waiting) -> Self
-        ensures { value_of result ≡ value }
+        ensures value { value_of result ≡ value }
+        ensures waiting { waiting_of result ≡ waiting }
     {
         Discharging { value, waiting }
     }
@@ -42,7 +43,11 @@ impl<T: TransactionDischarge> Discharging<T> {
     /// An error hands the transaction back: discharged, where it couldn't be let go, else as it
     /// was. Where it was discharged before, only the first of these comes, and it isn't `Pending`.
     pub fn poll<R: Wait>(self, rt: &R) -> Progress<Discharging<T>, Result<(), (T, T::Error)>>
-        ensures { PollsToEnd T.begun value_of T.of_spend (T.begun (value_of self)) result }
+        ensures ends { PollsToEnd T.begun value_of T.of_spend (T.begun (value_of self)) result }
+        ensures waits { WaitsOn waiting_of (waiting_of self) result }
+        ensures finds { IfUndischarged (T.begun (value_of self))
+            (FindsEnd waiting_of T.of_spend (T.poll_gives (waiting_of self)) result) }
+        ensures spends { SpendsAtEnd T.of_spend T.spend_gives result }
     {
         let Discharging { mut value, waiting } = self;
         match value.poll_discharge(rt, waiting) {

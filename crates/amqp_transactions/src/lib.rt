@@ -38,10 +38,13 @@
 //! stand the calls on a lent link, of `amqp_control_calls`. The promise that this crate carries is
 //! what values show: a transaction is marked discharged exactly by a poll that is `Ready(Ok)`, the
 //! poll of a discharged one is `Ready(Ok)` or the error of the close of its link, and each refusal
-//! hands back the value or the controller. Contracts see all controllers as equal, so which one it
-//! is the types alone keep apart. No contract can say what a link under a lock holds: which calls
-//! are made under the lock and that their answers are passed on, that a discharged transaction makes
-//! none but the close, and that a poll makes exactly one look, is only tested. 'The standard' is OASIS AMQP 1.0.
+//! hands back the value or the controller. No contract can name what a link under a lock is before
+//! a call and after it. So a call over the lock promises that there are two values of the link
+//! between which it made its one call, with the answer that it passes on: that makes it the answer
+//! of a link, and of that call. That it makes no other call, and that a discharged transaction
+//! makes none but the close, is only tested. Of a borrowed transaction contracts see which
+//! controller it has; owned ones are kept apart by their types alone. 'The standard' is OASIS AMQP
+//! 1.0.
 #![tactic(auto)]
 
 mod attaching;

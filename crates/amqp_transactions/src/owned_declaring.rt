@@ -1,6 +1,6 @@
 //! An owned transaction from its attach on.
 
-ghost use Rattle.std.specs.Prelude.{◌≡◌, Err, None, Result, Some, is_none, is_some};
+ghost use Rattle.std.specs.Prelude.{◌≡◌, Err, None, Result, Some, is_some};
 ghost use Rattle.amqp_txn_types.specs.declared.performatives.Attach.{Attach as Opening};
 ghost use Rattle.amqp_txn_types.specs.declared.performatives.LinkEnd.{LinkEnd as End};
 ghost use Rattle.amqp_endpoints.specs.declared.attach_errors.SenderAttachError.{SenderAttachError as Unopened};
@@ -8,7 +8,9 @@ ghost use Rattle.amqp_txn_types.specs.declared.small.SenderSettleMode.TheVariant
 ghost use Rattle.amqp_endpoints.specs.declared.progress.Progress.TheVariants as waits;
 ghost use Rattle.amqp_transactions.specs.declared.owned_errors.OwnedDeclareError.TheVariants as declares;
 ghost use Rattle.amqp_transactions.specs.Attaching.{AttachesBy, NamesAttach, TellsAttach};
-ghost use Rattle.amqp_transactions.specs.Owned.{PollsDeclare, PollsOwned, PutsDeclare, owned_by};
+ghost use Rattle.amqp_transactions.specs.Declaring.{PollsToBegin};
+ghost use Rattle.amqp_transactions.specs.Locked.{SendsUnder, declare_of};
+ghost use Rattle.amqp_transactions.specs.Owned.{DeclareFailed, PollsOwned, PutsDeclare, for_declare, is_put, owned_begun, owned_by, owned_sent};
 
 use crate::attaching::Attaching;
 use crate::controller::Controller;
@@ -16,7 +18,7 @@ use crate::owned_errors::OwnedDeclareError;
 use crate::owned_transaction::{OwnedDeclaringOn, OwnedTransaction};
 use amqp_control_calls::ControllerSendError;
 use amqp_endpoints::Progress;
-use amqp_links::WireSender;
+use amqp_links::{SenderLink, WireSender};
 use amqp_sessions::Session;
 use amqp_txn_types::{Attach, Text, TransactionId};
 use std::alloc::Global;
@@ -24,7 +26,7 @@ use std::marker::Model;
 use std::sync::Wait;
 
 /// An owned transaction that is being declared: first its control link is attached, then it is
-/// declared. A contract sees the link that waits for the peer's attach, with the global id.
+/// declared. A contract sees what is awaited.
 #[derive(Drop)]
 pub struct OwnedDeclaring {
     awaited: Awaited,
@@ -40,11 +42,11 @@ enum Awaited {
 }
 
 impl Model for OwnedDeclaring {
-    ghost use Rattle.amqp_transactions.specs.Owned.{WaitsForAttach, unattached_of};
+    ghost use Rattle.amqp_transactions.specs.Owned.{OwnedWait, awaited_of};
 
-    ghost Value = { WaitsForAttach };
+    ghost Value = { OwnedWait };
 
-    ghost view = { λ d. unattached_of d.awaited };
+    ghost view = { λ d. awaited_of d.awaited };
 }
 
 /// What a poll of an owned transaction that is being declared finds; an error hands the controller
@@ -92,7 +94,7 @@ impl OwnedTransaction<WireSender> {
 impl OwnedDeclaring {
     /// The controller of the link; `None` exactly until the link is attached.
     pub fn controller(&self) -> Option<&Controller<WireSender>>
-        ensures { is_some result ≡ is_none self.now }
+        ensures { is_some result ≡ is_put self.now }
     {
         match &self.awaited {
             Awaited::Attach(_, _) => None,
@@ -108,8 +110,9 @@ impl OwnedDeclaring {
     /// attached, or `NoMemory` for the copy of its reason; else `ControllerSendError` with those of
     /// the declare. The controller is handed back exactly where the link was attached.
     pub fn poll<S: Session, R: Wait>(self, rt: &R, session: &mut S) -> DeclareProgress
-        ensures answer { PollsOwned (S.names session.old).known (S.kept session.old).stop
-            self result }
+        ensures answer { PollsOwned ⟦<WireSender as SenderLink>⟧.send_gives
+            ⟦<WireSender as SenderLink>⟧.outcome_gives ⟦<WireSender as SenderLink>⟧.told
+            (S.names session.old).known (S.kept session.old).stop self result }
         ensures session { session.new ≡ session.old }
     {
         let OwnedDeclaring { awaited } = self;
@@ -135,7 +138,8 @@ fn put_declare<R: Wait>(
     controller: Controller<WireSender>,
     global_id: Option<TransactionId>,
 ) -> DeclareProgress
-    ensures { PutsDeclare result }
+    ensures { PutsDeclare (SendsUnder ⟦<WireSender as SenderLink>⟧.send_gives
+        ⟦<WireSender as SenderLink>⟧.told (declare_of global_id)) result }
 {
     match OwnedTransaction::declare_with_controller(controller, rt, global_id) {
         Ok(declaring) => {
@@ -148,7 +152,9 @@ fn put_declare<R: Wait>(
 
 /// Looks once for the outcome of the declare.
 fn poll_declare<R: Wait>(rt: &R, declaring: OwnedDeclaringOn<WireSender>) -> DeclareProgress
-    ensures { PollsDeclare result }
+    ensures { PollsToBegin ⟦<WireSender as SenderLink>⟧.outcome_gives
+        ⟦<WireSender as SenderLink>⟧.told owned_begun DeclareFailed (owned_sent declaring)
+        (for_declare (owned_sent declaring)) result }
 {
     match declaring.poll(rt) {
         Progress::Pending(declaring) => {

@@ -1,9 +1,10 @@
 //! Transactions that own their controller.
 
-ghost use Rattle.std.specs.Prelude.{◌≡◌, IfErr, IfOk};
+ghost use Rattle.std.specs.Prelude.{◌≡◌};
 ghost use Rattle.amqp_transactions.specs.Begun.{with_trials};
-ghost use Rattle.amqp_transactions.specs.Declaring.{OnDeclared, PollsToBegin};
-ghost use Rattle.amqp_transactions.specs.Owned.{is_close_error, owned_begun};
+ghost use Rattle.amqp_transactions.specs.Declaring.{PollsToBegin};
+ghost use Rattle.amqp_transactions.specs.Locked.{GivesUpUnder, SendsUnder, declare_of};
+ghost use Rattle.amqp_transactions.specs.Owned.{ClosesAtEnd, OwnedDischarges, OwnedPolls, is_close_error, owned_begun, owned_declare_sent, owned_sent};
 
 use crate::begun::Begun;
 use crate::controller::Controller;
@@ -39,8 +40,8 @@ impl<L: SenderLink> OwnedTransaction<L> {
         rt: &R,
         global_id: Option<TransactionId>,
     ) -> Result<OwnedDeclaringOn<L>, (Controller<L>, ControllerSendError)>
-        ensures wait { IfOk result (λ wait. wait.controller ≡ controller) }
-        ensures back { IfErr result (λ refused. refused.0 ≡ controller) }
+        ensures { SendsUnder L.send_gives L.told (declare_of global_id)
+            (owned_declare_sent result) }
     {
         match controller.declare(rt, global_id) {
             Ok(declare) => Ok(OwnedDeclaringOn {
@@ -52,9 +53,7 @@ impl<L: SenderLink> OwnedTransaction<L> {
     }
 
     /// The controller of the transaction's link.
-    pub fn controller(&self) -> &Controller<L>
-        ensures { result.now ≡ self.now.controller }
-    {
+    pub fn controller(&self) -> &Controller<L> {
         &self.controller
     }
 
@@ -67,8 +66,7 @@ impl<L: SenderLink> OwnedTransaction<L> {
 
     /// Sets how often an abandon looks for the outcome of its rollback. With 0 it puts none.
     pub fn set_rollback_on_drop_trials(&mut self, trials: u32)
-        ensures trials { owned_begun self.new ≡ with_trials (owned_begun self.old) trials }
-        ensures controller { self.new.controller ≡ self.old.controller }
+        ensures { owned_begun self.new ≡ with_trials (owned_begun self.old) trials }
     {
         self.begun.rollback_on_drop_trials = trials;
     }
@@ -97,6 +95,14 @@ impl<L: SenderLink + Drop> TransactionDischarge for OwnedTransaction<L> {
     ghost begun = { owned_begun };
 
     ghost of_spend = { is_close_error };
+
+    ghost discharge_gives = { OwnedDischarges L.send_gives L.told };
+
+    ghost poll_gives = { OwnedPolls L.outcome_gives L.told };
+
+    ghost abandon_gives = { GivesUpUnder L.send_gives L.outcome_gives L.told };
+
+    ghost spend_gives = { ClosesAtEnd L.close_gives L.told };
 
     fn is_discharged(&self) -> bool {
         self.begun.is_discharged
@@ -153,9 +159,7 @@ pub struct OwnedDeclaringOn<L: SenderLink> {
 
 impl<L: SenderLink> OwnedDeclaringOn<L> {
     /// The controller of the link on which the declare was put.
-    pub fn controller(&self) -> &Controller<L>
-        ensures { result.now ≡ self.now.controller }
-    {
+    pub fn controller(&self) -> &Controller<L> {
         &self.controller
     }
 
@@ -170,10 +174,8 @@ impl<L: SenderLink> OwnedDeclaringOn<L> {
         OwnedDeclaringOn<L>,
         Result<OwnedTransaction<L>, (Controller<L>, ControllerSendError)>,
     >
-        ensures declares { PollsToBegin owned_begun self result }
-        ensures controller { OnDeclared result (λ wait. wait.controller ≡ self.controller)
-            (λ transaction. transaction.controller ≡ self.controller)
-            (λ refused. refused.0 ≡ self.controller) }
+        ensures { PollsToBegin L.outcome_gives L.told owned_begun
+            (λ refused error. refused.1 ≡ error) (owned_sent self) self result }
     {
         let OwnedDeclaringOn {
             controller,

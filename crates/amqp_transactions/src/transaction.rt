@@ -1,9 +1,10 @@
 //! Transactions that borrow their controller.
 
-ghost use Rattle.std.specs.Prelude.{◌≡◌, false, IfOk};
+ghost use Rattle.std.specs.Prelude.{◌≡◌, Ok, false, IfOk};
 ghost use Rattle.amqp_transactions.specs.Begun.{with_trials};
-ghost use Rattle.amqp_transactions.specs.Declaring.{OnDeclared, PollsToBegin};
-ghost use Rattle.amqp_transactions.specs.Transactions.{begun_of};
+ghost use Rattle.amqp_transactions.specs.Declaring.{OnBegun, PollsToBegin};
+ghost use Rattle.amqp_transactions.specs.Locked.{DischargesUnder, GivesUpUnder, PollsUnder, SendsUnder, declare_of};
+ghost use Rattle.amqp_transactions.specs.Transactions.{begun_of, controller_of, declare_sent, put_over, sent_of};
 
 use crate::begun::Begun;
 use crate::controller::Controller;
@@ -36,18 +37,22 @@ impl<'t, L: SenderLink> Transaction<'t, L> {
         rt: &R,
         global_id: Option<TransactionId>,
     ) -> Result<Declaring<'t, L>, ControllerSendError>
-        ensures { IfOk result (λ wait. wait.controller.now ≡ controller.now) }
+        ensures over { IfOk result (λ wait. put_over wait ≡ controller.entry) }
+        ensures sends { SendsUnder L.send_gives L.told (declare_of global_id)
+            (declare_sent result) }
     {
-        let declare = controller.declare(rt, global_id)?;
-        Ok(Declaring {
-            controller,
-            declare,
-        })
+        match controller.declare(rt, global_id) {
+            Ok(declare) => Ok(Declaring {
+                controller,
+                declare,
+            }),
+            Err(error) => Err(error),
+        }
     }
 
     /// The controller over which it was declared.
     pub fn controller(&self) -> &Controller<L>
-        ensures { result.now ≡ self.now.controller.now }
+        ensures { result ≡ controller_of self.now }
     {
         self.controller
     }
@@ -62,7 +67,7 @@ impl<'t, L: SenderLink> Transaction<'t, L> {
     /// Sets how often an abandon looks for the outcome of its rollback. With 0 it puts none.
     pub fn set_rollback_on_drop_trials(&mut self, trials: u32)
         ensures trials { begun_of self.new ≡ with_trials (begun_of self.old) trials }
-        ensures controller { self.new.controller.now ≡ self.old.controller.now }
+        ensures controller { controller_of self.new ≡ controller_of self.old }
     {
         self.begun.rollback_on_drop_trials = trials;
     }
@@ -90,6 +95,14 @@ impl<L: SenderLink> TransactionDischarge for Transaction<'_, L> {
     ghost begun = { begun_of };
 
     ghost of_spend = { λ _. false };
+
+    ghost discharge_gives = { DischargesUnder L.send_gives L.told };
+
+    ghost poll_gives = { PollsUnder L.outcome_gives L.told };
+
+    ghost abandon_gives = { GivesUpUnder L.send_gives L.outcome_gives L.told };
+
+    ghost spend_gives = { λ result. result ≡ Ok tt };
 
     fn is_discharged(&self) -> bool {
         self.begun.is_discharged
@@ -141,11 +154,10 @@ impl<'t, L: SenderLink> Declaring<'t, L> {
         self,
         rt: &R,
     ) -> Progress<Declaring<'t, L>, Result<Transaction<'t, L>, ControllerSendError>>
-        ensures declares { PollsToBegin begun_of self.entry result }
-        ensures controller { OnDeclared result
-            (λ wait. wait.controller.now ≡ self.entry.controller.now)
-            (λ transaction. transaction.controller.now ≡ self.entry.controller.now)
-            (λ _. Unit {0}) }
+        ensures declares { PollsToBegin L.outcome_gives L.told begun_of
+            (λ error found. error ≡ found) (sent_of self.entry) self.entry result }
+        ensures over { OnBegun result (λ transaction. controller_of transaction
+            ≡ put_over self.entry) }
     {
         let Declaring {
             controller,
