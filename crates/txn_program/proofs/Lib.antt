@@ -6,3 +6,4 @@ pub mod MadeRuns
 pub mod Endings
 pub mod Runs
 pub mod Streaming
+pub mod Readers

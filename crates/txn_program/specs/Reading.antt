@@ -2,6 +2,7 @@
 use Rattle.std.specs.Prelude.{ℕ, ◌≡◌, ◌≤◌, ◌<◌, ◌+◌, ◌++◌, Option, Some, None, List, [], length, drop}
 use Rattle.amqp_streams.specs.Streams.{SourceTold}
 use Rattle.amqp_txn_types.specs.Counts.{Rose}
+use Rattle.txn_program.specs.declared.std_streams.StdSource.{StdSource}
 use Rattle.txn_program.specs.declared.reading.TheConstants.{INPUT_LIMIT}
 use Rattle.txn_program.specs.declared.reading.Reading.{Reading}
 use Rattle.txn_program.specs.declared.reading.Reading.TheVariants as readings
@@ -9,6 +10,13 @@ use Rattle.txn_program.specs.declared.reading.Reading.TheVariants as readings
 -- what a source tells, by its two members
 abbrev pub source_of : {I : Type 0} → (I → Option (List ℕ)) → (I → ℕ) → I → SourceTold
 source_of rest faults input = record { rest = rest input; faults = faults input }
+
+-- the reader of a source, and how often it failed
+abbrev pub reader_of : {R : Type 0} → StdSource R → R
+reader_of source = source.reader
+
+abbrev pub source_faults_of : {R : Type 0} → StdSource R → ℕ
+source_faults_of source = source.faults
 
 -- where the octets are told, these came first and the others are left
 abbrev pub IsRead : Option (List ℕ) → List ℕ → Option (List ℕ) → Type 0

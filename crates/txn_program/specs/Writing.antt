@@ -32,6 +32,12 @@ abbrev pub EndsWith : ℕ → ℕ → ℕ → ℕ → Type 0
 EndsWith faults faults_after wanted status =
     (status ≡ 6) ⊎ (((status ≡ 5) × Rose faults faults_after) ⊎ (status ≡ wanted))
 
--- the writer of a sink
+-- the writer of a sink, how often it failed, and for how many octets there is room
 abbrev pub writer_of : {W : Type 0} → StdSink W → W
 writer_of sink = sink.writer
+
+abbrev pub sink_faults_of : {W : Type 0} → StdSink W → ℕ
+sink_faults_of sink = sink.faults
+
+abbrev pub spare_of : {W : Type 0} → StdSink W → ℕ
+spare_of sink = sink.spare
