@@ -25,8 +25,6 @@ mod connection;
 mod listening;
 mod memory_connection;
 mod progress;
-#[cfg(test)]
-mod tests;
 
 pub use attach_errors::{ReceiverAttachError, SenderAttachError};
 pub use connection::{AllocSessionError, ConnectionEnd, IncomingSession};

@@ -30,8 +30,6 @@ mod open;
 mod refusal;
 mod taking;
 mod tells;
-#[cfg(test)]
-mod tests;
 
 pub use answers::{Answers, Echoes};
 pub use incoming::on_incoming_frame;

@@ -29,7 +29,5 @@
 mod call_numbers;
 mod keeping;
 mod recorder;
-#[cfg(test)]
-mod tests;
 
 pub use recorder::Recorder;

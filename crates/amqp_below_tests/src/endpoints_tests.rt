@@ -1,31 +1,17 @@
 //! What no clause says: that the calls succeed where there is memory, and the texts of errors.
 
-use crate::*;
+use amqp_endpoints::*;
 use amqp_layer::SessionInnerError;
 use amqp_links::Poll;
 use amqp_sessions::{AllocLinkError, BeginError};
-use amqp_txn_types::{
-    Begin, ConnectionStopReason, Handle, OutgoingChannel, SessionStopReason, TryClone,
-};
+use amqp_test_values::{begin, other_text};
+use amqp_txn_types::{ConnectionStopReason, OutgoingChannel, SessionStopReason, TryClone};
 use std::test::Fail;
-
-fn begin() -> Begin {
-    Begin {
-        remote_channel: None,
-        next_outgoing_id: 0,
-        incoming_window: 2,
-        outgoing_window: 2,
-        handle_max: Handle(7),
-        offered_capabilities: None,
-        desired_capabilities: None,
-        properties: None,
-    }
-}
 
 fn incoming(channel: u16) -> IncomingSession {
     IncomingSession {
         channel,
-        begin: begin(),
+        begin: begin(7),
     }
 }
 
@@ -81,10 +67,7 @@ fn errors_of_channels_have_their_texts(rt: HostRuntime) -> Result<(), Fail> {
         (stopped, "the connection stopped: Closed"),
         (AllocSessionError::NoMemory, "out of memory"),
     ];
-    for (error, want) in &table {
-        let text = format!(in rt.alloc(); "{error}")?;
-        assert_eq!(rt; text.as_str(), *want);
-    }
+    assert_eq!(rt; other_text(rt.alloc(), &table)?, None);
     Ok(())
 }
 
@@ -105,10 +88,7 @@ fn errors_of_senders_have_their_texts(rt: HostRuntime) -> Result<(), Fail> {
         ),
         (SenderAttachError::NoMemory, "out of memory"),
     ];
-    for (error, want) in &table {
-        let text = format!(in rt.alloc(); "{error}")?;
-        assert_eq!(rt; text.as_str(), *want);
-    }
+    assert_eq!(rt; other_text(rt.alloc(), &table)?, None);
     Ok(())
 }
 
@@ -129,9 +109,6 @@ fn errors_of_receivers_have_their_texts(rt: HostRuntime) -> Result<(), Fail> {
         ),
         (ReceiverAttachError::NoMemory, "out of memory"),
     ];
-    for (error, want) in &table {
-        let text = format!(in rt.alloc(); "{error}")?;
-        assert_eq!(rt; text.as_str(), *want);
-    }
+    assert_eq!(rt; other_text(rt.alloc(), &table)?, None);
     Ok(())
 }

@@ -1,43 +1,17 @@
 //! What no clause says: that the calls succeed where there is memory, and the texts of errors.
 
-use crate::*;
-use amqp_txn_types::{
-    AmqpError, ConnectionStopReason, Detach, Error, ErrorCondition, Frame, Handle, TryClone,
-};
-use std::alloc::Global;
+use amqp_layer::*;
+use amqp_test_values::{detach, not_allowed, other_text};
+use amqp_txn_types::{ConnectionStopReason, Frame, TryClone};
 use std::test::Fail;
 
 #[test]
 fn an_open_session_takes_everything(rt: HostRuntime) -> Result<(), Fail> {
     let mut below = OpenSession::new(rt.alloc());
-    let detach = Detach {
-        handle: Handle(3),
-        closed: true,
-        error: None,
-    };
-    let answers = take_frame(&mut below, Frame::Detach(detach))?;
+    let answers = take_frame(&mut below, Frame::Detach(detach(3)))?;
     assert_eq!(rt; answers.given.len(), 0);
     assert!(rt; answers.window.is_none());
     Ok(())
-}
-
-/// The place of the first error whose text is another than the one beside it.
-fn other_text(alloc: Global, table: &[(SessionInnerError, &str)]) -> Result<Option<usize>, Fail> {
-    for (place, (error, want)) in table.iter().enumerate() {
-        let text = format!(in alloc; "{error}")?;
-        if text.as_str() != *want {
-            return Ok(Some(place));
-        }
-    }
-    Ok(None)
-}
-
-fn not_allowed() -> Error {
-    Error {
-        condition: ErrorCondition::AmqpError(AmqpError::NotAllowed),
-        description: None,
-        info: None,
-    }
 }
 
 #[test]
