@@ -8,3 +8,4 @@ pub mod Running
 pub mod Keeping
 pub mod Calling
 pub mod Heard
+pub mod Filling

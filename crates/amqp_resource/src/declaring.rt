@@ -48,7 +48,7 @@ pub fn global_step(
     ))
 }
 
-/// Draws up to 16 ids, to the first that isn't live.
+/// Draws up to 16 ids, to the first that isn't live, and gives back the room that is left then.
 fn draw_unused<G: IdSource>(live: &LiveIds, ids: &mut G, drawn: &mut Drawn) -> Option<TransactionId>
     requires none { drawn.old.ids ≡ [] }
     requires room { 16 ≤ drawn.old.spare }
@@ -61,6 +61,7 @@ fn draw_unused<G: IdSource>(live: &LiveIds, ids: &mut G, drawn: &mut Drawn) -> O
         let id = ids.draw();
         drawn.push(id);
         if !has_id(live, id) {
+            drawn.trim();
             return Some(id);
         }
     }

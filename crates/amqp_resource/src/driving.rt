@@ -10,14 +10,13 @@ ghost use Rattle.amqp_record.specs.Entries.{drawn_of, steps_of};
 ghost use Rattle.amqp_record.specs.Legal.{IsLegal};
 ghost use Rattle.amqp_record.specs.Opened.{opens};
 ghost use Rattle.amqp_resource.specs.Drive.{NextStep, RunLeaves, RunRefused, RunRose, RunTook, StopCause, StopsBy, StopsWith};
-ghost use Rattle.amqp_resource.specs.Steps.{IsFirstStop, UnderDead, ended_by};
+ghost use Rattle.amqp_resource.specs.Steps.{IsFirstStop, UnderDead, ended_by, entry_of};
 ghost use Rattle.amqp_resource.specs.Session.{FitsTogether, IsFresh, told_of};
 
 use crate::session::TxnSession;
-use amqp_ids::IdSource;
+use amqp_ids::{Drawn, IdSource};
 use amqp_layer::LayerBelow;
-use amqp_record::{Driven, Entries, Entry, StepError, Steps, Stop};
-use std::collections::VecDeque;
+use amqp_record::{Driven, Entries, Entry, Reply, StepError, Steps, Stop};
 
 /// The stop of a run, by the error of its last step, with the number of frames handed.
 fn stop_by(error: StepError) -> (Stop, usize)
@@ -50,7 +49,17 @@ fn driven(entries: Vec<Entry>, stop: Stop, handed: usize) -> Driven
     }
 }
 
+/// Fills in what the step of an entry drew and was answered.
+fn fill_in(entry: &mut Entry, drawn: Drawn, reply: Reply)
+    ensures { entry.new ≡ entry_of entry.old.step drawn reply }
+{
+    entry.drawn = drawn;
+    entry.reply = reply;
+}
+
 /// Makes the steps of a fresh session in order, until one isn't answered.
+///
+/// It takes no memory for the record: each entry stands where its step did.
 pub fn drive<S: LayerBelow, G: IdSource>(
     session: &mut TxnSession<S>,
     steps: Steps,
@@ -68,7 +77,7 @@ pub fn drive<S: LayerBelow, G: IdSource>(
     ensures done { (result.stop ≡ stops.Done) ↔ (steps_of result.entries ≡ steps) }
     ensures cause { StopCause steps result.entries result.stop }
     ensures unknown { NextStep steps result.entries (λ s. UnderDead result.entries s) →
-        StopsWith result.stop (stops.Fault faults.UnknownTxnId) }
+        result.stop ≡ stops.Fault faults.UnknownTxnId }
     ensures ended { (reason : SessionStopReason) → NextStep steps result.entries
         (λ s. ended_by s ≡ Some reason) →
         StopsWith result.stop (stops.Ended reason) }
@@ -91,16 +100,12 @@ pub fn drive<S: LayerBelow, G: IdSource>(
     ensures leaves { RunLeaves session.new result.entries result.stop }
     ensures fits { FitsTogether session.new }
 {
-    let alloc = session.allocator();
-    let Ok(mut entries) = Vec::with_capacity(alloc, steps.len()) else {
-        return driven(Vec::new(alloc), Stop::NoMemory, 0);
-    };
-    let mut rest = VecDeque::from(steps.into_vec());
-    while let Some(step) = rest.pop_front() {
-        match session.step(&step, ids) {
-            Ok((drawn, reply)) => entries.push_reserved(Entry { step, drawn, reply }),
+    let mut entries = steps.into_entries();
+    for at in 0..entries.len() {
+        match session.step(&entries[at].step, ids) {
+            Ok((drawn, reply)) => fill_in(&mut entries[at], drawn, reply),
             Err(error) => {
-                drop(step);
+                entries.truncate(at);
                 let (stop, handed) = stop_by(error);
                 return driven(entries, stop, handed);
             }
