@@ -1,5 +1,5 @@
 -- The frames that are kept for an id, after the log was changed.
-use Rattle.std.proofs.Common.{◌≡◌, ◌+◌, ℕ, Bool, true, false, cond, Option, Some, None, List, [], ◌∷◌, length, suc, arith, refl, sym, ap, subst, ◌∙◌, add-zero, zero-add}
+use Rattle.std.proofs.Common.{◌≡◌, ◌<◌, ◌+◌, ◌^◌, ℕ, Bool, true, false, cond, Option, Some, None, List, [], ◌∷◌, length, suc, arith, refl, sym, ap, subst, ◌∙◌, add-zero, zero-add}
 use Rattle.std.specs.Prelude.{filter, count_by, is_some, IfSome, slice_get, slice_set, zero}
 use Rattle.std.specs.List.{cons_option}
 use Rattle.std.proofs.lemmas.List.Sums.{length-filter}
@@ -121,41 +121,39 @@ live_and_dead cs =
 
 -- ---- the log once the first work of an id was taken
 
-pub record TookFirst (t : TransactionId) (old : Log) (p : ℕ) : Type 0 where
+pub record TookFirst (t : TransactionId) (old : List Cell) (p : ℕ) : Type 0 where
   pub work : TxnWorkFrame
-  pub at : slice_get old.cells p ≡ Some (cells.Live t work)
-  pub frames : frames_of old t ≡ frame_of_work work ∷ frames_of (without_work old p) t
+  pub at : slice_get old p ≡ Some (cells.Live t work)
+  pub frames : frames_in old t ≡ frame_of_work work ∷ frames_in (slice_set old p cells.Dead) t
 
-pub took_first : (t : TransactionId) (old : Log) (p : ℕ) → slice_get (places old t) 0 ≡ Some p → TookFirst t old p
+pub took_first : (t : TransactionId) (old : List Cell) (p : ℕ) → slice_get (places_from 0 t old) 0 ≡ Some p → TookFirst t old p
 took_first t old p e =
-    let first = first_cell t 0 p old.cells e in
+    let first = first_cell t 0 p old e in
     let same : first.place ≡ p = sym (first.is ∙ zero-add first.place) in
     record {
       work = first.work;
-      at = subst (λ i. slice_get old.cells i ≡ Some (cells.Live t first.work)) same first.at;
-      frames = subst (λ i. frames_in old.cells t ≡ frame_of_work first.work ∷ frames_in (slice_set old.cells i cells.Dead) t) same first.frames;
+      at = subst (λ i. slice_get old i ≡ Some (cells.Live t first.work)) same first.at;
+      frames = subst (λ i. frames_in old t ≡ frame_of_work first.work ∷ frames_in (slice_set old i cells.Dead) t) same first.frames;
     }
 
 pub first_is_live : (t : TransactionId) (log : Log) (o : Option ℕ) → o ≡ slice_get (places log t) 0 → IfSome o (λ p. is_some (work_at log.cells p) ≡ true)
 first_is_live t log None e = tt
-first_is_live t log (Some p) e = ap (λ o. is_some (work_in o)) (took_first t log p (sym e)).at
+first_is_live t log (Some p) e = ap (λ o. is_some (work_in o)) (took_first t log.cells p (sym e)).at
 
-pub others-taken : (t u : TransactionId) (old : Log) (p : ℕ) → slice_get (places old t) 0 ≡ Some p → same_id u t ≡ false → frames_of (without_work old p) u ≡ frames_of old u
-others-taken t u old p e s =
-    let first = took_first t old p e in
-    others_stay u t first.work p old.cells first.at s
+pub live-taken : (i : ℕ) (u : TransactionId) (w : TxnWorkFrame) (cs : List Cell) → slice_get cs i ≡ Some (cells.Live u w) → count_by is_live_cell (slice_set cs i cells.Dead) + 1 ≡ count_by is_live_cell cs
+live-taken i u w cs at =
+    let dead = dead-taken i u w cs (work-below cs i (ap (λ o. is_some (work_in o)) at)) at in
+    let before = live_and_dead cs in
+    let after = live_and_dead (slice_set cs i cells.Dead) in
+    let long = length-set cs i cells.Dead in
+    omega arith
 
-pub dead-first : (t : TransactionId) (old : Log) (p : ℕ) → slice_get (places old t) 0 ≡ Some p → dead_count (without_work old p) ≡ dead_count old + 1
-dead-first t old p e =
-    let first = took_first t old p e in
-    dead-taken p t first.work old.cells (work-below old.cells p (ap (λ o. is_some (work_in o)) first.at)) first.at
-
-pub live-first : (t : TransactionId) (old : Log) (p : ℕ) → slice_get (places old t) 0 ≡ Some p → live_count (without_work old p) + 1 ≡ live_count old
-live-first t old p e =
-    let dead = dead-first t old p e in
-    let before = live_and_dead old.cells in
-    let after = live_and_dead (slice_set old.cells p cells.Dead) in
-    let long = length-set old.cells p cells.Dead in
+-- one more dead cell can be counted
+pub dead-fits : (i : ℕ) (u : TransactionId) (w : TxnWorkFrame) (cs : List Cell) → slice_get cs i ≡ Some (cells.Live u w) → length cs < 2 ^ 64 → count_by is_dead_cell cs + 1 < 2 ^ 64
+dead-fits i u w cs at small =
+    let dead = dead-taken i u w cs (work-below cs i (ap (λ o. is_some (work_in o)) at)) at in
+    let after = live_and_dead (slice_set cs i cells.Dead) in
+    let long = length-set cs i cells.Dead in
     omega arith
 
 -- ---- the log closed up

@@ -15,7 +15,7 @@ picked : {S : Type 0} (b : Bool) (w : VecDeque ℕ S) (o : Option (VecDeque ℕ 
 picked true w o = refl
 picked false w o = refl
 
-same_or : (b : Bool) (xs ys zs : List ℕ) → (b ≡ true → xs ≡ ys) → cond b xs zs ≡ cond b ys zs
+pub same_or : (b : Bool) (xs ys zs : List ℕ) → (b ≡ true → xs ≡ ys) → cond b xs zs ≡ cond b ys zs
 same_or true xs ys zs e = e refl
 same_or false xs ys zs e = refl
 

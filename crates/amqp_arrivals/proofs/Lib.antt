@@ -5,3 +5,4 @@ pub mod Closing
 pub mod Frames
 pub mod Live
 pub mod Counting
+pub mod Reading

@@ -1,9 +1,10 @@
 -- The places of the live cells of an id, after the log was changed.
-use Rattle.std.proofs.Common.{◌≡◌, ◌<◌, ◌≤◌, ◌+◌, ◌++◌, ℕ, Bool, true, false, cond, Some, None, List, [], ◌∷◌, length, suc, arith, refl, sym, ap, ◌∙◌, append-nil, append_assoc, zero-add, add-zero, ⊎_elim}
+use Rattle.std.proofs.Common.{◌≡◌, ◌<◌, ◌≤◌, ◌+◌, ◌++◌, ℕ, Bool, true, false, cond, Some, None, List, [], ◌∷◌, drop, length, suc, arith, refl, sym, ap, ◌∙◌, append-nil, append_assoc, zero-add, add-zero, ⊎_elim}
 use Rattle.std.specs.Prelude.{◌==◌, slice_get, slice_index_or, slice_set, count_by, zero, is_some}
 use Rattle.std.proofs.lemmas.Bool.{eq-eqb, ne_eqb}
 use Rattle.std.proofs.lemmas.List.Sums.{sum_by-append, sum_by-set}
 use Rattle.std.proofs.lemmas.Option.{get_or_from_slice_get, slice_get_cases}
+use Rattle.std.specs.Cmp.Lexicographic.{same_text}
 use Rattle.amqp_txn_types.specs.declared.id.TransactionId.{TransactionId}
 use Rattle.amqp_txn_types.specs.declared.frames.TxnWorkFrame.{TxnWorkFrame}
 use Rattle.amqp_txn_types.specs.Ids.{same_id}
@@ -11,6 +12,7 @@ use Rattle.amqp_arrivals.specs.declared.cell.Cell.{Cell}
 use Rattle.amqp_arrivals.specs.declared.cell.Cell.TheVariants as cells
 use Rattle.amqp_arrivals.specs.Cells.{is_dead_cell, is_under, places_from, work_at, work_in}
 use Rattle.amqp_arrivals.specs.Index.{moved_to, without_place}
+use Rattle.amqp_arrivals.proofs.Kept.{same_or}
 
 -- ---- cells joined
 
@@ -62,6 +64,21 @@ places-taken n (suc i) t u w (c ∷ cs) e =
     let past : (n == n + suc i) ≡ false = ne_eqb n (n + suc i) (λ f. omega arith) in
     ap (λ ms. cond (is_under t c) (n ∷ ms) ms) (places-taken (n + 1) i t u w cs e ∙ ap (λ k. cond (same_id t u) (without_place k (places_from (n + 1) t cs)) (places_from (n + 1) t cs)) further)
     ∙ there n (n + suc i) (is_under t c) (same_id t u) (places_from (n + 1) t cs) past
+
+-- ---- the first place of an id taken
+
+first_dropped : (p : ℕ) (ns : List ℕ) → slice_get ns 0 ≡ Some p → drop 1 ns ≡ without_place (0 + p) ns
+first_dropped p [] e = cc
+first_dropped p (n ∷ ns) e =
+    let here : n ≡ p = cc in
+    let same : n ≡ 0 + p = here ∙ sym (zero-add p) in
+    sym (ap (λ b. cond b ns (n ∷ without_place (0 + p) ns)) (eq-eqb n (0 + p) same))
+
+pub places-first : (t id : TransactionId) (p : ℕ) (w : TxnWorkFrame) (cs : List Cell) → slice_get (places_from 0 id cs) 0 ≡ Some p → slice_get cs p ≡ Some (cells.Live id w) → cond (same_id t id) (drop 1 (places_from 0 t cs)) (places_from 0 t cs) ≡ places_from 0 t (slice_set cs p cells.Dead)
+places-first t id p w cs first at =
+    same_or (same_id t id) (drop 1 (places_from 0 t cs)) (without_place (0 + p) (places_from 0 t cs)) (places_from 0 t cs)
+    (λ s. first_dropped p (places_from 0 t cs) (ap (λ v. slice_get (places_from 0 v cs) 0) (same_text t id (sym s)) ∙ first))
+    ∙ sym (places-taken 0 p t id w cs at)
 
 counted : (now before : ℕ) (c : Cell) (u : TransactionId) (w : TxnWorkFrame) → c ≡ cells.Live u w → now + cond (is_dead_cell c) 1 0 ≡ before + 1 → now ≡ before + 1
 counted now before c u w e h = sym (add-zero now) ∙ ap (λ x. now + cond (is_dead_cell x) 1 0) (sym e) ∙ h

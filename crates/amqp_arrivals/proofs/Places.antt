@@ -1,6 +1,6 @@
 -- Places taken out of a list of places.
-use Rattle.std.proofs.Common.{◌≡◌, ◌<◌, ◌+◌, ◌++◌, ℕ, Bool, true, false, cond, Some, None, List, [], ◌∷◌, length, take, suc, arith, refl, sym, ap, subst, ◌∙◌, append-nil}
-use Rattle.std.specs.Prelude.{◌==◌, not, nat_lt, position, remove}
+use Rattle.std.proofs.Common.{◌≡◌, ◌<◌, ◌+◌, ◌++◌, ℕ, Bool, true, false, cond, Some, None, List, [], ◌∷◌, Option, drop, length, take, suc, arith, refl, sym, ap, subst, ◌∙◌, append-nil}
+use Rattle.std.specs.Prelude.{◌==◌, not, nat_lt, option_to_list, position, remove, slice_get}
 use Rattle.std.specs.List.{position_or_len}
 use Rattle.std.proofs.Math.Numerals.{one-add}
 use Rattle.std.proofs.lemmas.Bool.{ltb-true, ltb-false}
@@ -43,3 +43,10 @@ removed_none n ms e =
     ∙ ap (λ ks. ks ++ []) (sym (take_all (position_or_len (λ m. m == n) ms) ms past))
     ∙ ap (λ ks. take (position_or_len (λ m. m == n) ms) ms ++ ks) (sym (drop_all (suc (position_or_len (λ m. m == n) ms)) ms (omega arith)))
     ∙ removed n ms
+
+-- what a list gives when its first element is taken out
+pub popped : (xs ys : List ℕ) (o : Option ℕ) → xs ≡ option_to_list o ++ ys → ys ≡ drop 1 xs → o ≡ slice_get xs 0
+popped [] ys None e rest = refl
+popped [] ys (Some x) e rest = cc
+popped (y ∷ xs) ys None e rest = absurd (omega (arith, ap length e, ap length rest))
+popped (y ∷ xs) ys (Some x) e rest = let same : y ≡ x = cc in ap Some (sym same)

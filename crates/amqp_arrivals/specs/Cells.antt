@@ -1,6 +1,7 @@
 -- The log of the work under live ids: what came, in the order in which it came.
-use Rattle.std.specs.Prelude.{ℕ, ◌≡◌, ◌+◌, Bool, true, false, not, cond, Option, Some, None, List, [], ◌∷◌, ◌++◌, filter, count_by, nat_lt, slice_get, slice_set}
+use Rattle.std.specs.Prelude.{ℕ, ◌≡◌, ◌+◌, Bool, true, false, not, cond, Option, Some, None, List, [], ◌∷◌, ◌++◌, filter, count_by, nat_lt, option_and_then, slice_get, slice_set}
 use Rattle.std.specs.List.{list_any, filter_map}
+use Rattle.std.specs.Option.{option_map_or}
 use Rattle.amqp_txn_types.specs.declared.id.TransactionId.{TransactionId}
 use Rattle.amqp_txn_types.specs.declared.frames.TxnWorkFrame.{TxnWorkFrame}
 use Rattle.amqp_txn_types.specs.declared.performatives.Frame.{Frame}
@@ -14,6 +15,11 @@ use Rattle.amqp_arrivals.specs.declared.cell.Cell.TheVariants as cells
 pub record Log : Type 0 where
   pub cells : List Cell
   pub opened : List TransactionId
+  pub room : ℕ
+
+-- the cells of the log, and how many more fit without taking memory
+pub record Listing : Type 0 where
+  pub cells : List Cell
   pub room : ℕ
 
 -- ---- one cell
@@ -36,6 +42,11 @@ is_under t cells.Dead = false
 abbrev pub work_of : Cell → Option TxnWorkFrame
 work_of (cells.Live t work) = Some work
 work_of cells.Dead = None
+
+-- the id of a live cell
+abbrev pub id_of : Cell → Option TransactionId
+id_of (cells.Live t work) = Some t
+id_of cells.Dead = None
 
 -- the work of the live cell at a place
 abbrev pub work_in : Option Cell → Option TxnWorkFrame
@@ -103,6 +114,16 @@ closed_up log = record log { cells = filter is_live_cell log.cells }
 -- the log, without its dead cells where they are more than the live ones
 abbrev pub settled : Log → Log
 settled log = cond (nat_lt (live_count log) (dead_count log)) (closed_up log) log
+
+-- ---- the first work of an id
+
+-- the work at the id's first place, if it has one
+abbrev pub first_work : Log → TransactionId → Option TxnWorkFrame
+first_work log t = option_and_then (work_at log.cells) (slice_get (places log t) 0)
+
+-- the log with a dead cell at the id's first place, if it has one
+abbrev pub without_first : Log → TransactionId → Log
+without_first log t = option_map_or (without_work log) (slice_get (places log t) 0) log
 
 -- ---- work taken out of the log
 

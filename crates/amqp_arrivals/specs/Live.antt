@@ -1,5 +1,5 @@
 -- What is kept for the live ids: for each the link that declared it, if one did, and its frames.
-use Rattle.std.specs.Prelude.{ℕ, ◌≡◌, ◌<◌, ◌∷◌, ◌++◌, Option, Some, None, List, [], length, is_some}
+use Rattle.std.specs.Prelude.{ℕ, ◌≡◌, ◌+◌, ◌<◌, ◌≤◌, ◌∷◌, ◌++◌, Option, Some, None, List, [], length, is_some}
 use Rattle.std.specs.List.{IsDistinct, sum_by}
 use Rattle.std.specs.Map.{keys_of, lookup}
 use Rattle.std.specs.Option.{option_map}
@@ -67,6 +67,16 @@ owed live = dead_count live.log
 pub record HasPlace (live : Live) : Type 0 where
   pub homes : 0 < live.room
   pub log : 0 < live.log.room
+
+-- at least as many more ids can be added without taking memory as before
+pub record KeepsPlaces (old new : Live) : Type 0 where
+  pub homes : old.room ≤ new.room
+  pub log : old.log.room ≤ new.log.room
+
+-- at most one fewer can be
+pub record UsesPlace (old new : Live) : Type 0 where
+  pub homes : old.room ≤ new.room + 1
+  pub log : old.log.room ≤ new.log.room + 1
 
 -- what is kept is as it was
 pub record SameKept (old new : Live) : Type 0 where

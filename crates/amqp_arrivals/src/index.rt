@@ -1,6 +1,6 @@
 //! The index of the log: the places of the live cells of each opened id.
 
-ghost use Rattle.std.specs.Prelude.{◌≡◌, ◌==◌, ◌++◌, ◌∷◌, [], cond, true, OnOk, OnErr, length, position, slice_get, is_some};
+ghost use Rattle.std.specs.Prelude.{◌≡◌, ◌==◌, ◌++◌, ◌∷◌, [], cond, true, OnOk, OnErr, length, position, slice_get, drop, is_some};
 ghost use Rattle.std.specs.Map.{lookup};
 ghost use Rattle.std.specs.HashMap.{keys, spare};
 ghost use Rattle.amqp_txn_types.specs.declared.id.TransactionId.{TransactionId as Id};
@@ -47,6 +47,20 @@ pub fn add_place(index: &mut Index, id: TransactionId, place: usize) -> Result<(
     match places.push_back(place) {
         Ok(()) => Ok(()),
         Err(_) => Err(NoMemory),
+    }
+}
+
+/// Takes the first place of an id out of its places.
+pub fn pop_place(index: &mut Index, id: TransactionId) -> Option<usize>
+    ensures first { result ≡ slice_get (places_kept index.old.entries id) 0 }
+    ensures places { (t : Id) → places_kept index.new.entries t ≡ cond (same_id t id)
+        (drop 1 (places_kept index.old.entries t)) (places_kept index.old.entries t) }
+    ensures keys { keys index.new ≡ keys index.old }
+    ensures spare { spare index.new ≡ spare index.old }
+{
+    match index.get_mut(&id) {
+        Some(places) => places.pop_front(),
+        None => None,
     }
 }
 

@@ -1,12 +1,12 @@
 //! What is kept for the live ids, as one value.
 
-ghost use Rattle.std.specs.Prelude.{◌≡◌, ◌≤◌, ◌+◌, ◌↔◌, [], IsTrue, Some, None, cond, length, is_some, true, IfErr, IfNone, OnErr, OnOk, OnSome};
+ghost use Rattle.std.specs.Prelude.{◌≡◌, ◌≤◌, ◌+◌, ◌++◌, ◌∷◌, ◌↔◌, [], IsTrue, Some, None, cond, length, is_some, true, IfErr, IfNone, OnErr, OnOk, OnSome, if◌then◌else◌};
 ghost use Rattle.std.specs.Option.{option_map};
 ghost use Rattle.amqp_txn_types.specs.declared.id.TransactionId.{TransactionId as Id};
 ghost use Rattle.amqp_txn_types.specs.Ids.{same_id};
 ghost use Rattle.amqp_txn_types.specs.Works.{frame_of_work};
 ghost use Rattle.amqp_arrivals.specs.Cells.{after_taken};
-ghost use Rattle.amqp_arrivals.specs.Live.{HasPlace, SameKept, before_taken, frame_count, frames_kept, home_of, kept, live_ids, owed, with_frame};
+ghost use Rattle.amqp_arrivals.specs.Live.{HasPlace, KeepsPlaces, SameKept, UsesPlace, before_taken, frame_count, frames_kept, home_of, kept, live_ids, owed, with_frame};
 
 use crate::log::ArrivalLog;
 use crate::looks::Looks;
@@ -43,6 +43,7 @@ impl LiveWork {
     /// No live id. It takes no memory; later growth takes it from `alloc`.
     pub fn new(alloc: Global) -> Self
         ensures kept { (t : Id) → kept result t ≡ None }
+        ensures ids { live_ids result ≡ [] }
         ensures owed { owed result ≡ 0 }
         ensures frames { frame_count result ≡ 0 }
     {
@@ -105,7 +106,9 @@ impl LiveWork {
     /// Makes room for one more live id. The only error is want of memory.
     pub fn make_room(&mut self) -> Result<(), NoMemory>
         ensures same { SameKept self.old self.new }
+        ensures ids { live_ids self.new ≡ live_ids self.old }
         ensures owed { owed self.new ≡ owed self.old }
+        ensures stays { KeepsPlaces self.old self.new }
         ensures room { OnOk result (HasPlace self.new) }
     {
         match self.homes.reserve(1) {
@@ -120,8 +123,10 @@ impl LiveWork {
         requires unused { kept self.old txn_id ≡ None }
         ensures kept { (t : Id) → kept self.new t ≡ cond (same_id t txn_id) (Some (home, []))
             (kept self.old t) }
+        ensures ids { live_ids self.new ≡ live_ids self.old ++ txn_id ∷ [] }
         ensures owed { owed self.new ≡ owed self.old }
         ensures frames { frame_count self.new ≡ frame_count self.old }
+        ensures room { UsesPlace self.old self.new }
     {
         let Ok(_) = self.homes.insert(txn_id, home) else {
             unreachable!()
@@ -142,7 +147,9 @@ impl LiveWork {
         ensures ok { OnOk result ((t : Id) → kept self.new t ≡ cond (same_id t txn_id.now)
             (with_frame (kept self.old t) (frame_of_work work)) (kept self.old t)) }
         ensures frames { OnOk result (frame_count self.new ≡ frame_count self.old + 1) }
+        ensures ids { live_ids self.new ≡ live_ids self.old }
         ensures owed { owed self.new ≡ owed self.old }
+        ensures room { KeepsPlaces self.old self.new }
         ensures err { IfErr result (λ unkept. (unkept.0 ≡ work) × (self.new ≡ self.old)) }
     {
         self.log.append(txn_id, work)
@@ -164,6 +171,8 @@ impl LiveWork {
         ensures looks { OnSome result (looks.new ≡ looks.old + 1) }
         ensures owed { OnSome result (owed self.new ≡ owed self.old + 1) }
         ensures frames { OnSome result (frame_count self.new + 1 ≡ frame_count self.old) }
+        ensures ids { live_ids self.new ≡ live_ids self.old }
+        ensures room { KeepsPlaces self.old self.new }
     {
         self.log.take_first(txn_id, looks)
     }
@@ -174,8 +183,11 @@ impl LiveWork {
         requires { frames_kept (kept self.old txn_id.now) ≡ [] }
         ensures kept { (t : Id) → kept self.new t ≡ cond (same_id t txn_id.now) None
             (kept self.old t) }
+        ensures ids { length (live_ids self.new)
+            + (if is_some (kept self.old txn_id.now) then 1 else 0) ≡ length (live_ids self.old) }
         ensures owed { owed self.new ≡ owed self.old }
         ensures frames { frame_count self.new ≡ frame_count self.old }
+        ensures room { KeepsPlaces self.old self.new }
     {
         if self.homes.swap_remove(txn_id).is_some() {
             self.log.end(txn_id);
@@ -187,12 +199,15 @@ impl LiveWork {
     pub fn drop_all<L: Ledger>(&mut self, txn_id: &TransactionId, looks: &mut Looks<L>)
         ensures kept { (t : Id) → kept self.new t ≡ cond (same_id t txn_id.now) None
             (kept self.old t) }
+        ensures ids { length (live_ids self.new)
+            + (if is_some (kept self.old txn_id.now) then 1 else 0) ≡ length (live_ids self.old) }
         ensures looks { looks.new
             ≡ looks.old + length (frames_kept (kept self.old txn_id.now)) }
         ensures owed { owed self.new
             ≡ owed self.old + length (frames_kept (kept self.old txn_id.now)) }
         ensures frames { frame_count self.new + length (frames_kept (kept self.old txn_id.now))
             ≡ frame_count self.old }
+        ensures room { KeepsPlaces self.old self.new }
     {
         while let Some(work) = self.take_first(txn_id, looks) {
             drop(work);
@@ -204,6 +219,8 @@ impl LiveWork {
     /// each of these. It takes no memory.
     pub fn settle<L: Ledger>(&mut self, looks: &mut Looks<L>)
         ensures same { SameKept self.old self.new }
+        ensures ids { live_ids self.new ≡ live_ids self.old }
+        ensures room { KeepsPlaces self.old self.new }
         ensures few { owed self.new ≤ frame_count self.new }
         ensures looks { looks.new + owed self.new ≤ looks.old + owed self.old }
     {

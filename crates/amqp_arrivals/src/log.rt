@@ -4,41 +4,35 @@ ghost use Rattle.std.specs.Prelude.{◌≡◌, ◌≤◌, ◌<◌, ◌+◌, ◌+
 ghost use Rattle.std.specs.HashMap.{keys, spare};
 ghost use Rattle.amqp_txn_types.specs.declared.id.TransactionId.{TransactionId as Id};
 ghost use Rattle.amqp_txn_types.specs.Ids.{same_id};
-ghost use Rattle.amqp_arrivals.specs.Cells.{SameLog, OthersStay, after_taken, closed_up, dead_count, frames_of, is_live_cell, is_opened, live_count, places, places_from, settled, with_arrival, without_work, work_at};
+ghost use Rattle.amqp_arrivals.specs.Cells.{SameLog, OthersStay, after_taken, closed_up, dead_count, first_work, frames_of, is_live_cell, is_opened, live_count, places, places_from, settled, with_arrival, without_first, without_work, work_at};
 ghost use Rattle.amqp_arrivals.specs.Index.{places_kept};
 
-use crate::cell::Cell;
-use crate::index::{Index, add_place, drop_place, first_place, move_place, place_count};
+use crate::cell_list::CellList;
+use crate::index::{Index, add_place, drop_place, first_place, move_place, place_count, pop_place};
 use crate::looks::Looks;
 use amqp_txn_types::{NoMemory, TransactionId, TxnWorkFrame};
 use indexmap::IndexMap;
 use std::alloc::Global;
 use std::collections::VecDeque;
 use std::marker::Model;
-use std::mem::replace;
 use std::sync::ledger::Ledger;
 
 /// Moves the live cells to the front, in their order, and their places with them: one look at each.
 /// Their number is answered.
-fn move_live<L: Ledger>(cells: &mut Vec<Cell>, index: &mut Index, looks: &mut Looks<L>) -> usize
-    requires { (t : Id) → places_kept index.old.entries t ≡ places_from 0 t cells.old.items }
-    ensures cells { take result cells.new.items ≡ filter is_live_cell cells.old.items }
+fn move_live<L: Ledger>(cells: &mut CellList, index: &mut Index, looks: &mut Looks<L>) -> usize
+    requires { (t : Id) → places_kept index.old.entries t ≡ places_from 0 t cells.old.cells }
+    ensures cells { take result cells.new.cells ≡ filter is_live_cell cells.old.cells }
     ensures index { (t : Id) → places_kept index.new.entries t
-        ≡ places_from 0 t (filter is_live_cell cells.old.items) }
+        ≡ places_from 0 t (filter is_live_cell cells.old.cells) }
     ensures keys { keys index.new ≡ keys index.old }
     ensures spare { spare index.new ≡ spare index.old }
-    ensures looks { looks.new ≡ looks.old + count_by is_live_cell cells.old.items }
+    ensures looks { looks.new ≡ looks.old + count_by is_live_cell cells.old.cells }
 {
     let mut kept = 0;
     for place in 0..cells.len() {
-        match &cells[place] {
-            Cell::Live { txn_id, .. } => {
-                looks.tick();
-                move_place(index, *txn_id, kept);
-                cells.swap(kept, place);
-                kept += 1;
-            }
-            Cell::Dead => {}
+        if let Some(txn_id) = cells.bring(place, kept, looks) {
+            move_place(index, txn_id, kept);
+            kept += 1;
         }
     }
     kept
@@ -48,7 +42,7 @@ fn move_live<L: Ledger>(cells: &mut Vec<Cell>, index: &mut Index, looks: &mut Lo
 /// its work stands.
 #[derive(Drop)]
 pub struct ArrivalLog {
-    cells: Vec<Cell>,
+    cells: CellList,
     index: Index,
     dead: usize,
     alloc: Global,
@@ -62,12 +56,12 @@ impl Model for ArrivalLog {
     ghost Value = { Log };
 
     ghost view = { λ log. record {
-      cells = log.cells.items;
+      cells = log.cells.cells;
       opened = keys log.index;
       room = spare log.index;
     } };
 
-    ghost invariant = { λ log. Indexed log.cells.items log.index.entries log.dead };
+    ghost invariant = { λ log. Indexed log.cells.cells log.index.entries log.dead };
 }
 
 impl ArrivalLog {
@@ -78,7 +72,7 @@ impl ArrivalLog {
         ensures opened { result.opened ≡ [] }
     {
         ArrivalLog {
-            cells: Vec::new(alloc),
+            cells: CellList::new(alloc),
             index: IndexMap::new(alloc),
             dead: 0,
             alloc,
@@ -125,6 +119,7 @@ impl ArrivalLog {
     pub fn make_room(&mut self) -> Result<(), NoMemory>
         ensures same { SameLog self.old self.new }
         ensures room { OnOk result (0 < self.new.room) }
+        ensures stays { self.old.room ≤ self.new.room }
     {
         match self.index.reserve(1) {
             Ok(()) => Ok(()),
@@ -140,6 +135,7 @@ impl ArrivalLog {
         ensures cells { self.new.cells ≡ self.old.cells }
         ensures ok { OnOk result (self.new.opened ≡ self.old.opened ++ txn_id ∷ []) }
         ensures err { OnErr result (self.new.opened ≡ self.old.opened) }
+        ensures room { self.old.room ≤ self.new.room + 1 }
         ensures succeeds { 0 < self.old.room → IsOk result }
     {
         match self.index.insert(txn_id, VecDeque::new(self.alloc)) {
@@ -155,6 +151,7 @@ impl ArrivalLog {
         ensures cells { self.new.cells ≡ self.old.cells }
         ensures opened { (t : Id) → is_opened self.new t ≡ cond (same_id txn_id.now t) false
             (is_opened self.old t) }
+        ensures room { self.old.room ≤ self.new.room }
     {
         let _places = self.index.swap_remove(txn_id);
     }
@@ -170,16 +167,13 @@ impl ArrivalLog {
         ensures ok { OnOk result (self.new ≡ with_arrival self.old txn_id.now work) }
         ensures err { IfErr result (λ unkept. (unkept.0 ≡ work) × (self.new ≡ self.old)) }
     {
-        let Ok(()) = self.cells.reserve(1) else {
+        let Ok(()) = self.cells.reserve() else {
             return Err((work, NoMemory));
         };
         let Ok(()) = add_place(&mut self.index, *txn_id, self.cells.len()) else {
             return Err((work, NoMemory));
         };
-        self.cells.push_reserved(Cell::Live {
-            txn_id: *txn_id,
-            work,
-        });
+        self.cells.push(*txn_id, work);
         Ok(())
     }
 
@@ -190,10 +184,7 @@ impl ArrivalLog {
         ensures log { self.new ≡ without_work self.old place }
         ensures looks { looks.new ≡ looks.old + 1 }
     {
-        looks.tick();
-        let Cell::Live { txn_id, work } = replace(&mut self.cells[place], Cell::Dead) else {
-            unreachable!()
-        };
+        let (txn_id, work) = self.cells.take(place, looks);
         drop_place(&mut self.index, txn_id, place);
         self.dead += 1;
         work
@@ -206,6 +197,8 @@ impl ArrivalLog {
         txn_id: &TransactionId,
         looks: &mut Looks<L>,
     ) -> Option<TxnWorkFrame>
+        ensures log { self.new ≡ without_first self.old txn_id.now }
+        ensures work { result ≡ first_work self.old txn_id.now }
         ensures taken { frames_of self.old txn_id.now
             ≡ after_taken result (frames_of self.new txn_id.now) }
         ensures none { MatchOption result
@@ -215,8 +208,12 @@ impl ArrivalLog {
         ensures dead { OnSome result (dead_count self.new ≡ dead_count self.old + 1) }
         ensures live { OnSome result (live_count self.new + 1 ≡ live_count self.old) }
     {
-        match self.first(txn_id) {
-            Some(place) => Some(self.take(place, looks)),
+        match pop_place(&mut self.index, *txn_id) {
+            Some(place) => {
+                let (_, work) = self.cells.take(place, looks);
+                self.dead += 1;
+                Some(work)
+            }
             None => None,
         }
     }

@@ -3,4 +3,8 @@
 #![tactic(auto)]
 
 #[cfg(test)]
+mod live_work_tests;
+#[cfg(test)]
 mod tests;
+#[cfg(test)]
+mod values;

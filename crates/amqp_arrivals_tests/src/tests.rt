@@ -3,34 +3,12 @@
 
 ghost use Rattle.std.specs.Prelude.{◌≡◌, ◌<◌};
 
+use crate::values::{id, number_of, work};
 use amqp_arrivals::{ArrivalLog, Looks};
-use amqp_txn_types::{Disposition, Role, TransactionId, TxnWorkFrame};
 use std::marker::Brand;
 use std::process::Abort;
 use std::sync::ledger::{Blank, Ledger};
 use std::test::Fail;
-
-fn id(octet: u8) -> TransactionId {
-    TransactionId::from([octet; 16])
-}
-
-fn work(number: u32) -> TxnWorkFrame {
-    TxnWorkFrame::Retire(Disposition {
-        role: Role::Receiver,
-        first: number,
-        last: None,
-        settled: true,
-        state: None,
-        batchable: false,
-    })
-}
-
-fn number_of(work: Option<TxnWorkFrame>) -> Option<u32> {
-    match work {
-        Some(TxnWorkFrame::Retire(disposition)) => Some(disposition.first),
-        _ => None,
-    }
-}
 
 fn open<R: Abort>(rt: &R, log: &mut ArrivalLog, octet: u8) -> Result<(), Fail> {
     let txn_id = id(octet);

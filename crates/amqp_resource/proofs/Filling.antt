@@ -1,6 +1,6 @@
 -- A list of entries that is filled in from its front: the entries before a place are answered, and
 -- those from there on hold the steps that are left.
-use Rattle.std.proofs.Common.{◌≡◌, ℕ, zero, suc, ◌+◌, ◌<◌, List, [], ◌∷◌, ◌++◌, length, take, drop, map, get_or, set, refl, sym, ◌∙◌, ap, add-one, arith, take-append-drop}
+use Rattle.std.proofs.Common.{◌≡◌, ℕ, zero, suc, ◌+◌, ◌<◌, ◌≤◌, List, [], ◌∷◌, ◌++◌, length, take, drop, map, get_or, set, refl, sym, ◌∙◌, ap, add-one, arith, take-append-drop}
 use Rattle.std.proofs.Math.Seq.{drop-cons, take-suc-set}
 use Rattle.std.proofs.lemmas.List.{map-append}
 use Rattle.amqp_record.specs.declared.entry.Entry.{Entry}
@@ -36,3 +36,10 @@ pub same_at : (es : List Entry) (k : ℕ) (d e : Entry) → k < length es → d 
 same_at [] k d e h a b = absurd (omega arith)
 same_at (x ∷ es) zero d e h a b = a ∙ sym b
 same_at (x ∷ es) (suc k) d e h a b = same_at es k d e (omega arith) a b
+
+-- past the last place all are answered
+pub filled_all : (es : List Entry) (k : ℕ) → length es ≤ k → take k es ≡ es
+filled_all [] zero h = refl
+filled_all [] (suc k) h = refl
+filled_all (e ∷ es) zero h = absurd (omega arith)
+filled_all (e ∷ es) (suc k) h = ap (λ (l : List Entry). e ∷ l) (filled_all es k (omega arith))

@@ -4,7 +4,7 @@ use Rattle.std.specs.Prelude.{◌==◌, slice_get, is_some, MatchBool}
 use Rattle.std.specs.List.{list_all, zip}
 use Rattle.std.proofs.lemmas.List.{length-map}
 use Rattle.std.proofs.lemmas.List.Folds.{list_all-append}
-use Rattle.std.proofs.lemmas.Bool.{eq-eqb, eqb-true, and_right}
+use Rattle.std.proofs.lemmas.Bool.{eq-eqb, eqb-true}
 use Rattle.amqp_txn_types.specs.declared.id.TransactionId.{TransactionId}
 use Rattle.amqp_txn_types.specs.declared.small.AmqpError.TheVariants as amqp_errors
 use Rattle.amqp_txn_types.specs.declared.small.TransactionError.TheVariants as transaction_errors
@@ -47,7 +47,8 @@ use Rattle.amqp_record.specs.Opened.{opened_by, refused_by}
 use Rattle.amqp_record.proofs.Whole.{plain_none, hands-plain, hands-other_frame, hands-commit, hands-no_commit, not_held_no_commit, commits-at, commits-discharge, commits-rollback}
 use Rattle.amqp_resource.specs.declared.held.Held.{Held}
 use Rattle.amqp_layer.specs.declared.taking.TakeError.{TakeError}
-use Rattle.amqp_resource.specs.Held.{Kept, LiveIds, SameHeld, Stands, Tied, ids_on, is_among, is_in, is_kept_on, kept_by, look, unless_on, with_frame}
+use Rattle.amqp_arrivals.specs.Live.{Kept, Live, frames_kept, kept, with_frame}
+use Rattle.amqp_resource.specs.Held.{SameHeld, Stands, Tied, ids_on, is_among, is_in, is_kept_on, kept_by, unless_on}
 use Rattle.amqp_resource.specs.Draws.{is_kept, DrewLive, DrewUnused}
 use Rattle.amqp_layer.specs.Taking.{TookFrames, TakesFrame, taken_frames}
 use Rattle.amqp_resource.specs.Committing.{HandedSome, HandedPart, RefusedAt, given_of}
@@ -58,7 +59,7 @@ use Rattle.amqp_resource.specs.Steps.{StepAnswered, Refused, NothingDone, StepGa
 use Rattle.amqp_resource.proofs.Kept.{tied_same}
 use Rattle.amqp_resource.proofs.Handing.{refused_after-err}
 use Rattle.amqp_txn_types.proofs.Growing.{grown-nil}
-use Rattle.amqp_resource.proofs.Standing.{Quiet, stands-quiet, stands-post, stands-attached, stands-discharged, stands-closed, stands-declared}
+use Rattle.amqp_resource.proofs.Standing.{Quiet, new-live, stands-quiet, stands-post, stands-attached, stands-discharged, stands-closed, stands-declared}
 
 -- ---- nothing more below
 
@@ -173,14 +174,14 @@ undone-plain h r frame p s = record { stands = s; takes = ap (is_live_under r) (
 -- ---- a frame under an id
 
 -- what is kept is live
-pub kept_live : (h : Held) (r : List Entry) (t : TransactionId) → Stands h r → is_kept h.live.entries t ≡ is_live r t
+pub kept_live : (h : Held) (r : List Entry) (t : TransactionId) → Stands h r → is_kept h.work t ≡ is_live r t
 kept_live h r t s = ap is_some (s.live t) ∙ by_case (is_live r t)
   where
     by_case : (b : Bool) → is_some {T = Kept} (cond b (Some (home r t, frames_of r t)) None) ≡ b
     by_case true = refl
     by_case false = refl
 
-stands_live : (h : Held) (r : List Entry) (t : TransactionId) → Stands h r → is_kept h.live.entries t ≡ true → is_live r t ≡ true
+stands_live : (h : Held) (r : List Entry) (t : TransactionId) → Stands h r → is_kept h.work t ≡ true → is_live r t ≡ true
 stands_live h r t s k = sym (kept_live h r t s) ∙ k
 
 abbrev pub post_reply : TransactionId → Frame → Reply
@@ -195,26 +196,26 @@ not_plain : (frame : Frame) (u : TransactionId) → txn frame ≡ Some u → is_
 not_plain frame u e = ap (λ o. is_plain_by o (is_coordinator_attach frame)) e
 
 -- a frame more changes no holder
-pub tied-post : (h g : Held) (u : TransactionId) (frame : Frame) → Tied h → ((t : TransactionId) → look g.live.entries t ≡ cond (same_id t u) (with_frame (look h.live.entries t) frame) (look h.live.entries t)) → ((k : ℕ) → ids_on g.links.entries k ≡ ids_on h.links.entries k) → Tied g
-tied-post h g u frame tied lg kg k t = ap (is_among t) (kg k) ∙ tied k t ∙ sym (ap (is_kept_on k) (lg t) ∙ same_holder (same_id t u) (look h.live.entries t))
+pub tied-post : (h g : Held) (u : TransactionId) (frame : Frame) → Tied h → ((t : TransactionId) → kept g.work t ≡ cond (same_id t u) (with_frame (kept h.work t) frame) (kept h.work t)) → ((k : ℕ) → ids_on g.links.entries k ≡ ids_on h.links.entries k) → Tied g
+tied-post h g u frame tied lg kg k t = ap (is_among t) (kg k) ∙ tied k t ∙ sym (ap (is_kept_on k) (lg t) ∙ same_holder (same_id t u) (kept h.work t))
   where
     same_holder : (b : Bool) (o : Option Kept) → is_kept_on k (cond b (with_frame o frame) o) ≡ is_kept_on k o
     same_holder true None = refl
     same_holder true (Some kept) = refl
     same_holder false o = refl
 
-pub answered-post : (h g : Held) (r : List Entry) (frame : Frame) (u : TransactionId) (old new : Told) → txn frame ≡ Some u → Stands h r → is_kept h.live.entries u ≡ true → ((t : TransactionId) → look g.live.entries t ≡ cond (same_id t u) (with_frame (look h.live.entries t) frame) (look h.live.entries t)) → ((k : ℕ) → ids_on g.links.entries k ≡ ids_on h.links.entries k) → g.opened ≡ h.opened → Steady old new → StepAnswered g old new r (steps.Frame frame) nothing_drawn (post_reply u frame)
+pub answered-post : (h g : Held) (r : List Entry) (frame : Frame) (u : TransactionId) (old new : Told) → txn frame ≡ Some u → Stands h r → is_kept h.work u ≡ true → ((t : TransactionId) → kept g.work t ≡ cond (same_id t u) (with_frame (kept h.work t) frame) (kept h.work t)) → ((k : ℕ) → ids_on g.links.entries k ≡ ids_on h.links.entries k) → g.opened ≡ h.opened → Steady old new → StepAnswered g old new r (steps.Frame frame) nothing_drawn (post_reply u frame)
 answered-post h g r frame u old new e s at lg kg og t =
     let a = answer-post r frame u e (stands_live h r u s at) in
     answered-steady g old new r (steps.Frame frame) nothing_drawn (post_reply u frame) a
     (stands-post h g r (entry_of (steps.Frame frame) nothing_drawn (post_reply u frame)) frame u s a (quiet-frames frame (record { given = answered_under u frame; window = None })) refl (λ v. ap (is_some_id v) e) (tied-post h g u frame s.tied lg kg) lg (λ k. ap is_some (kg k)) og)
     (hands-other_frame r frame (not_plain frame u e)) refl refl t
 
-pub unknown-post : (h : Held) (r : List Entry) (frame : Frame) (u : TransactionId) → txn frame ≡ Some u → Stands h r → is_kept h.live.entries u ≡ false → UnderDead r (steps.Frame frame) × (◌≡◌ {A = ℕ} 0 0)
+pub unknown-post : (h : Held) (r : List Entry) (frame : Frame) (u : TransactionId) → txn frame ≡ Some u → Stands h r → is_kept h.work u ≡ false → UnderDead r (steps.Frame frame) × (◌≡◌ {A = ℕ} 0 0)
 unknown-post h r frame u e s n = (subst (IsDead r) (sym e) (sym (kept_live h r u s) ∙ n), refl)
 
 -- the answer of a post was refused below
-pub refused-post : (h : Held) (r : List Entry) (frame : Frame) (u : TransactionId) (own : SessionInnerError) (old new : Told) → txn frame ≡ Some u → Stands h r → is_kept h.live.entries u ≡ true → 1 ≤ length (answered_under u frame) → Steady old new → Refused old new r (steps.Frame frame) (fault_of own) 0
+pub refused-post : (h : Held) (r : List Entry) (frame : Frame) (u : TransactionId) (own : SessionInnerError) (old new : Told) → txn frame ≡ Some u → Stands h r → is_kept h.work u ≡ true → 1 ≤ length (answered_under u frame) → Steady old new → Refused old new r (steps.Frame frame) (fault_of own) 0
 refused-post h r frame u own old new e s at some t =
     let is_under : IsPost (steps.Frame frame) = subst IsUnder (sym e) tt in
     record {
@@ -224,7 +225,7 @@ refused-post h r frame u own old new e s at some t =
       refused = ([], (own, refl, inr (refl, inl is_under)), t.refused ∙ sym (grown-nil old.refused));
     }
 
-pub undone-post : (h g : Held) (r : List Entry) (frame : Frame) (u : TransactionId) → txn frame ≡ Some u → Stands h r → is_kept h.live.entries u ≡ true → Stands g r → NothingDone g r (steps.Frame frame)
+pub undone-post : (h g : Held) (r : List Entry) (frame : Frame) (u : TransactionId) → txn frame ≡ Some u → Stands h r → is_kept h.work u ≡ true → Stands g r → NothingDone g r (steps.Frame frame)
 undone-post h g r frame u e s at sg = record { stands = sg; takes = ap (is_live_under r) e ∙ stands_live h r u s at }
 
 -- ---- an attach to a coordinator
@@ -243,7 +244,7 @@ coordinator_not_plain attach c = ap (λ o. is_plain_by o (is_coordinator_attach 
 attach_answer : (r : List Entry) (attach : Attach) (reply : Reply) → AnswerFrame r (frames.Attach attach) None reply → Answer r (steps.Frame (frames.Attach attach)) [] reply
 attach_answer r attach reply a = let P : Option TransactionId → Type 0 = λ o. AnswerFrame r (frames.Attach attach) o reply in (refl, subst P (sym (txn-attach attach)) a)
 
-pub answered-attached : (h g : Held) (r : List Entry) (attach : Attach) (given : List Frame) (old new : Told) → attaches_coordinator attach ≡ true → Stands h r → ((t : TransactionId) → look g.live.entries t ≡ look h.live.entries t) → ((k : ℕ) → ids_on g.links.entries k ≡ cond (h.opened == k) (Some []) (ids_on h.links.entries k)) → g.opened ≡ h.opened + 1 → Opens old new attach (Ok given) → StepAnswered g old new r (steps.Frame (frames.Attach attach)) nothing_drawn (replies.Attached h.opened given)
+pub answered-attached : (h g : Held) (r : List Entry) (attach : Attach) (given : List Frame) (old new : Told) → attaches_coordinator attach ≡ true → Stands h r → ((t : TransactionId) → kept g.work t ≡ kept h.work t) → ((k : ℕ) → ids_on g.links.entries k ≡ cond (h.opened == k) (Some []) (ids_on h.links.entries k)) → g.opened ≡ h.opened + 1 → Opens old new attach (Ok given) → StepAnswered g old new r (steps.Frame (frames.Attach attach)) nothing_drawn (replies.Attached h.opened given)
 answered-attached h g r attach given old new c s lg kg og t =
     let a = attach_answer r attach (replies.Attached h.opened given) (coord-attach attach ∙ c, s.opened) in
     record {
@@ -269,6 +270,10 @@ answered-attach_refused h g r attach error old new c s same t =
 pub undone-attach : (g : Held) (r : List Entry) (attach : Attach) → Stands g r → NothingDone g r (steps.Frame (frames.Attach attach))
 undone-attach g r attach s = record { stands = s; takes = ap (is_live_under r) (txn-attach attach) }
 
+-- a session that keeps nothing, with another log that keeps nothing
+pub emptied : (h : Held) (work : Live) → Stands h [] → ((t : TransactionId) → kept work t ≡ None) → Stands (record h { work = work }) []
+emptied h work s none = stands-moved h (record h { work = work }) [] s (record { live = λ t. none t ∙ sym (new-live h s t); links = λ k. refl; opened = refl })
+
 -- ---- a discharge
 
 control_answer : (r : List Entry) (k : ℕ) (payload : List ℕ) (m : Option ControlMessageBody) (d : List TransactionId) (reply : Reply) → is_open r k ≡ true → message_of payload ≡ m → AnswerMessage r k m d reply → Answer r (steps.Control k payload) d reply
@@ -288,16 +293,19 @@ answered-absent h r k payload discharge told m o s n =
     (stands-quiet h r (entry_of (steps.Control k payload) nothing_drawn (replies.Rejected transaction_errors.UnknownId texts.Absent)) s a (quiet-rejected k payload nothing_drawn texts.Absent) (λ t. refl))
     (hands-no_commit r k payload (not_held_no_commit r k payload discharge opened m n)) refl refl (steady-same told)
 
--- what isn't kept isn't held
-pub not_kept : (h : Held) (r : List Entry) (k : ℕ) (u : TransactionId) → Stands h r → look h.live.entries u ≡ None → is_held_on r k u ≡ false
-not_kept h r k u s n = by_case (is_live r u) refl
+-- an id is held on a link by the record where it is kept for that link
+kept_held : (h : Held) (r : List Entry) (k : ℕ) (u : TransactionId) → Stands h r → is_kept_on k (kept h.work u) ≡ is_held_on r k u
+kept_held h r k u s = ap (is_kept_on k) (s.live u) ∙ by_case (is_live r u)
   where
-    by_case : (b : Bool) → is_live r u ≡ b → (is_live r u && is_link k (home r u)) ≡ false
-    by_case true x = let e : kept_by r u ≡ Some (home r u, frames_of r u) = ap (λ b. cond b (Some (home r u, frames_of r u)) None) x in cc (e, sym (s.live u) ∙ n)
-    by_case false x = ap (λ b. b && is_link k (home r u)) x
+    by_case : (b : Bool) → is_kept_on k (cond b (Some (home r u, frames_of r u)) None) ≡ (b && is_link k (home r u))
+    by_case true = refl
+    by_case false = refl
+
+pub not_held : (h : Held) (r : List Entry) (k : ℕ) (u : TransactionId) → Stands h r → is_kept_on k (kept h.work u) ≡ false → is_held_on r k u ≡ false
+not_held h r k u s n = sym (kept_held h r k u s) ∙ n
 
 -- what is kept has the record's home and frames
-pub kept-home : (h : Held) (r : List Entry) (u : TransactionId) (o : Option ℕ) (fs : List Frame) → Stands h r → look h.live.entries u ≡ Some (o, fs) → (is_live r u ≡ true) × (home r u ≡ o) × (frames_of r u ≡ fs)
+pub kept-home : (h : Held) (r : List Entry) (u : TransactionId) (o : Option ℕ) (fs : List Frame) → Stands h r → kept h.work u ≡ Some (o, fs) → (is_live r u ≡ true) × (home r u ≡ o) × (frames_of r u ≡ fs)
 kept-home h r u o fs s e = by_case (is_live r u) refl
   where
     by_case : (b : Bool) → is_live r u ≡ b → (is_live r u ≡ true) × (home r u ≡ o) × (frames_of r u ≡ fs)
@@ -308,7 +316,7 @@ kept-home h r u o fs s e = by_case (is_live r u) refl
     by_case false x = let none : None ≡ Some (o, fs) = sym (ap (λ b. cond b (Some (home r u, frames_of r u)) None) x) ∙ sym (s.live u) ∙ e in cc none
 
 -- an id that is kept for a link has it as its home
-pub kept-on : (h : Held) (r : List Entry) (u : TransactionId) (k : ℕ) (fs : List Frame) → Stands h r → look h.live.entries u ≡ Some (Some k, fs) → (is_live r u ≡ true) × (home r u ≡ Some k) × (frames_of r u ≡ fs)
+pub kept-on : (h : Held) (r : List Entry) (u : TransactionId) (k : ℕ) (fs : List Frame) → Stands h r → kept h.work u ≡ Some (Some k, fs) → (is_live r u ≡ true) × (home r u ≡ Some k) × (frames_of r u ≡ fs)
 kept-on h r u k fs s e = kept-home h r u (Some k) fs s e
 
 discharges_says : (k : ℕ) (payload : List ℕ) (t : TransactionId) (discharge : Discharge) (echoes : List Answers) → message_of payload ≡ Some (messages.Discharge discharge) → step_discharges t (steps.Control k payload) (replies.Accepted echoes) ≡ same_id t discharge.txn_id
@@ -327,7 +335,7 @@ accepted_answer r k payload discharge echoes b o m l rb x =
     let P : Bool → Type 0 = λ c. Echoed r discharge.txn_id c echoes in
     control_answer r k payload (Some (messages.Discharge discharge)) [] (replies.Accepted echoes) o m (l, refl, subst P (sym rb) x)
 
-pub answered-rollback : (h g : Held) (r : List Entry) (k : ℕ) (payload : List ℕ) (discharge : Discharge) (fs : List Frame) (told : Told) → message_of payload ≡ Some (messages.Discharge discharge) → is_rollback discharge.fail ≡ true → is_in h.links.entries k ≡ true → Stands h r → look h.live.entries discharge.txn_id ≡ Some (Some k, fs) → Ended h g discharge.txn_id → StepAnswered g told told r (steps.Control k payload) nothing_drawn (replies.Accepted [])
+pub answered-rollback : (h g : Held) (r : List Entry) (k : ℕ) (payload : List ℕ) (discharge : Discharge) (fs : List Frame) (told : Told) → message_of payload ≡ Some (messages.Discharge discharge) → is_rollback discharge.fail ≡ true → is_in h.links.entries k ≡ true → Stands h r → kept h.work discharge.txn_id ≡ Some (Some k, fs) → Ended h g discharge.txn_id → StepAnswered g told told r (steps.Control k payload) nothing_drawn (replies.Accepted [])
 answered-rollback h g r k payload discharge fs told m rb o s at x =
     let opened : is_open r k ≡ true = sym (s.links k) ∙ o in
     let kept = kept-on h r discharge.txn_id k fs s at in
@@ -336,13 +344,13 @@ answered-rollback h g r k payload discharge fs told m rb o s at x =
     (stands-accepted h g r k payload discharge [] m s a x)
     (hands-no_commit r k payload (commits-rollback r k payload discharge opened m rb)) refl refl (steady-same told)
 
-commit_hands : (h : Held) (r : List Entry) (k : ℕ) (payload : List ℕ) (discharge : Discharge) (fs : List Frame) → message_of payload ≡ Some (messages.Discharge discharge) → is_rollback discharge.fail ≡ false → is_in h.links.entries k ≡ true → Stands h r → look h.live.entries discharge.txn_id ≡ Some (Some k, fs) → hands r (steps.Control k payload) ≡ map stripped fs
+commit_hands : (h : Held) (r : List Entry) (k : ℕ) (payload : List ℕ) (discharge : Discharge) (fs : List Frame) → message_of payload ≡ Some (messages.Discharge discharge) → is_rollback discharge.fail ≡ false → is_in h.links.entries k ≡ true → Stands h r → kept h.work discharge.txn_id ≡ Some (Some k, fs) → hands r (steps.Control k payload) ≡ map stripped fs
 commit_hands h r k payload discharge fs m rb o s at =
     let opened : is_open r k ≡ true = sym (s.links k) ∙ o in
     let kept = kept-on h r discharge.txn_id k fs s at in
     hands-commit r k payload discharge.txn_id (commits-discharge r k payload discharge opened m rb (held_on r k discharge.txn_id kept.0 kept.1)) ∙ ap (map stripped) kept.2
 
-pub answered-commit : (h g : Held) (r : List Entry) (k : ℕ) (payload : List ℕ) (discharge : Discharge) (fs : List Frame) (echoes : List Answers) (old new : Told) → message_of payload ≡ Some (messages.Discharge discharge) → is_rollback discharge.fail ≡ false → is_in h.links.entries k ≡ true → Stands h r → look h.live.entries discharge.txn_id ≡ Some (Some k, fs) → Ended h g discharge.txn_id → HandedSome old new fs echoes → StepAnswered g old new r (steps.Control k payload) nothing_drawn (replies.Accepted echoes)
+pub answered-commit : (h g : Held) (r : List Entry) (k : ℕ) (payload : List ℕ) (discharge : Discharge) (fs : List Frame) (echoes : List Answers) (old new : Told) → message_of payload ≡ Some (messages.Discharge discharge) → is_rollback discharge.fail ≡ false → is_in h.links.entries k ≡ true → Stands h r → kept h.work discharge.txn_id ≡ Some (Some k, fs) → Ended h g discharge.txn_id → HandedSome old new fs echoes → StepAnswered g old new r (steps.Control k payload) nothing_drawn (replies.Accepted echoes)
 answered-commit h g r k payload discharge fs echoes old new m rb o s at x t =
     let opened : is_open r k ≡ true = sym (s.links k) ∙ o in
     let kept = kept-on h r discharge.txn_id k fs s at in
@@ -360,7 +368,7 @@ pub part_adds : (r : List Entry) (s : Step) (handed : List Frame) (at : ℕ) (ow
 part_adds r s handed at own more (inl x) = (own, refl, inl x)
 part_adds r s handed at own more (inr x) = (own, refl, inr (x.0, inr x.1))
 
-pub refused-commit : (h : Held) (r : List Entry) (k : ℕ) (payload : List ℕ) (discharge : Discharge) (fs : List Frame) (own : SessionInnerError) (handed : ℕ) (old new : Told) → message_of payload ≡ Some (messages.Discharge discharge) → is_rollback discharge.fail ≡ false → is_in h.links.entries k ≡ true → Stands h r → look h.live.entries discharge.txn_id ≡ Some (Some k, fs) → HandedPart old new fs own handed → Refused old new r (steps.Control k payload) (fault_of own) handed
+pub refused-commit : (h : Held) (r : List Entry) (k : ℕ) (payload : List ℕ) (discharge : Discharge) (fs : List Frame) (own : SessionInnerError) (handed : ℕ) (old new : Told) → message_of payload ≡ Some (messages.Discharge discharge) → is_rollback discharge.fail ≡ false → is_in h.links.entries k ≡ true → Stands h r → kept h.work discharge.txn_id ≡ Some (Some k, fs) → HandedPart old new fs own handed → Refused old new r (steps.Control k payload) (fault_of own) handed
 refused-commit h r k payload discharge fs own handed old new m rb o s at t =
     let all = commit_hands h r k payload discharge fs m rb o s at in
     let e : length (hands r (steps.Control k payload)) ≡ length fs = ap length all ∙ length-map fs stripped in
@@ -375,7 +383,7 @@ refused-commit h r k payload discharge fs own handed old new m rb o s at t =
       );
     }
 
-pub undone-commit : (h : Held) (r : List Entry) (k : ℕ) (payload : List ℕ) (discharge : Discharge) (fs : List Frame) → message_of payload ≡ Some (messages.Discharge discharge) → is_rollback discharge.fail ≡ false → is_in h.links.entries k ≡ true → Stands h r → look h.live.entries discharge.txn_id ≡ Some (Some k, fs) → NothingDone h r (steps.Control k payload)
+pub undone-commit : (h : Held) (r : List Entry) (k : ℕ) (payload : List ℕ) (discharge : Discharge) (fs : List Frame) → message_of payload ≡ Some (messages.Discharge discharge) → is_rollback discharge.fail ≡ false → is_in h.links.entries k ≡ true → Stands h r → kept h.work discharge.txn_id ≡ Some (Some k, fs) → NothingDone h r (steps.Control k payload)
 undone-commit h r k payload discharge fs m rb o s at =
     let kept = kept-on h r discharge.txn_id k fs s at in
     record {
@@ -386,7 +394,7 @@ undone-commit h r k payload discharge fs m rb o s at =
     }
 
 -- a commit that failed, as the answer of a step: it wanted memory, or was refused below
-pub fault_goes : (h g : Held) (old new : Told) (r : List Entry) (k : ℕ) (payload : List ℕ) (discharge : Discharge) (fs : List Frame) (U : Type 0) (fault : CommitFault) → message_of payload ≡ Some (messages.Discharge discharge) → is_rollback discharge.fail ≡ false → is_in h.links.entries k ≡ true → Stands h r → look h.live.entries discharge.txn_id ≡ Some (Some k, fs) → CommittedWith h g old new discharge.txn_id fs U (Err fault) → StepGave g old new r (steps.Control k payload) (Err (step_error_of fault))
+pub fault_goes : (h g : Held) (old new : Told) (r : List Entry) (k : ℕ) (payload : List ℕ) (discharge : Discharge) (fs : List Frame) (U : Type 0) (fault : CommitFault) → message_of payload ≡ Some (messages.Discharge discharge) → is_rollback discharge.fail ≡ false → is_in h.links.entries k ≡ true → Stands h r → kept h.work discharge.txn_id ≡ Some (Some k, fs) → CommittedWith h g old new discharge.txn_id fs U (Err fault) → StepGave g old new r (steps.Control k payload) (Err (step_error_of fault))
 fault_goes h g old new r k payload discharge fs U commit_faults.NoMemory m rb o s at c =
     let stayed = undone-commit h r k payload discharge fs m rb o s at in
     record { stands = stands-moved h g r s c.0; takes = stayed.takes }
@@ -395,21 +403,18 @@ fault_goes h g old new r k payload discharge fs U (commit_faults.Refused error h
     refused_gives g old new r (steps.Control k payload) error x.0 handed (ap is_unknown x.1 ∙ fault_known x.0) x.1
     (refused-commit h r k payload discharge fs x.0 handed old new m rb o s at x.2.handed)
 
--- what isn't kept for the link isn't held on it
-pub held_elsewhere : (h : Held) (r : List Entry) (k : ℕ) (u : TransactionId) (o : Option ℕ) (fs : List Frame) → Stands h r → look h.live.entries u ≡ Some (o, fs) → is_link k o ≡ false → is_held_on r k u ≡ false
-held_elsewhere h r k u o fs s e n =
-    let kept = kept-home h r u o fs s e in
-    let away : is_link k (home r u) ≡ false = ap (is_link k) kept.1 ∙ n in
-    ap (λ b. is_live r u && b) away ∙ and_right (is_live r u) false refl
-
 -- a link that is on what is kept is the one that is kept
 on_some : (o : Option ℕ) (k : ℕ) → is_link k o ≡ true → o ≡ Some k
 on_some None k e = cc e
 on_some (Some j) k e = ap (λ n. Some n) (eqb-true j k e)
 
 -- what is kept for the link, by its test
-pub held_here : (h : Held) (u : TransactionId) (o : Option ℕ) (fs : List Frame) (k : ℕ) → look h.live.entries u ≡ Some (o, fs) → is_link k o ≡ true → look h.live.entries u ≡ Some (Some k, fs)
-held_here h u o fs k a e = a ∙ ap (λ x. Some (x, fs)) (on_some o k e)
+kept_here : (k : ℕ) (o : Option Kept) → is_kept_on k o ≡ true → o ≡ Some (Some k, frames_kept o)
+kept_here k None e = cc e
+kept_here k (Some one) e = ap (λ x. Some (x, one.1)) (on_some one.0 k e)
+
+pub held_here : (h : Held) (u : TransactionId) (k : ℕ) → is_kept_on k (kept h.work u) ≡ true → kept h.work u ≡ Some (Some k, frames_kept (kept h.work u))
+held_here h u k e = kept_here k (kept h.work u) e
 
 -- ---- links that end or close
 
@@ -423,14 +428,14 @@ answered-no_link_end h r k told o s =
     (stands-quiet h r (entry_of (steps.LinkEnd k) nothing_drawn replies.NoLink) s a (record { declares = λ t. refl; discharges = λ t. refl; attaches = λ j. refl; closes = λ j. refl; attached = refl }) (λ t. refl))
     refl refl refl (steady-same told)
 
-pub answered-link_end : (h g : Held) (r : List Entry) (k : ℕ) (told : Told) → is_in h.links.entries k ≡ true → Stands h r → Tied g → ((t : TransactionId) → look g.live.entries t ≡ unless_on k (look h.live.entries t)) → ((j : ℕ) → is_in g.links.entries j ≡ cond (k == j) false (is_in h.links.entries j)) → g.opened ≡ h.opened → StepAnswered g told told r (steps.LinkEnd k) nothing_drawn replies.LinkEnded
+pub answered-link_end : (h g : Held) (r : List Entry) (k : ℕ) (told : Told) → is_in h.links.entries k ≡ true → Stands h r → Tied g → ((t : TransactionId) → kept g.work t ≡ unless_on k (kept h.work t)) → ((j : ℕ) → is_in g.links.entries j ≡ cond (k == j) false (is_in h.links.entries j)) → g.opened ≡ h.opened → StepAnswered g told told r (steps.LinkEnd k) nothing_drawn replies.LinkEnded
 answered-link_end h g r k told o s tg lg kg og =
     let a = link_end_answer r k true replies.LinkEnded (sym (s.links k) ∙ o) tt in
     answered-steady g told told r (steps.LinkEnd k) nothing_drawn replies.LinkEnded a
     (stands-closed h g r (entry_of (steps.LinkEnd k) nothing_drawn replies.LinkEnded) k s a (λ t. refl) (λ t. refl) (λ t. refl) (λ j. refl) (λ j. refl) refl tg lg kg og)
     refl refl refl (steady-same told)
 
-pub answered-close : (h g : Held) (r : List Entry) (k : ℕ) (payload : List ℕ) (told : Told) → message_of payload ≡ None → is_in h.links.entries k ≡ true → Stands h r → Tied g → ((t : TransactionId) → look g.live.entries t ≡ unless_on k (look h.live.entries t)) → ((j : ℕ) → is_in g.links.entries j ≡ cond (k == j) false (is_in h.links.entries j)) → g.opened ≡ h.opened → StepAnswered g told told r (steps.Control k payload) nothing_drawn (replies.LinkClosed amqp_errors.NotAllowed)
+pub answered-close : (h g : Held) (r : List Entry) (k : ℕ) (payload : List ℕ) (told : Told) → message_of payload ≡ None → is_in h.links.entries k ≡ true → Stands h r → Tied g → ((t : TransactionId) → kept g.work t ≡ unless_on k (kept h.work t)) → ((j : ℕ) → is_in g.links.entries j ≡ cond (k == j) false (is_in h.links.entries j)) → g.opened ≡ h.opened → StepAnswered g told told r (steps.Control k payload) nothing_drawn (replies.LinkClosed amqp_errors.NotAllowed)
 answered-close h g r k payload told m o s tg lg kg og =
     let opened : is_open r k ≡ true = sym (s.links k) ∙ o in
     let a = control_answer r k payload None [] (replies.LinkClosed amqp_errors.NotAllowed) opened m refl in
@@ -467,22 +472,22 @@ all_same : (p q : TransactionId → Bool) (xs : List TransactionId) → ((x : Tr
 all_same p q [] h = refl
 all_same p q (x ∷ xs) h = ap (λ b. b && list_all p xs) (h x) ∙ ap (λ b. q x && b) (all_same p q xs h)
 
-pub answered-declared : (h g : Held) (r : List Entry) (k : ℕ) (payload : List ℕ) (d : DrawnIds) (t : TransactionId) (told : Told) → message_of payload ≡ declare_of None → is_in h.links.entries k ≡ true → Stands h r → DrewUnused h.live.entries d.ids t → Tied g → ((x : TransactionId) → look g.live.entries x ≡ cond (same_id x t) (Some (Some k, [])) (look h.live.entries x)) → ((j : ℕ) → is_in g.links.entries j ≡ is_in h.links.entries j) → g.opened ≡ h.opened → StepAnswered g told told r (steps.Control k payload) d (replies.Declared t)
+pub answered-declared : (h g : Held) (r : List Entry) (k : ℕ) (payload : List ℕ) (d : DrawnIds) (t : TransactionId) (told : Told) → message_of payload ≡ declare_of None → is_in h.links.entries k ≡ true → Stands h r → DrewUnused h.work d.ids t → Tied g → ((x : TransactionId) → kept g.work x ≡ cond (same_id x t) (Some (Some k, [])) (kept h.work x)) → ((j : ℕ) → is_in g.links.entries j ≡ is_in h.links.entries j) → g.opened ≡ h.opened → StepAnswered g told told r (steps.Control k payload) d (replies.Declared t)
 answered-declared h g r k payload d t told m o s u tg lg kg og =
     let opened : is_open r k ≡ true = sym (s.links k) ∙ o in
     let dead : is_live r t ≡ false = sym (kept_live h r t s) ∙ ap is_some u.unused in
     let before = u.parts.0 in
-    let draws : Draws r d.ids t = (before, u.parts.1, u.count, sym (all_same (is_kept h.live.entries) (is_live r) before (λ x. kept_live h r x s)) ∙ u.parts.2, dead) in
+    let draws : Draws r d.ids t = (before, u.parts.1, u.count, sym (all_same (is_kept h.work) (is_live r) before (λ x. kept_live h r x s)) ∙ u.parts.2, dead) in
     let a = control_answer r k payload (declare_of None) d.ids (replies.Declared t) opened m draws in
     answered-steady g told told r (steps.Control k payload) d (replies.Declared t) a
     (stands-declared h g r (entry_of (steps.Control k payload) d (replies.Declared t)) t s a dead opened (λ x. refl) (λ x. refl) (λ x. refl) (λ j. refl) (λ j. refl) refl
     tg lg kg og)
     (declare_hands_nothing r k payload None opened m) refl refl (steady-same told)
 
-pub answered-repeat : (h g : Held) (r : List Entry) (k : ℕ) (payload : List ℕ) (d : DrawnIds) (told : Told) → message_of payload ≡ declare_of None → is_in h.links.entries k ≡ true → Stands h r → DrewLive h.live.entries d.ids → SameHeld h g → StepAnswered g told told r (steps.Control k payload) d (replies.Rejected transaction_errors.UnknownId texts.IdsRepeat)
+pub answered-repeat : (h g : Held) (r : List Entry) (k : ℕ) (payload : List ℕ) (d : DrawnIds) (told : Told) → message_of payload ≡ declare_of None → is_in h.links.entries k ≡ true → Stands h r → DrewLive h.work d.ids → SameHeld h g → StepAnswered g told told r (steps.Control k payload) d (replies.Rejected transaction_errors.UnknownId texts.IdsRepeat)
 answered-repeat h g r k payload d told m o s u same =
     let opened : is_open r k ≡ true = sym (s.links k) ∙ o in
-    let a = control_answer r k payload (declare_of None) d.ids (replies.Rejected transaction_errors.UnknownId texts.IdsRepeat) opened m (u.count, sym (all_same (is_kept h.live.entries) (is_live r) d.ids (λ x. kept_live h r x s)) ∙ u.all) in
+    let a = control_answer r k payload (declare_of None) d.ids (replies.Rejected transaction_errors.UnknownId texts.IdsRepeat) opened m (u.count, sym (all_same (is_kept h.work) (is_live r) d.ids (λ x. kept_live h r x s)) ∙ u.all) in
     answered-steady g told told r (steps.Control k payload) d (replies.Rejected transaction_errors.UnknownId texts.IdsRepeat) a
     (stands-quiet g r (entry_of (steps.Control k payload) d (replies.Rejected transaction_errors.UnknownId texts.IdsRepeat)) (stands-moved h g r s same) a (quiet-rejected k payload d texts.IdsRepeat) (λ t. refl))
     (declare_hands_nothing r k payload None opened m) refl refl (steady-same told)
@@ -495,7 +500,7 @@ undone-declare h g r k payload m o s sg = record {
 
 -- ---- the loop of draws
 
-pub all-snoc : (live : LiveIds) (ds : List TransactionId) (d : TransactionId) → list_all (is_kept live) ds ≡ true → is_kept live d ≡ true → list_all (is_kept live) (ds ++ d ∷ []) ≡ true
+pub all-snoc : (live : Live) (ds : List TransactionId) (d : TransactionId) → list_all (is_kept live) ds ≡ true → is_kept live d ≡ true → list_all (is_kept live) (ds ++ d ∷ []) ≡ true
 all-snoc live ds d a n = list_all-append (is_kept live) ds (d ∷ []) ∙ ap (λ b. b && (is_kept live d && true)) a ∙ ap (λ b. b && true) n
 
 -- ---- ends

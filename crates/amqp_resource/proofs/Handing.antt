@@ -91,6 +91,16 @@ handed-none old all = record { taken = sym (grown-nil old.taken); opened = refl;
 pub handed-rest : (all rest : List Frame) (x : Frame) (n : ℕ) → drop n all ≡ x ∷ rest → (drop (n + 1) all ≡ rest) × (n < length all)
 handed-rest all rest x n d = let p = split_more all n x rest d in (p.1, p.2)
 
+-- none is left, so all were handed
+none_left : (all : List Frame) (n : ℕ) → drop n all ≡ [] → take n all ≡ all
+none_left [] zero d = refl
+none_left [] (suc n) d = refl
+none_left (x ∷ all) zero d = cc d
+none_left (x ∷ all) (suc n) d = ap (λ (fs : List Frame). x ∷ fs) (none_left all n d)
+
+pub handed-all : (old new : Told) (all : List Frame) (echoes : List Answers) → HandedSome old new (take (length echoes) all) echoes → drop (length echoes) all ≡ [] → HandedSome old new all echoes
+handed-all old new all echoes h d = subst (λ (fs : List Frame). HandedSome old new fs echoes) (none_left all (length echoes) d) h
+
 front_of : (b : Bool) (all rest : List Frame) (x : Frame) (n : ℕ) → drop n all ≡ x ∷ rest → map stripped (take n all) ++ taken_frames b (stripped x) ≡ take (n + cond b 1 0) (map stripped all)
 front_of true all rest x n d = sym (take-map stripped (n + 1) all ∙ ap (map stripped) (split_more all n x rest d).0 ∙ map-append stripped (take n all) (x ∷ []))
 front_of false all rest x n d = append-nil (map stripped (take n all)) ∙ sym (ap (λ k. take k (map stripped all)) (add-zero n) ∙ take-map stripped n all)

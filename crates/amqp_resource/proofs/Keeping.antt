@@ -42,10 +42,11 @@ use Rattle.amqp_txn_codec.specs.Discharges.{is_rollback}
 use Rattle.amqp_record.proofs.Whole.{open_below, plain_none}
 use Rattle.amqp_resource.specs.declared.held.Held.{Held}
 use Rattle.amqp_layer.specs.declared.taking.TakeError.{TakeError}
-use Rattle.amqp_resource.specs.Held.{SameHeld, Stands, Tied, ids_on, is_among, is_in, is_kept_on, look, unless_on, with_frame}
+use Rattle.amqp_arrivals.specs.Live.{frames_kept, kept, with_frame}
+use Rattle.amqp_resource.specs.Held.{SameHeld, Stands, Tied, ids_on, is_among, is_in, is_kept_on, unless_on}
 use Rattle.amqp_resource.specs.Draws.{DrewLive, DrewUnused, is_kept}
 use Rattle.amqp_layer.specs.Taking.{TakesFrame, TookFrames, taken_frames}
-use Rattle.amqp_resource.specs.Transacting.{AllocatedIn, CommittedIn, CommittedWith, Ended, RolledBackIn, frames_kept, step_error_of}
+use Rattle.amqp_resource.specs.Transacting.{AllocatedIn, CommittedIn, CommittedWith, Ended, RolledBackIn, step_error_of}
 use Rattle.amqp_resource.specs.Steps.{EndGave, is_unknown, AddsRefusal, IsPost, IsUnder, fault_of, nothing_drawn}
 use Rattle.amqp_resource.specs.Keeping.{ControlKeeps, DischargeHands, EndKeeps, Fits, FrameCalls, FrameKeeps, IsUnkept, Keeps, PlainKeeps, Rejects, NothingChanges, SameLinks, StepRefused, TookPart, UnderUnkept, is_kept_under, message_hands, message_wants, step_hands, step_wants}
 use Rattle.amqp_resource.proofs.Kept.{in_updated, tied_added, tied_opened, tied_same}
@@ -61,14 +62,14 @@ fits_by h g tied links opened f = record { tied = tied; links = λ k l. links k 
 pub fits-same : (h g : Held) → SameHeld h g → Fits h → Fits g
 fits-same h g same f = fits_by h g (tied_same h g same f.tied) (λ k. ap is_some (same.links k)) same.opened f
 
-pub fits-posted : (h g : Held) (u : TransactionId) (frame : Frame) → ((t : TransactionId) → look g.live.entries t ≡ cond (same_id t u) (with_frame (look h.live.entries t) frame) (look h.live.entries t)) → ((k : ℕ) → ids_on g.links.entries k ≡ ids_on h.links.entries k) → g.opened ≡ h.opened → Fits h → Fits g
+pub fits-posted : (h g : Held) (u : TransactionId) (frame : Frame) → ((t : TransactionId) → kept g.work t ≡ cond (same_id t u) (with_frame (kept h.work t) frame) (kept h.work t)) → ((k : ℕ) → ids_on g.links.entries k ≡ ids_on h.links.entries k) → g.opened ≡ h.opened → Fits h → Fits g
 fits-posted h g u frame lg kg og f = fits_by h g (tied-post h g u frame f.tied lg kg) (λ k. ap is_some (kg k)) og f
 
 no_ids : (t : TransactionId) (ids : Option (List TransactionId)) → is_some ids ≡ false → is_among t ids ≡ false
 no_ids t None n = refl
 no_ids t (Some ids) n = cc n
 
-pub fits-attached : (h g : Held) → ((t : TransactionId) → look g.live.entries t ≡ look h.live.entries t) → ((k : ℕ) → ids_on g.links.entries k ≡ cond (h.opened == k) (Some []) (ids_on h.links.entries k)) → g.opened ≡ h.opened + 1 → Fits h → Fits g
+pub fits-attached : (h g : Held) → ((t : TransactionId) → kept g.work t ≡ kept h.work t) → ((k : ℕ) → ids_on g.links.entries k ≡ cond (h.opened == k) (Some []) (ids_on h.links.entries k)) → g.opened ≡ h.opened + 1 → Fits h → Fits g
 fits-attached h g lg kg og f = record {
   tied = tied_opened h g f.tied (λ t. sym (f.tied h.opened t) ∙ no_ids t (ids_on h.links.entries h.opened) (f.links h.opened (omega arith))) lg kg;
   links = λ k l. ap is_some (kg k) ∙ in_updated (h.opened == k) (Some []) (ids_on h.links.entries k)
@@ -108,7 +109,7 @@ fits-rolled_back h g id (Err error) x f = fits-same h g x.2 f
 pub fits-allocated : (h g : Held) (result : Result DrawnIds AllocTxnIdError) → AllocatedIn h g result → Fits h → Fits g
 fits-allocated h g (Ok drawn) x f =
     let id : TransactionId = x.0 in
-    let unused : look h.live.entries id ≡ None = x.1.unused in
+    let unused : kept h.work id ≡ None = x.1.unused in
     fits_by h g (tied_added h g id unused x.2.live x.2.links f.tied) (λ k. ap is_some (x.2.links k)) x.2.opened f
 fits-allocated h g (Err (allocations.IdsRepeat drawn)) x f = fits-same h g x.1 f
 fits-allocated h g (Err allocations.NotImplemented) x f = absurd x
@@ -144,8 +145,8 @@ plain_answers h g told now frame reply p x =
     subst (λ (o : Option TransactionId). FrameKeeps h g told now frame o reply) (sym (plain_none frame p))
     (subst (λ (b : Bool). PlainKeeps h g told now frame b reply) (sym (plain_no_coordinator frame (txn frame) p)) x)
 
-plain_kept : (h : Held) (frame : Frame) → is_plain_frame frame ≡ true → IsUnkept h.live.entries (txn frame) → ⊥
-plain_kept h frame p u = subst (IsUnkept h.live.entries) (plain_none frame p) u
+plain_kept : (h : Held) (frame : Frame) → is_plain_frame frame ≡ true → IsUnkept h.work (txn frame) → ⊥
+plain_kept h frame p u = subst (IsUnkept h.work) (plain_none frame p) u
 
 pub keeps-plain : (h : Held) (told now : Told) (frame : Frame) (d : DrawnIds) (a : Answers) → d ≡ nothing_drawn → is_plain_frame frame ≡ true → TakesFrame told now frame (Ok a) → Fits h → Keeps h h told now (steps.Frame frame) (Ok (d, replies.Frames a))
 keeps-plain h told now frame d a n p t f = record {
@@ -166,7 +167,7 @@ plain_stopped : (h : Held) (told now : Told) (frame : Frame) (e : TakeError) →
 plain_stopped h told now frame e p t =
     let gives : step_hands h (steps.Frame frame) ≡ frame ∷ [] = ap (λ b. cond b (frame ∷ []) []) p in
     record {
-      calls = subst (FrameCalls h.live.entries frame) (sym (plain_none frame p)) (plain_no_coordinator frame (txn frame) p);
+      calls = subst (FrameCalls h.work frame) (sym (plain_none frame p)) (plain_no_coordinator frame (txn frame) p);
       took = subst (λ (fs : List Frame). TookPart told now fs (cond e.taken 1 0)) (sym gives) (part_of told.taken now.taken frame e.taken t.taken);
       opened = t.opened;
       refused = (
@@ -191,15 +192,15 @@ keeps-plain_refused h told now frame e error handed p known same n t f = record 
 pub keeps-plain_wanting : (h : Held) (told now : Told) (frame : Frame) → is_plain_frame frame ≡ true → Fits h → Keeps h h told now (steps.Frame frame) (Err errors.NoMemory)
 keeps-plain_wanting h told now frame p f = record {
   fits = f;
-  answer = ap (is_kept_under h.live.entries) (plain_none frame p);
+  answer = ap (is_kept_under h.work) (plain_none frame p);
   unknown = λ u. absurd (plain_kept h frame p u);
 }
 
 -- a frame under a live id isn't one under an id that isn't live
-live_under : (h : Held) (frame : Frame) (u : TransactionId) → txn frame ≡ Some u → is_kept h.live.entries u ≡ true → IsUnkept h.live.entries (txn frame) → ⊥
-live_under h frame u e at n = let d : is_kept h.live.entries u ≡ false = subst (IsUnkept h.live.entries) e n in cc (at, d)
+live_under : (h : Held) (frame : Frame) (u : TransactionId) → txn frame ≡ Some u → is_kept h.work u ≡ true → IsUnkept h.work (txn frame) → ⊥
+live_under h frame u e at n = let d : is_kept h.work u ≡ false = subst (IsUnkept h.work) e n in cc (at, d)
 
-pub keeps-post : (h g : Held) (told now : Told) (frame : Frame) (u : TransactionId) (d : DrawnIds) → d ≡ nothing_drawn → txn frame ≡ Some u → is_kept h.live.entries u ≡ true → ((t : TransactionId) → look g.live.entries t ≡ cond (same_id t u) (with_frame (look h.live.entries t) frame) (look h.live.entries t)) → ((k : ℕ) → ids_on g.links.entries k ≡ ids_on h.links.entries k) → g.opened ≡ h.opened → Steady told now → Fits h → Keeps h g told now (steps.Frame frame) (Ok (d, post_reply u frame))
+pub keeps-post : (h g : Held) (told now : Told) (frame : Frame) (u : TransactionId) (d : DrawnIds) → d ≡ nothing_drawn → txn frame ≡ Some u → is_kept h.work u ≡ true → ((t : TransactionId) → kept g.work t ≡ cond (same_id t u) (with_frame (kept h.work t) frame) (kept h.work t)) → ((k : ℕ) → ids_on g.links.entries k ≡ ids_on h.links.entries k) → g.opened ≡ h.opened → Steady told now → Fits h → Keeps h g told now (steps.Frame frame) (Ok (d, post_reply u frame))
 keeps-post h g told now frame u d n e at lg kg og same f = record {
   fits = fits-posted h g u frame lg kg og f;
   answer = (
@@ -215,20 +216,20 @@ keeps-post h g told now frame u d n e at lg kg og same f = record {
   unknown = λ x. absurd (live_under h frame u e at x);
 }
 
-pub keeps-dead : (h g : Held) (told now : Told) (frame : Frame) (u : TransactionId) → txn frame ≡ Some u → is_kept h.live.entries u ≡ false → Fits g → Keeps h g told now (steps.Frame frame) (Err (errors.Fault faults.UnknownTxnId 0))
+pub keeps-dead : (h g : Held) (told now : Told) (frame : Frame) (u : TransactionId) → txn frame ≡ Some u → is_kept h.work u ≡ false → Fits g → Keeps h g told now (steps.Frame frame) (Err (errors.Fault faults.UnknownTxnId 0))
 keeps-dead h g told now frame u e n f = record {
   fits = f;
-  answer = (subst (IsUnkept h.live.entries) (sym e) n, refl);
+  answer = (subst (IsUnkept h.work) (sym e) n, refl);
   unknown = λ x. refl;
 }
 
-pub keeps-post_refused : (h g : Held) (told now : Told) (frame : Frame) (u : TransactionId) (error own : SessionInnerError) → txn frame ≡ Some u → is_kept h.live.entries u ≡ true → 1 ≤ length (answered_under u frame) → is_unknown error ≡ false → error ≡ fault_of own → Steady told now → Fits g → Keeps h g told now (steps.Frame frame) (Err (errors.Fault error 0))
+pub keeps-post_refused : (h g : Held) (told now : Told) (frame : Frame) (u : TransactionId) (error own : SessionInnerError) → txn frame ≡ Some u → is_kept h.work u ≡ true → 1 ≤ length (answered_under u frame) → is_unknown error ≡ false → error ≡ fault_of own → Steady told now → Fits g → Keeps h g told now (steps.Frame frame) (Err (errors.Fault error 0))
 keeps-post_refused h g told now frame u error own e at some known same steady f =
     let is_under : IsPost (steps.Frame frame) = subst IsUnder (sym e) tt in
     record {
       fits = f;
       answer = fault_answers h told now (steps.Frame frame) error own 0 known same (record {
-        calls = subst (FrameCalls h.live.entries frame) (sym e) (at, some);
+        calls = subst (FrameCalls h.work frame) (sym e) (at, some);
         took = (omega arith, ([], refl, steady.taken ∙ sym (grown-nil told.taken)));
         opened = steady.opened;
         refused = ([], (own, refl, inr (refl, inl is_under)), steady.refused ∙ sym (grown-nil told.refused));
@@ -236,10 +237,10 @@ keeps-post_refused h g told now frame u error own e at some known same steady f 
       unknown = λ n. absurd (live_under h frame u e at n);
     }
 
-pub keeps-post_wanting : (h g : Held) (told now : Told) (frame : Frame) (u : TransactionId) → txn frame ≡ Some u → is_kept h.live.entries u ≡ true → Fits g → Keeps h g told now (steps.Frame frame) (Err errors.NoMemory)
+pub keeps-post_wanting : (h g : Held) (told now : Told) (frame : Frame) (u : TransactionId) → txn frame ≡ Some u → is_kept h.work u ≡ true → Fits g → Keeps h g told now (steps.Frame frame) (Err errors.NoMemory)
 keeps-post_wanting h g told now frame u e at f = record {
   fits = f;
-  answer = ap (is_kept_under h.live.entries) e ∙ at;
+  answer = ap (is_kept_under h.work) e ∙ at;
   unknown = λ n. absurd (live_under h frame u e at n);
 }
 
@@ -249,10 +250,10 @@ attach_answers h g told now attach reply c x =
     subst (λ (o : Option TransactionId). FrameKeeps h g told now (frames.Attach attach) o reply) (sym (txn-attach attach))
     (subst (λ (b : Bool). PlainKeeps h g told now (frames.Attach attach) b reply) (sym (coord-attach attach ∙ c)) x)
 
-under_none : (h : Held) (attach : Attach) → IsUnkept h.live.entries (txn (frames.Attach attach)) → ⊥
-under_none h attach u = subst (IsUnkept h.live.entries) (txn-attach attach) u
+under_none : (h : Held) (attach : Attach) → IsUnkept h.work (txn (frames.Attach attach)) → ⊥
+under_none h attach u = subst (IsUnkept h.work) (txn-attach attach) u
 
-pub keeps-attached : (h g : Held) (told now : Told) (attach : Attach) (d : DrawnIds) (given : List Frame) → d ≡ nothing_drawn → attaches_coordinator attach ≡ true → ((t : TransactionId) → look g.live.entries t ≡ look h.live.entries t) → ((k : ℕ) → ids_on g.links.entries k ≡ cond (h.opened == k) (Some []) (ids_on h.links.entries k)) → g.opened ≡ h.opened + 1 → Opens told now attach (Ok given) → Fits h → Keeps h g told now (steps.Frame (frames.Attach attach)) (Ok (d, replies.Attached h.opened given))
+pub keeps-attached : (h g : Held) (told now : Told) (attach : Attach) (d : DrawnIds) (given : List Frame) → d ≡ nothing_drawn → attaches_coordinator attach ≡ true → ((t : TransactionId) → kept g.work t ≡ kept h.work t) → ((k : ℕ) → ids_on g.links.entries k ≡ cond (h.opened == k) (Some []) (ids_on h.links.entries k)) → g.opened ≡ h.opened + 1 → Opens told now attach (Ok given) → Fits h → Keeps h g told now (steps.Frame (frames.Attach attach)) (Ok (d, replies.Attached h.opened given))
 keeps-attached h g told now attach d given n c lg kg og t f = record {
   fits = fits-attached h g lg kg og f;
   answer = (
@@ -283,13 +284,13 @@ keeps-attach_refused h g told now attach d error n c held t f = record {
 pub keeps-attach_wanting : (h g : Held) (told now : Told) (attach : Attach) → SameHeld h g → Fits h → Keeps h g told now (steps.Frame (frames.Attach attach)) (Err errors.NoMemory)
 keeps-attach_wanting h g told now attach held f = record {
   fits = fits-same h g held f;
-  answer = ap (is_kept_under h.live.entries) (txn-attach attach);
+  answer = ap (is_kept_under h.work) (txn-attach attach);
   unknown = λ u. absurd (under_none h attach u);
 }
 
 -- ---- the ends of links
 
-pub keeps-link_end : (h g : Held) (told : Told) (k : ℕ) (d : DrawnIds) → d ≡ nothing_drawn → is_in h.links.entries k ≡ true → (Tied h → (t : TransactionId) → look g.live.entries t ≡ unless_on k (look h.live.entries t)) → ((j : ℕ) → is_in g.links.entries j ≡ cond (k == j) false (is_in h.links.entries j)) → (Tied h → Tied g) → g.opened ≡ h.opened → Fits h → Keeps h g told told (steps.LinkEnd k) (Ok (d, replies.LinkEnded))
+pub keeps-link_end : (h g : Held) (told : Told) (k : ℕ) (d : DrawnIds) → d ≡ nothing_drawn → is_in h.links.entries k ≡ true → (Tied h → (t : TransactionId) → kept g.work t ≡ unless_on k (kept h.work t)) → ((j : ℕ) → is_in g.links.entries j ≡ cond (k == j) false (is_in h.links.entries j)) → (Tied h → Tied g) → g.opened ≡ h.opened → Fits h → Keeps h g told told (steps.LinkEnd k) (Ok (d, replies.LinkEnded))
 keeps-link_end h g told k d n o lg kg tied og f = record {
   fits = fits-closed h g k tied kg og f;
   answer = (ap (λ (x : DrawnIds). x.ids) n, subst (λ (b : Bool). EndKeeps k h g told told b replies.LinkEnded) (sym o) (record { live = lg f.tied; links = kg; opened = og; below = refl }));
@@ -317,14 +318,14 @@ keeps-no_link h told k payload d n o f = record {
   unknown = λ u. absurd u;
 }
 
-pub keeps-closed : (h g : Held) (told : Told) (k : ℕ) (payload : List ℕ) (d : DrawnIds) → d ≡ nothing_drawn → message_of payload ≡ None → is_in h.links.entries k ≡ true → (Tied h → (t : TransactionId) → look g.live.entries t ≡ unless_on k (look h.live.entries t)) → ((j : ℕ) → is_in g.links.entries j ≡ cond (k == j) false (is_in h.links.entries j)) → (Tied h → Tied g) → g.opened ≡ h.opened → Fits h → Keeps h g told told (steps.Control k payload) (Ok (d, replies.LinkClosed amqp_errors.NotAllowed))
+pub keeps-closed : (h g : Held) (told : Told) (k : ℕ) (payload : List ℕ) (d : DrawnIds) → d ≡ nothing_drawn → message_of payload ≡ None → is_in h.links.entries k ≡ true → (Tied h → (t : TransactionId) → kept g.work t ≡ unless_on k (kept h.work t)) → ((j : ℕ) → is_in g.links.entries j ≡ cond (k == j) false (is_in h.links.entries j)) → (Tied h → Tied g) → g.opened ≡ h.opened → Fits h → Keeps h g told told (steps.Control k payload) (Ok (d, replies.LinkClosed amqp_errors.NotAllowed))
 keeps-closed h g told k payload d n e o lg kg tied og f = record {
   fits = fits-closed h g k tied kg og f;
   answer = control_answers h g told told k payload None d true (replies.LinkClosed amqp_errors.NotAllowed) e o (ap (λ (x : DrawnIds). x.ids) n, refl, refl, record { live = lg f.tied; links = kg; opened = og; below = refl });
   unknown = λ u. absurd u;
 }
 
-pub keeps-rejected : (h g : Held) (told : Told) (k : ℕ) (payload : List ℕ) (m : Option ControlMessageBody) (d : DrawnIds) (text : RejectText) → message_of payload ≡ m → is_in h.links.entries k ≡ true → Rejects k h.live.entries d.ids text m → SameHeld h g → Fits h → Keeps h g told told (steps.Control k payload) (Ok (d, replies.Rejected transaction_errors.UnknownId text))
+pub keeps-rejected : (h g : Held) (told : Told) (k : ℕ) (payload : List ℕ) (m : Option ControlMessageBody) (d : DrawnIds) (text : RejectText) → message_of payload ≡ m → is_in h.links.entries k ≡ true → Rejects k h.work d.ids text m → SameHeld h g → Fits h → Keeps h g told told (steps.Control k payload) (Ok (d, replies.Rejected transaction_errors.UnknownId text))
 keeps-rejected h g told k payload m d text e o x same f = record {
   fits = fits-same h g same f;
   answer = control_answers h g told told k payload m d true (replies.Rejected transaction_errors.UnknownId text) e o (refl, x, unchanged-moved h g told same);
@@ -339,20 +340,20 @@ all_moved : (p q : TransactionId → Bool) → ((t : TransactionId) → q t ≡ 
 all_moved p q e [] = refl
 all_moved p q e (t ∷ ts) = ap (λ b. b && list_all q ts) (e t) ∙ ap (λ b. p t && b) (all_moved p q e ts)
 
-live_moved : (h g : Held) → SameHeld h g → (ts : List TransactionId) → list_all (is_kept g.live.entries) ts ≡ list_all (is_kept h.live.entries) ts
-live_moved h g same ts = all_moved (is_kept h.live.entries) (is_kept g.live.entries) (λ t. ap is_some (same.live t)) ts
+live_moved : (h g : Held) → SameHeld h g → (ts : List TransactionId) → list_all (is_kept g.work) ts ≡ list_all (is_kept h.work) ts
+live_moved h g same ts = all_moved (is_kept h.work) (is_kept g.work) (λ t. ap is_some (same.live t)) ts
 
-pub drew-live : (h g : Held) (ts : List TransactionId) → SameHeld h g → DrewLive g.live.entries ts → DrewLive h.live.entries ts
+pub drew-live : (h g : Held) (ts : List TransactionId) → SameHeld h g → DrewLive g.work ts → DrewLive h.work ts
 drew-live h g ts same x = record { count = x.count; all = sym (live_moved h g same ts) ∙ x.all }
 
-pub drew-unused : (h g : Held) (ts : List TransactionId) (t : TransactionId) → SameHeld h g → DrewUnused g.live.entries ts t → DrewUnused h.live.entries ts t
+pub drew-unused : (h g : Held) (ts : List TransactionId) (t : TransactionId) → SameHeld h g → DrewUnused g.work ts t → DrewUnused h.work ts t
 drew-unused h g ts t same x = record {
   parts = (x.parts.0, x.parts.1, sym (live_moved h g same x.parts.0) ∙ x.parts.2);
   count = x.count;
   unused = sym (same.live t) ∙ x.unused;
 }
 
-pub keeps-declared : (h roomy g : Held) (told : Told) (k : ℕ) (payload : List ℕ) (d : DrawnIds) (id : TransactionId) → message_of payload ≡ Some (messages.Declare (record { global_id = None })) → is_in h.links.entries k ≡ true → SameHeld h roomy → DrewUnused roomy.live.entries d.ids id → ((t : TransactionId) → look g.live.entries t ≡ cond (same_id t id) (Some (Some k, [])) (look roomy.live.entries t)) → ((j : ℕ) → is_in g.links.entries j ≡ is_in roomy.links.entries j) → (Tied roomy → Tied g) → g.opened ≡ roomy.opened → Fits h → Keeps h g told told (steps.Control k payload) (Ok (d, replies.Declared id))
+pub keeps-declared : (h roomy g : Held) (told : Told) (k : ℕ) (payload : List ℕ) (d : DrawnIds) (id : TransactionId) → message_of payload ≡ Some (messages.Declare (record { global_id = None })) → is_in h.links.entries k ≡ true → SameHeld h roomy → DrewUnused roomy.work d.ids id → ((t : TransactionId) → kept g.work t ≡ cond (same_id t id) (Some (Some k, [])) (kept roomy.work t)) → ((j : ℕ) → is_in g.links.entries j ≡ is_in roomy.links.entries j) → (Tied roomy → Tied g) → g.opened ≡ roomy.opened → Fits h → Keeps h g told told (steps.Control k payload) (Ok (d, replies.Declared id))
 keeps-declared h roomy g told k payload d id e o same drew lg kg tied og f = record {
   fits = fits-declared roomy g tied kg og (fits-same h roomy same f);
   answer = control_answers h g told told k payload (Some (messages.Declare (record { global_id = None }))) d true (replies.Declared id) e o (record {
@@ -368,13 +369,13 @@ keeps-declared h roomy g told k payload d id e o same drew lg kg tied og f = rec
 pub keeps-declare_wanting : (h g : Held) (told : Told) (k : ℕ) (payload : List ℕ) → message_of payload ≡ Some (messages.Declare (record { global_id = None })) → is_in h.links.entries k ≡ true → SameHeld h g → Fits h → Keeps h g told told (steps.Control k payload) (Err errors.NoMemory)
 keeps-declare_wanting h g told k payload e o same f = record {
   fits = fits-same h g same f;
-  answer = ap (λ b. b && message_wants k h.live.entries (message_of payload)) o ∙ ap (message_wants k h.live.entries) e;
+  answer = ap (λ b. b && message_wants k h.work (message_of payload)) o ∙ ap (message_wants k h.work) e;
   unknown = λ u. absurd u;
 }
 
 -- ---- discharges
 
-pub keeps-discharged : (h g : Held) (told now : Told) (k : ℕ) (payload : List ℕ) (discharge : Discharge) (d : DrawnIds) (b : Bool) (echoes : List Answers) → d ≡ nothing_drawn → message_of payload ≡ Some (messages.Discharge discharge) → is_rollback discharge.fail ≡ b → is_in h.links.entries k ≡ true → is_kept_on k (look h.live.entries discharge.txn_id) ≡ true → Ended h g discharge.txn_id → DischargeHands told now b (frames_kept h.live.entries discharge.txn_id) echoes → Fits h → Keeps h g told now (steps.Control k payload) (Ok (d, replies.Accepted echoes))
+pub keeps-discharged : (h g : Held) (told now : Told) (k : ℕ) (payload : List ℕ) (discharge : Discharge) (d : DrawnIds) (b : Bool) (echoes : List Answers) → d ≡ nothing_drawn → message_of payload ≡ Some (messages.Discharge discharge) → is_rollback discharge.fail ≡ b → is_in h.links.entries k ≡ true → is_kept_on k (kept h.work discharge.txn_id) ≡ true → Ended h g discharge.txn_id → DischargeHands told now b (frames_kept (kept h.work discharge.txn_id)) echoes → Fits h → Keeps h g told now (steps.Control k payload) (Ok (d, replies.Accepted echoes))
 keeps-discharged h g told now k payload discharge d b echoes n e rb o on x hands f = record {
   fits = fits-ended h g discharge.txn_id x f;
   answer = control_answers h g told now k payload (Some (messages.Discharge discharge)) d true (replies.Accepted echoes) e o (
@@ -383,29 +384,29 @@ keeps-discharged h g told now k payload discharge d b echoes n e rb o on x hands
       kept = on;
       live = x.live;
       links = record { links = x.links; opened = x.opened };
-      hands = subst (λ (c : Bool). DischargeHands told now c (frames_kept h.live.entries discharge.txn_id) echoes) (sym rb) hands;
+      hands = subst (λ (c : Bool). DischargeHands told now c (frames_kept (kept h.work discharge.txn_id)) echoes) (sym rb) hands;
     },
   );
   unknown = λ u. absurd u;
 }
 
 -- a fault of a commit
-pub keeps-fault : (h g : Held) (told now : Told) (k : ℕ) (payload : List ℕ) (discharge : Discharge) (U : Type 0) (fault : CommitFault) → message_of payload ≡ Some (messages.Discharge discharge) → is_rollback discharge.fail ≡ false → is_in h.links.entries k ≡ true → is_kept_on k (look h.live.entries discharge.txn_id) ≡ true → CommittedWith h g told now discharge.txn_id (frames_kept h.live.entries discharge.txn_id) U (Err fault) → Fits h → Keeps h g told now (steps.Control k payload) (Err (step_error_of fault))
+pub keeps-fault : (h g : Held) (told now : Told) (k : ℕ) (payload : List ℕ) (discharge : Discharge) (U : Type 0) (fault : CommitFault) → message_of payload ≡ Some (messages.Discharge discharge) → is_rollback discharge.fail ≡ false → is_in h.links.entries k ≡ true → is_kept_on k (kept h.work discharge.txn_id) ≡ true → CommittedWith h g told now discharge.txn_id (frames_kept (kept h.work discharge.txn_id)) U (Err fault) → Fits h → Keeps h g told now (steps.Control k payload) (Err (step_error_of fault))
 keeps-fault h g told now k payload discharge U commit_faults.NoMemory e rb o on x f = record {
   fits = fits-same h g x.0 f;
-  answer = ap (λ b. b && message_wants k h.live.entries (message_of payload)) o ∙ ap (message_wants k h.live.entries) e ∙ ap (λ b. not b && is_kept_on k (look h.live.entries discharge.txn_id)) rb ∙ on;
+  answer = ap (λ b. b && message_wants k h.work (message_of payload)) o ∙ ap (message_wants k h.work) e ∙ ap (λ b. not b && is_kept_on k (kept h.work discharge.txn_id)) rb ∙ on;
   unknown = λ u. absurd u;
 }
 keeps-fault h g told now k payload discharge U (commit_faults.Refused error handed) e rb o on x f =
-    let kept = frames_kept h.live.entries discharge.txn_id in
+    let all = frames_kept (kept h.work discharge.txn_id) in
     let own = x.1.0 in
     let part = x.1.2.handed in
     let s : Step = steps.Control k payload in
-    let gives : step_hands h s ≡ map stripped kept =
-    ap (message_hands k h.live.entries) e
-    ∙ ap (λ b. cond (not b && is_kept_on k (look h.live.entries discharge.txn_id)) (map stripped kept) []) rb
-    ∙ ap (λ b. cond b (map stripped kept) []) on in
-    let count : length (step_hands h s) ≡ length kept = ap length gives ∙ length-map kept stripped in
+    let gives : step_hands h s ≡ map stripped all =
+    ap (message_hands k h.work) e
+    ∙ ap (λ b. cond (not b && is_kept_on k (kept h.work discharge.txn_id)) (map stripped all) []) rb
+    ∙ ap (λ b. cond b (map stripped all) []) on in
+    let count : length (step_hands h s) ≡ length all = ap length gives ∙ length-map all stripped in
     let known : is_unknown error ≡ false = ap is_unknown x.1.1 ∙ fault_known own in
     let P : List Frame → Type 0 = λ fs. TookFrames told.taken now.taken (take handed fs) in
     let Q : List Frame → Type 0 = λ fs. AddsRefusal s fs handed (fault_of own) part.refused.0 in
@@ -415,7 +416,7 @@ keeps-fault h g told now k payload discharge U (commit_faults.Refused error hand
         calls = omega (arith, part.some, count);
         took = (omega (arith, part.within, count), subst P (sym gives) part.took);
         opened = part.opened;
-        refused = (part.refused.0, subst Q (sym gives) (part_adds [] s (map stripped kept) handed own part.refused.0 part.refused.1), part.refused.2);
+        refused = (part.refused.0, subst Q (sym gives) (part_adds [] s (map stripped all) handed own part.refused.0 part.refused.1), part.refused.2);
       });
       unknown = λ u. absurd u;
     }

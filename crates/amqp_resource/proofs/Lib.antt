@@ -6,6 +6,8 @@ pub mod Parts
 pub mod Complete
 pub mod Running
 pub mod Keeping
+pub mod Moved
+pub mod Looked
 pub mod Calling
 pub mod Heard
 pub mod Filling

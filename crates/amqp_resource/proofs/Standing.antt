@@ -20,11 +20,11 @@ use Rattle.amqp_record.proofs.Whole.{IsLegal-nil, IsLegal-snoc, count-snoc, is_o
 use Rattle.std.specs.HashSet.{keys}
 use Rattle.std.specs.Map.{lookup}
 use Rattle.std.specs.Option.{option_map}
-use Rattle.amqp_record.proofs.Ids.{same_id-refl}
 use Rattle.amqp_resource.proofs.Kept.{in_updated, tied_opened}
 use Rattle.amqp_record.specs.Legal.{IsLegal}
 use Rattle.amqp_resource.specs.declared.held.Held.{Held}
-use Rattle.amqp_resource.specs.Held.{Kept, LiveIds, OpenLinks, Stands, kept_of, Tied, ids_on, is_among, is_in, is_kept_on, kept_by, look, look_without, with_frame, unless_on}
+use Rattle.amqp_arrivals.specs.Live.{Kept, kept, with_frame}
+use Rattle.amqp_resource.specs.Held.{OpenLinks, Stands, Tied, ids_on, is_among, is_in, is_kept_on, kept_by, kept_without, unless_on}
 
 abbrev pub more_frames : Bool → Step → Option Kept → Option Kept
 more_frames b s None = None
@@ -128,7 +128,7 @@ with_more true frame (Some kept) = refl
 with_more false frame (Some kept) = ap (λ fs. Some (kept.0, fs)) (append-nil kept.1)
 
 -- a frame under an id
-pub stands-post : (h g : Held) (r : List Entry) (e : Entry) (frame : Frame) (u : TransactionId) → Stands h r → Answer r e.step e.drawn.ids e.reply → Quiet e → e.step ≡ steps.Frame frame → ((t : TransactionId) → is_under t e ≡ same_id t u) → Tied g → ((t : TransactionId) → look g.live.entries t ≡ cond (same_id t u) (with_frame (look h.live.entries t) frame) (look h.live.entries t)) → ((k : ℕ) → is_in g.links.entries k ≡ is_in h.links.entries k) → g.opened ≡ h.opened → Stands g (r ++ e ∷ [])
+pub stands-post : (h g : Held) (r : List Entry) (e : Entry) (frame : Frame) (u : TransactionId) → Stands h r → Answer r e.step e.drawn.ids e.reply → Quiet e → e.step ≡ steps.Frame frame → ((t : TransactionId) → is_under t e ≡ same_id t u) → Tied g → ((t : TransactionId) → kept g.work t ≡ cond (same_id t u) (with_frame (kept h.work t) frame) (kept h.work t)) → ((k : ℕ) → is_in g.links.entries k ≡ is_in h.links.entries k) → g.opened ≡ h.opened → Stands g (r ++ e ∷ [])
 stands-post h g r e frame u s a q es ue tg lg kg og = record {
   legal = IsLegal-snoc r e s.legal a;
   tied = tg;
@@ -141,7 +141,7 @@ stands-post h g r e frame u s a q es ue tg lg kg og = record {
 }
 
 -- an accepted discharge
-pub stands-discharged : (h g : Held) (r : List Entry) (e : Entry) (u : TransactionId) → Stands h r → Answer r e.step e.drawn.ids e.reply → ((t : TransactionId) → declares t e ≡ false) → ((t : TransactionId) → discharges t e ≡ same_id t u) → ((t : TransactionId) → is_under t e ≡ false) → ((k : ℕ) → attaches k e ≡ false) → ((k : ℕ) → closes k e ≡ false) → is_attached e.reply ≡ false → Tied g → ((t : TransactionId) → look g.live.entries t ≡ look_without u h.live.entries t) → ((k : ℕ) → is_in g.links.entries k ≡ is_in h.links.entries k) → g.opened ≡ h.opened → Stands g (r ++ e ∷ [])
+pub stands-discharged : (h g : Held) (r : List Entry) (e : Entry) (u : TransactionId) → Stands h r → Answer r e.step e.drawn.ids e.reply → ((t : TransactionId) → declares t e ≡ false) → ((t : TransactionId) → discharges t e ≡ same_id t u) → ((t : TransactionId) → is_under t e ≡ false) → ((k : ℕ) → attaches k e ≡ false) → ((k : ℕ) → closes k e ≡ false) → is_attached e.reply ≡ false → Tied g → ((t : TransactionId) → kept g.work t ≡ kept_without u h.work t) → ((k : ℕ) → is_in g.links.entries k ≡ is_in h.links.entries k) → g.opened ≡ h.opened → Stands g (r ++ e ∷ [])
 stands-discharged h g r e u s a de di un at cl ia tg lg kg og = record {
   legal = IsLegal-snoc r e s.legal a;
   tied = tg;
@@ -150,10 +150,10 @@ stands-discharged h g r e u s a de di un at cl ia tg lg kg og = record {
   opened = og ∙ s.opened ∙ sym (quiet_count r e ia);
 }
   where
-    by_case : (t : TransactionId) (b : Bool) → same_id t u ≡ b → look_without u h.live.entries t ≡ kept_by (r ++ e ∷ []) t
-    by_case t true x = ap (λ b. cond b None (look h.live.entries t)) x ∙ sym (kept_by-discharged r e t (de t) (di t ∙ x))
+    by_case : (t : TransactionId) (b : Bool) → same_id t u ≡ b → kept_without u h.work t ≡ kept_by (r ++ e ∷ []) t
+    by_case t true x = ap (λ b. cond b None (kept h.work t)) x ∙ sym (kept_by-discharged r e t (de t) (di t ∙ x))
     by_case t false x =
-        ap (λ b. cond b None (look h.live.entries t)) x ∙ s.live t
+        ap (λ b. cond b None (kept h.work t)) x ∙ s.live t
         ∙ sym (kept_by-quiet r e t (de t) (di t ∙ x) (un t) (λ y. is_open_at-other r e (home r t) (λ k _. at k) (λ k _. cl k)))
 
 and_true : (b : Bool) → (b && not false) ≡ b
@@ -174,11 +174,11 @@ no_home k r t legal n = by_case (is_live r t) refl
         ∙ not_link (home r t) (λ j y e. omega (arith, homes_attached r t j legal (live_undischarged r t l) y, n, e))
     by_case false l = ap (λ b. is_kept_on k (cond b (Some (home r t, frames_of r t)) None)) l
 
-tied-attached : (h g : Held) (r : List Entry) → Stands h r → ((t : TransactionId) → look g.live.entries t ≡ look h.live.entries t) → ((k : ℕ) → ids_on g.links.entries k ≡ cond (h.opened == k) (Some []) (ids_on h.links.entries k)) → Tied g
+tied-attached : (h g : Held) (r : List Entry) → Stands h r → ((t : TransactionId) → kept g.work t ≡ kept h.work t) → ((k : ℕ) → ids_on g.links.entries k ≡ cond (h.opened == k) (Some []) (ids_on h.links.entries k)) → Tied g
 tied-attached h g r s lg kg = tied_opened h g s.tied (λ t. ap (is_kept_on h.opened) (s.live t) ∙ no_home h.opened r t s.legal s.opened) lg kg
 
 -- an attached link
-pub stands-attached : (h g : Held) (r : List Entry) (e : Entry) (frames : List Frame) → Stands h r → Answer r e.step e.drawn.ids e.reply → e.reply ≡ replies.Attached h.opened frames → ((t : TransactionId) → declares t e ≡ false) → ((t : TransactionId) → discharges t e ≡ false) → ((t : TransactionId) → is_under t e ≡ false) → ((k : ℕ) → closes k e ≡ false) → ((t : TransactionId) → look g.live.entries t ≡ look h.live.entries t) → ((k : ℕ) → ids_on g.links.entries k ≡ cond (h.opened == k) (Some []) (ids_on h.links.entries k)) → g.opened ≡ h.opened + 1 → Stands g (r ++ e ∷ [])
+pub stands-attached : (h g : Held) (r : List Entry) (e : Entry) (frames : List Frame) → Stands h r → Answer r e.step e.drawn.ids e.reply → e.reply ≡ replies.Attached h.opened frames → ((t : TransactionId) → declares t e ≡ false) → ((t : TransactionId) → discharges t e ≡ false) → ((t : TransactionId) → is_under t e ≡ false) → ((k : ℕ) → closes k e ≡ false) → ((t : TransactionId) → kept g.work t ≡ kept h.work t) → ((k : ℕ) → ids_on g.links.entries k ≡ cond (h.opened == k) (Some []) (ids_on h.links.entries k)) → g.opened ≡ h.opened + 1 → Stands g (r ++ e ∷ [])
 stands-attached h g r e frames s a er de di un cl lg kg og = record {
   legal = IsLegal-snoc r e s.legal a;
   tied = tied-attached h g r s lg kg;
@@ -200,7 +200,7 @@ stands-attached h g r e frames s a er de di un cl lg kg og = record {
     by_case k false x = ap (λ b. cond b true (is_in h.links.entries k)) x ∙ s.links k ∙ sym (is_open-other r e k (says k ∙ x) (cl k))
 
 -- a closed link
-pub stands-closed : (h g : Held) (r : List Entry) (e : Entry) (k : ℕ) → Stands h r → Answer r e.step e.drawn.ids e.reply → ((t : TransactionId) → declares t e ≡ false) → ((t : TransactionId) → discharges t e ≡ false) → ((t : TransactionId) → is_under t e ≡ false) → ((j : ℕ) → attaches j e ≡ false) → ((j : ℕ) → closes j e ≡ (k == j)) → is_attached e.reply ≡ false → Tied g → ((t : TransactionId) → look g.live.entries t ≡ unless_on k (look h.live.entries t)) → ((j : ℕ) → is_in g.links.entries j ≡ cond (k == j) false (is_in h.links.entries j)) → g.opened ≡ h.opened → Stands g (r ++ e ∷ [])
+pub stands-closed : (h g : Held) (r : List Entry) (e : Entry) (k : ℕ) → Stands h r → Answer r e.step e.drawn.ids e.reply → ((t : TransactionId) → declares t e ≡ false) → ((t : TransactionId) → discharges t e ≡ false) → ((t : TransactionId) → is_under t e ≡ false) → ((j : ℕ) → attaches j e ≡ false) → ((j : ℕ) → closes j e ≡ (k == j)) → is_attached e.reply ≡ false → Tied g → ((t : TransactionId) → kept g.work t ≡ unless_on k (kept h.work t)) → ((j : ℕ) → is_in g.links.entries j ≡ cond (k == j) false (is_in h.links.entries j)) → g.opened ≡ h.opened → Stands g (r ++ e ∷ [])
 stands-closed h g r e k s a de di un at cl ia tg lg kg og = record {
   legal = IsLegal-snoc r e s.legal a;
   tied = tg;
@@ -214,7 +214,7 @@ stands-closed h g r e k s a de di un at cl ia tg lg kg og = record {
     by_case j false x = ap (λ b. cond b false (is_in h.links.entries j)) x ∙ s.links j ∙ sym (is_open-other r e j (at j) (cl j ∙ x))
 
 -- a declared id
-pub stands-declared : (h g : Held) (r : List Entry) (e : Entry) (u : TransactionId) → Stands h r → Answer r e.step e.drawn.ids e.reply → is_live r u ≡ false → is_open_at r (step_link e.step) ≡ true → ((t : TransactionId) → declares t e ≡ same_id t u) → ((t : TransactionId) → discharges t e ≡ false) → ((t : TransactionId) → is_under t e ≡ false) → ((k : ℕ) → attaches k e ≡ false) → ((k : ℕ) → closes k e ≡ false) → is_attached e.reply ≡ false → Tied g → ((t : TransactionId) → look g.live.entries t ≡ cond (same_id t u) (Some (step_link e.step, [])) (look h.live.entries t)) → ((k : ℕ) → is_in g.links.entries k ≡ is_in h.links.entries k) → g.opened ≡ h.opened → Stands g (r ++ e ∷ [])
+pub stands-declared : (h g : Held) (r : List Entry) (e : Entry) (u : TransactionId) → Stands h r → Answer r e.step e.drawn.ids e.reply → is_live r u ≡ false → is_open_at r (step_link e.step) ≡ true → ((t : TransactionId) → declares t e ≡ same_id t u) → ((t : TransactionId) → discharges t e ≡ false) → ((t : TransactionId) → is_under t e ≡ false) → ((k : ℕ) → attaches k e ≡ false) → ((k : ℕ) → closes k e ≡ false) → is_attached e.reply ≡ false → Tied g → ((t : TransactionId) → kept g.work t ≡ cond (same_id t u) (Some (step_link e.step, [])) (kept h.work t)) → ((k : ℕ) → is_in g.links.entries k ≡ is_in h.links.entries k) → g.opened ≡ h.opened → Stands g (r ++ e ∷ [])
 stands-declared h g r e u s a nl op de di un at cl ia tg lg kg og = record {
   legal = IsLegal-snoc r e s.legal a;
   tied = tg;
@@ -223,12 +223,12 @@ stands-declared h g r e u s a nl op de di un at cl ia tg lg kg og = record {
   opened = og ∙ s.opened ∙ sym (quiet_count r e ia);
 }
   where
-    by_case : (t : TransactionId) (b : Bool) → same_id t u ≡ b → cond (same_id t u) (Some (step_link e.step, [])) (look h.live.entries t) ≡ kept_by (r ++ e ∷ []) t
+    by_case : (t : TransactionId) (b : Bool) → same_id t u ≡ b → cond (same_id t u) (Some (step_link e.step, [])) (kept h.work t) ≡ kept_by (r ++ e ∷ []) t
     by_case t true x =
-        ap (λ b. cond b (Some (step_link e.step, [])) (look h.live.entries t)) x
+        ap (λ b. cond b (Some (step_link e.step, [])) (kept h.work t)) x
         ∙ sym (kept_by-declared r e t (de t ∙ x) (is_open_at-other r e (step_link e.step) (λ k _. at k) (λ k _. cl k) ∙ op))
     by_case t false x =
-        ap (λ b. cond b (Some (step_link e.step, [])) (look h.live.entries t)) x ∙ s.live t
+        ap (λ b. cond b (Some (step_link e.step, [])) (kept h.work t)) x ∙ s.live t
         ∙ sym (kept_by-quiet r e t (de t ∙ x) (di t) (un t) (λ y. is_open_at-other r e (home r t) (λ k _. at k) (λ k _. cl k)))
 
 -- nothing kept stands for the empty record
@@ -240,27 +240,23 @@ none_open : (k : ℕ) → is_open [] k ≡ false
 unfolding is_open
 none_open k = refl
 
-pub stands-new : (h : Held) → h.live.entries ≡ [] → h.links.entries ≡ [] → h.opened ≡ 0 → Stands h []
+pub stands-new : (h : Held) → ((t : TransactionId) → kept h.work t ≡ None) → h.links.entries ≡ [] → h.opened ≡ 0 → Stands h []
 stands-new h l k o = record {
   legal = IsLegal-nil;
-  tied = λ j t. ap (λ ks. is_among t (ids_on ks j)) k ∙ sym (ap (λ ls. is_kept_on j (look ls t)) l);
-  live = λ t. ap (λ ls. look ls t) l ∙ sym (ap (λ b. cond b (Some (home [] t, frames_of [] t)) None) (none_live t));
+  tied = λ j t. ap (λ ks. is_among t (ids_on ks j)) k ∙ sym (ap (is_kept_on j) (l t));
+  live = λ t. l t ∙ sym (ap (λ b. cond b (Some (home [] t, frames_of [] t)) None) (none_live t));
   links = λ j. ap (λ ks. is_in ks j) k ∙ sym (none_open j);
   opened = o;
 }
 
 -- ---- a session that keeps nothing
 
-no_ids : (ls : LiveIds) → ((t : TransactionId) → look ls t ≡ None) → length ls ≡ 0
-no_ids [] h = refl
-no_ids (l ∷ ls) h = let here : look (l ∷ ls) l.0 ≡ Some (kept_of l.1) = ap (λ b. option_map kept_of (cond b (Some l.1) (lookup (same_id l.0) ls))) (same_id-refl l.0) in cc (here, h l.0)
-
 no_links : {S : Type 0} (ks : OpenLinks S) → ((k : ℕ) → is_in ks k ≡ false) → length ks ≡ 0
 no_links [] h = refl
 no_links (k ∷ ks) h = let here : is_in (k ∷ ks) k.0 ≡ true = ap (λ b. is_some (option_map keys (cond b (Some k.1) (lookup (nat_eq k.0) ks)))) (eq-eqb k.0 k.0 refl) in cc (here, h k.0)
 
-pub new-live : (h : Held) → Stands h [] → length h.live.entries ≡ 0
-new-live h s = no_ids h.live.entries (λ t. s.live t ∙ ap (λ b. cond b (Some (home [] t, frames_of [] t)) None) (none_live t))
+pub new-live : (h : Held) → Stands h [] → (t : TransactionId) → kept h.work t ≡ None
+new-live h s t = s.live t ∙ ap (λ b. cond b (Some (home [] t, frames_of [] t)) None) (none_live t)
 
 pub new-links : (h : Held) → Stands h [] → length h.links.entries ≡ 0
 new-links h s = no_links h.links.entries (λ k. s.links k ∙ none_open k)

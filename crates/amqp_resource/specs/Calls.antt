@@ -1,5 +1,5 @@
 -- What the transactional calls give on a session, by whether it has stopped.
-use Rattle.std.specs.Prelude.{◌≡◌, Option, Some, None, Result, Ok, Err, List}
+use Rattle.std.specs.Prelude.{◌≡◌, ◌≤◌, Option, Some, None, Result, Ok, Err, List}
 use Rattle.amqp_txn_types.specs.declared.id.TransactionId.{TransactionId}
 use Rattle.amqp_txn_types.specs.declared.small.Accepted.{Accepted}
 use Rattle.amqp_txn_types.specs.declared.small.TransactionError.{TransactionError}
@@ -14,7 +14,7 @@ use Rattle.amqp_layer.specs.Told.{Told}
 use Rattle.amqp_record.specs.declared.stop.StopCode.{StopCode}
 use Rattle.amqp_record.specs.Stops.{fault_code}
 use Rattle.amqp_resource.specs.declared.session.TxnSession.{TxnSession}
-use Rattle.amqp_resource.specs.Session.{FitsTogether, SameSession, below_of, held_of, stop_of, told_of}
+use Rattle.amqp_resource.specs.Session.{FitsTogether, SameSession, below_of, frame_count_of, held_of, owed_of, stop_of, told_of}
 use Rattle.amqp_resource.specs.Transacting.{AllocatedIn, CommittedIn, RolledBackIn}
 
 -- one fact where the session had stopped, another where it runs
@@ -42,7 +42,8 @@ abbrev pub StopAfterCommit : Result (Result (List Answers) TransactionError) Com
 StopAfterCommit (Err (commit_faults.Refused error handed)) stop = stop ≡ Some (fault_code error)
 StopAfterCommit _ stop = stop ≡ None
 
--- a commit; what the session keeps goes on to fit together
+-- a commit; what the session keeps goes on to fit together, and no more looks are owed than frames
+-- are kept
 abbrev pub CommitGives : {S : Type 0} → (S → Told) → TxnSession S → TxnSession S → TransactionId
     → Result (Result (List Answers) TransactionError) CommitFault → Type 0
 CommitGives told old new id result =
@@ -50,13 +51,16 @@ CommitGives told old new id result =
     × by_stop (stop_of old)
     ((result ≡ Ok (Err conditions.UnknownId)) × SameSession old new)
     (CommittedIn (held_of old) (held_of new) (told_of told old) (told_of told new) id
-    (below_of new ≡ below_of old) result × StopAfterCommit result (stop_of new))
+    (below_of new ≡ below_of old) result × StopAfterCommit result (stop_of new)
+    × (owed_of new ≤ frame_count_of new))
 
--- a rollback; what the session keeps goes on to fit together
+-- a rollback; what the session keeps goes on to fit together, and no more looks are owed than
+-- frames are kept
 abbrev pub RollbackGives : {S : Type 0} → TxnSession S → TxnSession S → TransactionId
     → Result Accepted TransactionError → Type 0
 RollbackGives old new id result =
     (FitsTogether old → FitsTogether new)
     × by_stop (stop_of old)
     ((result ≡ Err conditions.UnknownId) × SameSession old new)
-    (RolledBackIn (held_of old) (held_of new) id result × GoesOn old new)
+    (RolledBackIn (held_of old) (held_of new) id result × GoesOn old new
+    × (owed_of new ≤ frame_count_of new))

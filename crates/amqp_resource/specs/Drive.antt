@@ -1,5 +1,6 @@
 -- What driving a list of steps leaves.
 use Rattle.std.specs.Prelude.{ℕ, ◌≡◌, ◌≤◌, ◌+◌, ◌-◌, ◌^◌, ◌⊎◌, Bool, true, false, not, min, Option, Some, None, List, [], ◌∷◌, ◌++◌, length, take, MatchBool, if◌then◌else◌}
+use Rattle.std.specs.List.{sum_by}
 use Rattle.amqp_txn_types.specs.declared.performatives.Frame.{Frame}
 use Rattle.amqp_layer.specs.declared.inner_error.SessionInnerError.{SessionInnerError}
 use Rattle.amqp_layer.specs.declared.refusal.Refusal.{Refusal}
@@ -18,11 +19,16 @@ use Rattle.amqp_record.specs.Stops.{code_of}
 use Rattle.amqp_resource.specs.declared.session.TxnSession.{TxnSession}
 use Rattle.amqp_layer.specs.Taking.{TookFrames}
 use Rattle.amqp_resource.specs.Steps.{is_unknown, ended_by, takes_memory, UnderDead, MayFault, AddsRefusal}
+use Rattle.amqp_resource.specs.Looking.{frames_added}
 use Rattle.amqp_resource.specs.Session.{StandsFor, stop_of}
 
 -- the steps are those of the entries, and then these
 abbrev pub Left : List Step → List Entry → List Step → Type 0
 Left all r rest = all ≡ steps_of r ++ rest
+
+-- how many frames of transactional work there are among the entries
+abbrev pub work_count : List Entry → ℕ
+work_count r = sum_by (λ (e : Entry). frames_added e.step) r
 
 -- there is a step after those of the entries, with a fact of it
 abbrev pub NextStep : List Step → List Entry → (Step → Type 0) → Type 0

@@ -64,7 +64,7 @@ pub record HearsControl {S : Type 0} (told : S → Told)
 abbrev pub HearsLive : {S : Type 0} → TxnSession S → TxnSession S → Frame → TransactionId
     → Result (List Frame) SessionInnerError → Type 0
 HearsLive old new frame id (Ok given) =
-    Posted (held_of old).live.entries (held_of new).live.entries frame id (Ok given)
+    Posted (held_of old).work (held_of new).work frame id (Ok given)
     × SameLinks (held_of old) (held_of new) × GoesOn old new
 HearsLive old new frame id (Err error) = (error ≡ faults.NoMemory) × SameSession old new
 

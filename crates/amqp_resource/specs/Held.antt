@@ -1,49 +1,26 @@
 -- What a session keeps, and the record that it stands for.
-use Rattle.std.specs.Prelude.{ℕ, nat_eq, ◌≡◌, ◌<◌, Bool, false, cond, Option, Some, None, List, [], ◌∷◌, ◌++◌, is_some, IfSome}
+use Rattle.std.specs.Prelude.{ℕ, nat_eq, ◌≡◌, ◌<◌, Bool, false, cond, Option, Some, None, List, is_some, IfSome}
 use Rattle.std.specs.List.{list_any}
 use Rattle.std.specs.Map.{lookup}
 use Rattle.std.specs.Option.{option_map}
-use Rattle.std.specs.HashMap.{spare}
 use Rattle.std.specs.HashSet.{HashSet, keys, spare as spare_ids}
 use Rattle.amqp_txn_types.specs.declared.id.TransactionId.{TransactionId}
-use Rattle.amqp_txn_types.specs.declared.performatives.Frame.{Frame}
+use Rattle.amqp_arrivals.specs.Live.{HasPlace, Kept, Live, kept}
 use Rattle.amqp_record.specs.declared.entry.Entry.{Entry}
 use Rattle.amqp_txn_types.specs.Ids.{same_id}
 use Rattle.amqp_record.specs.Links.{is_open, attached_count}
 use Rattle.amqp_record.specs.Live.{is_link, is_live, home}
 use Rattle.amqp_record.specs.Hands.{frames_of}
 use Rattle.amqp_record.specs.Legal.{IsLegal}
-use Rattle.amqp_resource.specs.declared.held.Live.{Live}
 use Rattle.amqp_resource.specs.declared.held.Held.{Held}
-
--- the live ids, each with what is kept for it
-abbrev pub LiveIds : Type 0
-LiveIds = List (TransactionId × Live)
 
 -- the open links, each with the live ids that were declared on it
 abbrev pub OpenLinks : Type 0 → Type 0
 OpenLinks S = List (ℕ × HashSet TransactionId S)
 
--- the link that declared an id, if one did, and its frames
-abbrev pub Kept : Type 0
-Kept = Option ℕ × List Frame
-
--- the same of one live id
-abbrev pub kept_of : Live → Kept
-kept_of one = (one.holder, one.frames)
-
--- what is kept for an id
-abbrev pub look : LiveIds → TransactionId → Option Kept
-look live t = option_map kept_of (lookup (same_id t) live)
-
 -- what is kept, without that of one id
-abbrev pub look_without : TransactionId → LiveIds → TransactionId → Option Kept
-look_without u live t = cond (same_id t u) None (look live t)
-
--- one frame more
-abbrev pub with_frame : Option Kept → Frame → Option Kept
-with_frame None frame = None
-with_frame (Some kept) frame = Some (kept.0, kept.1 ++ frame ∷ [])
+abbrev pub kept_without : TransactionId → Live → TransactionId → Option Kept
+kept_without u live t = cond (same_id t u) None (kept live t)
 
 -- something is kept, and this link declared it
 abbrev pub is_kept_on : ℕ → Option Kept → Bool
@@ -72,16 +49,16 @@ is_among t (Some ids) = list_any (same_id t) ids
 abbrev pub Tied : Held → Type 0
 Tied h =
     (k : ℕ) (t : TransactionId) → is_among t (ids_on h.links.entries k) ≡ is_kept_on k
-    (look h.live.entries t)
+    (kept h.work t)
 
 -- there is room for one more live id, and for one more id of the link
 pub record HasRoom (h : Held) (k : ℕ) : Type 0 where
-  pub live : 0 < spare h.live
+  pub live : HasPlace h.work
   pub ids : IfSome (lookup (nat_eq k) h.links.entries) (λ ids. 0 < spare_ids ids)
 
 -- what is kept is as it was
 pub record SameHeld (old new : Held) : Type 0 where
-  pub live : (t : TransactionId) → look new.live.entries t ≡ look old.live.entries t
+  pub live : (t : TransactionId) → kept new.work t ≡ kept old.work t
   pub links : (k : ℕ) → ids_on new.links.entries k ≡ ids_on old.links.entries k
   pub opened : new.opened ≡ old.opened
 
@@ -94,6 +71,6 @@ kept_by r t = cond (is_live r t) (Some (home r t, frames_of r t)) None
 pub record Stands (h : Held) (r : List Entry) : Type 0 where
   pub legal : IsLegal r
   pub tied : Tied h
-  pub live : (t : TransactionId) → look h.live.entries t ≡ kept_by r t
+  pub live : (t : TransactionId) → kept h.work t ≡ kept_by r t
   pub links : (k : ℕ) → is_in h.links.entries k ≡ is_open r k
   pub opened : h.opened ≡ attached_count r

@@ -28,12 +28,12 @@ use Rattle.amqp_txn_types.specs.Presumptive.{answered_under}
 use Rattle.amqp_txn_types.specs.Ids.{same_id}
 use Rattle.amqp_txn_codec.specs.Discharges.{is_rollback}
 use Rattle.amqp_resource.specs.declared.held.Held.{Held}
-use Rattle.amqp_resource.specs.Held.{LiveIds, Tied, is_in, is_kept_on, look, look_without, unless_on, with_frame}
+use Rattle.amqp_arrivals.specs.Live.{Live, frames_kept, kept, with_frame}
+use Rattle.amqp_resource.specs.Held.{Tied, is_in, is_kept_on, kept_without, unless_on}
 use Rattle.amqp_resource.specs.Draws.{DrewLive, DrewUnused, is_kept}
 use Rattle.amqp_resource.specs.Steps.{AddsRefusal, OpenedBy, RefusedBy, is_unknown, stop_takes_memory}
 use Rattle.amqp_layer.specs.Taking.{TakesFrame, TookFrames}
 use Rattle.amqp_resource.specs.Committing.{HandedSome}
-use Rattle.amqp_resource.specs.Transacting.{frames_kept}
 
 -- what is kept fits together: the ids of each link are the live ids that were declared on it, and
 -- no open link has the number of one that is yet to be opened
@@ -45,7 +45,7 @@ pub record Fits (h : Held) : Type 0 where
 
 -- what is kept for each id
 abbrev pub SameLive : Held → Held → Type 0
-SameLive old new = (t : TransactionId) → look new.live.entries t ≡ look old.live.entries t
+SameLive old new = (t : TransactionId) → kept new.work t ≡ kept old.work t
 
 -- which links are open, and how many were opened
 pub record SameLinks (old new : Held) : Type 0 where
@@ -64,9 +64,9 @@ pub record NothingChanges (old new : Held) (told now : Told) : Type 0 where
 -- nothing was taken, opened or refused, and the answer is its presumptive disposition, or no frame
 pub record PostKeeps (old new : Held) (told now : Told) (frame : Frame) (id : TransactionId)
     (reply : Reply) : Type 0 where
-  pub kept : is_kept old.live.entries id ≡ true
-  pub live : (t : TransactionId) → look new.live.entries t ≡ cond (same_id t id)
-      (with_frame (look old.live.entries t) frame) (look old.live.entries t)
+  pub live : (t : TransactionId) → kept new.work t ≡ cond (same_id t id)
+      (with_frame (kept old.work t) frame) (kept old.work t)
+  pub kept : is_kept old.work id ≡ true
   pub links : SameLinks old new
   pub below : Steady told now
   pub answered : reply ≡ replies.Frames (record { given = answered_under id frame; window = None })
@@ -107,7 +107,7 @@ FrameKeeps old new told now frame (Some id) reply = PostKeeps old new told now f
 -- a link is open no more, what was declared on it is kept no more, and all else stays; no call was
 -- made below
 pub record Closes (k : ℕ) (old new : Held) (told now : Told) : Type 0 where
-  pub live : (t : TransactionId) → look new.live.entries t ≡ unless_on k (look old.live.entries t)
+  pub live : (t : TransactionId) → kept new.work t ≡ unless_on k (kept old.work t)
   pub links : (j : ℕ) → is_in new.links.entries j ≡ cond (k == j) false (is_in old.links.entries j)
   pub opened : new.opened ≡ old.opened
   pub below : now ≡ told
@@ -118,9 +118,9 @@ pub record DeclareKeeps (k : ℕ) (old new : Held) (told now : Told)
     (message : Option ControlMessageBody) (drawn : List TransactionId) (id : TransactionId) : Type
     0 where
   pub declares : message ≡ Some (messages.Declare (record { global_id = None }))
-  pub unused : DrewUnused old.live.entries drawn id
-  pub live : (t : TransactionId) → look new.live.entries t ≡ cond (same_id t id)
-      (Some (Some k, [])) (look old.live.entries t)
+  pub unused : DrewUnused old.work drawn id
+  pub live : (t : TransactionId) → kept new.work t ≡ cond (same_id t id)
+      (Some (Some k, [])) (kept old.work t)
   pub links : SameLinks old new
   pub below : now ≡ told
 
@@ -133,10 +133,10 @@ DischargeHands told now false kept echoes = HandedSome told now kept echoes
 -- stays
 pub record DischargeKeeps (k : ℕ) (old new : Held) (told now : Told) (id : TransactionId)
     (rollback : Bool) (echoes : List Answers) : Type 0 where
-  pub kept : is_kept_on k (look old.live.entries id) ≡ true
-  pub live : (t : TransactionId) → look new.live.entries t ≡ look_without id old.live.entries t
+  pub live : (t : TransactionId) → kept new.work t ≡ kept_without id old.work t
   pub links : SameLinks old new
-  pub hands : DischargeHands told now rollback (frames_kept old.live.entries id) echoes
+  pub hands : DischargeHands told now rollback (frames_kept (kept old.work id)) echoes
+  pub kept : is_kept_on k (kept old.work id) ≡ true
 
 -- only a discharge is accepted
 abbrev pub AcceptKeeps : ℕ → Held → Held → Told → Told → Option ControlMessageBody → List Answers
@@ -147,14 +147,14 @@ AcceptKeeps k old new told now _ echoes = ⊥
 
 -- rejected is a declare with a global id, one for which 16 live ids were drawn, and a discharge of
 -- an id that isn't live or wasn't declared on the link; only a declare draws
-abbrev pub Rejects : ℕ → LiveIds → List TransactionId → RejectText → Option ControlMessageBody
+abbrev pub Rejects : ℕ → Live → List TransactionId → RejectText → Option ControlMessageBody
     → Type 0
 Rejects k live drawn texts.GlobalId (Some (messages.Declare declare)) =
     (is_some declare.global_id ≡ true) × (drawn ≡ [])
 Rejects k live drawn texts.IdsRepeat (Some (messages.Declare declare)) =
     (declare.global_id ≡ None) × DrewLive live drawn
 Rejects k live drawn texts.Absent (Some (messages.Discharge discharge)) =
-    (is_kept_on k (look live discharge.txn_id) ≡ false) × (drawn ≡ [])
+    (is_kept_on k (kept live discharge.txn_id) ≡ false) × (drawn ≡ [])
 Rejects k live drawn _ _ = ⊥
 
 -- a control message, by whether its link is open; only a declare draws
@@ -169,7 +169,7 @@ ControlKeeps k old new told now message drawn true (replies.Declared id) =
 ControlKeeps k old new told now message drawn true (replies.Accepted echoes) =
     (drawn ≡ []) × AcceptKeeps k old new told now message echoes
 ControlKeeps k old new told now message drawn true (replies.Rejected error text) =
-    (error ≡ transaction_errors.UnknownId) × Rejects k old.live.entries drawn text message
+    (error ≡ transaction_errors.UnknownId) × Rejects k old.work drawn text message
     × NothingChanges old new told now
 ControlKeeps k old new told now message drawn _ _ = ⊥
 
@@ -192,27 +192,27 @@ StepKeeps old new told now _ drawn reply = ⊥
 -- ---- errors
 
 -- there is an id, and it isn't live
-abbrev pub IsUnkept : LiveIds → Option TransactionId → Type 0
+abbrev pub IsUnkept : Live → Option TransactionId → Type 0
 IsUnkept live None = ⊥
 IsUnkept live (Some t) = is_kept live t ≡ false
 
 -- the step is a frame under an id that isn't live
 abbrev pub UnderUnkept : Held → Step → Type 0
-UnderUnkept h (steps.Frame frame) = IsUnkept h.live.entries (txn frame)
+UnderUnkept h (steps.Frame frame) = IsUnkept h.work (txn frame)
 UnderUnkept h _ = ⊥
 
 -- what a message hands: a commit of a live id that was declared on the link the frames that are
 -- kept for it, each stripped
-abbrev pub message_hands : ℕ → LiveIds → Option ControlMessageBody → List Frame
+abbrev pub message_hands : ℕ → Live → Option ControlMessageBody → List Frame
 message_hands k live (Some (messages.Discharge discharge)) =
-    cond (not (is_rollback discharge.fail) && is_kept_on k (look live discharge.txn_id))
-    (map stripped (frames_kept live discharge.txn_id)) []
+    cond (not (is_rollback discharge.fail) && is_kept_on k (kept live discharge.txn_id))
+    (map stripped (frames_kept (kept live discharge.txn_id))) []
 message_hands k live _ = []
 
 -- what a step hands: a plain frame itself, a control message what it hands on its link
 abbrev pub step_hands : Held → Step → List Frame
 step_hands h (steps.Frame frame) = cond (is_plain_frame frame) (frame ∷ []) []
-step_hands h (steps.Control k payload) = message_hands k h.live.entries (message_of payload)
+step_hands h (steps.Control k payload) = message_hands k h.work (message_of payload)
 step_hands h _ = []
 
 -- the first `handed` of these frames were taken
@@ -222,15 +222,15 @@ TookPart told now frames handed =
 
 -- a frame that calls below: a plain one, and one under a live id that is answered with a
 -- disposition
-abbrev pub FrameCalls : LiveIds → Frame → Option TransactionId → Type 0
+abbrev pub FrameCalls : Live → Frame → Option TransactionId → Type 0
 FrameCalls live frame None = is_coordinator_attach frame ≡ false
 FrameCalls live frame (Some t) = (is_kept live t ≡ true) × (1 ≤ length (answered_under t frame))
 
 -- a step that a refusal below may stop: such a frame, and a commit with at least one frame
 abbrev pub StepCalls : Held → Step → Type 0
-StepCalls h (steps.Frame frame) = FrameCalls h.live.entries frame (txn frame)
+StepCalls h (steps.Frame frame) = FrameCalls h.work frame (txn frame)
 StepCalls h (steps.Control k payload) =
-    1 ≤ length (message_hands k h.live.entries (message_of payload))
+    1 ≤ length (message_hands k h.work (message_of payload))
 StepCalls h _ = ⊥
 
 -- a refusal below stopped the step: the first `handed` of what it hands were taken, nothing was
@@ -245,23 +245,23 @@ pub record StepRefused (old : Held) (told now : Told) (s : Step) (error : Sessio
       × (now.refused ≡ grown told.refused more)
 
 -- an id, if there is one, is live
-abbrev pub is_kept_under : LiveIds → Option TransactionId → Bool
+abbrev pub is_kept_under : Live → Option TransactionId → Bool
 is_kept_under live None = true
 is_kept_under live (Some t) = is_kept live t
 
 -- a message on an open link takes memory where it is a declare without a global id or a commit of a
 -- live id that was declared on it
-abbrev pub message_wants : ℕ → LiveIds → Option ControlMessageBody → Bool
+abbrev pub message_wants : ℕ → Live → Option ControlMessageBody → Bool
 message_wants k live None = false
 message_wants k live (Some (messages.Declare declare)) = is_none declare.global_id
 message_wants k live (Some (messages.Discharge discharge)) =
-    not (is_rollback discharge.fail) && is_kept_on k (look live discharge.txn_id)
+    not (is_rollback discharge.fail) && is_kept_on k (kept live discharge.txn_id)
 
 -- the steps that take memory; all others never want it
 abbrev pub step_wants : Held → Step → Bool
-step_wants h (steps.Frame frame) = is_kept_under h.live.entries (txn frame)
+step_wants h (steps.Frame frame) = is_kept_under h.work (txn frame)
 step_wants h (steps.Control k payload) =
-    is_in h.links.entries k && message_wants k h.live.entries (message_of payload)
+    is_in h.links.entries k && message_wants k h.work (message_of payload)
 step_wants h (steps.LinkEnd k) = false
 step_wants h (steps.LocalEnd error) = is_some error
 step_wants h (steps.RemoteEnd error) = is_some error

@@ -6,13 +6,16 @@ pub mod Steps
 pub mod Complete
 pub mod Transacting
 pub mod Keeping
+pub mod Looking
 pub mod Session
+pub mod Stepping
 pub mod Calls
 pub mod Opening
 pub mod Passing
 pub mod Hearing
 pub mod SessionLaws
 pub mod Drive
+pub mod Driving
 pub use Rattle.amqp_record.specs.Entries
 pub use Rattle.amqp_record.specs.Links
 pub use Rattle.amqp_record.specs.Live

@@ -5,13 +5,13 @@ use Rattle.amqp_txn_types.specs.declared.items.NoMemory.{NoMemory}
 use Rattle.amqp_txn_types.specs.declared.performatives.Frame.{Frame}
 use Rattle.amqp_txn_types.specs.Ids.{same_id}
 use Rattle.amqp_txn_types.specs.Presumptive.{answered_under}
-use Rattle.amqp_resource.specs.Held.{LiveIds, look, with_frame}
+use Rattle.amqp_arrivals.specs.Live.{Live, kept, with_frame}
 
 -- by the answer: the frame is the last that is kept for the id, and this is what it is answered at
 -- once; or what is kept is as it was
-abbrev pub Posted : LiveIds → LiveIds → Frame → TransactionId → Result (List Frame) NoMemory
+abbrev pub Posted : Live → Live → Frame → TransactionId → Result (List Frame) NoMemory
     → Type 0
 Posted old new frame id (Ok given) =
     (given ≡ answered_under id frame) × ((t : TransactionId)
-    → look new t ≡ cond (same_id t id) (with_frame (look old t) frame) (look old t))
-Posted old new frame id (Err error) = (t : TransactionId) → look new t ≡ look old t
+    → kept new t ≡ cond (same_id t id) (with_frame (kept old t) frame) (kept old t))
+Posted old new frame id (Err error) = (t : TransactionId) → kept new t ≡ kept old t

@@ -2,6 +2,7 @@
 use Rattle.std.specs.Prelude.{ℕ, ◌≡◌, Bool, Option, Some, None, Result, Ok, Err, List, []}
 use Rattle.amqp_txn_types.specs.declared.id.TransactionId.{TransactionId}
 use Rattle.amqp_txn_types.specs.declared.small.SessionState.TheVariants.{Mapped}
+use Rattle.amqp_arrivals.specs.Live.{frame_count, owed}
 use Rattle.amqp_ids.specs.Drawn.{DrawnIds}
 use Rattle.amqp_layer.specs.Told.{Told}
 use Rattle.amqp_record.specs.declared.reply.Reply.{Reply}
@@ -47,6 +48,14 @@ own_told told x = record {
   fixed = (told (below_of x)).fixed;
 }
 
+-- the looks that its log owes, for frames that were taken
+abbrev pub owed_of : {S : Type 0} → TxnSession S → ℕ
+owed_of x = owed x.held.work
+
+-- how many frames it keeps for live ids
+abbrev pub frame_count_of : {S : Type 0} → TxnSession S → ℕ
+frame_count_of x = frame_count x.held.work
+
 -- how many control links it has opened
 abbrev pub opened_of : {S : Type 0} → TxnSession S → ℕ
 opened_of x = x.held.opened
@@ -57,7 +66,7 @@ FitsTogether x = Fits (held_of x)
 
 -- the id is live on the session
 abbrev pub is_live_on : {S : Type 0} → TxnSession S → TransactionId → Bool
-is_live_on x t = is_kept x.held.live.entries t
+is_live_on x t = is_kept x.held.work t
 
 -- a session stands for a record: the record is legal, and the session's live ids with their frames
 -- and holders, and its links, are those of the record

@@ -20,29 +20,21 @@ use Rattle.amqp_txn_types.specs.Ids.{same_id}
 use Rattle.amqp_resource.specs.declared.held.Held.{Held}
 use Rattle.amqp_resource.specs.Committing.{HandsAll}
 use Rattle.amqp_resource.specs.Draws.{DrewLive, DrewUnused, is_kept}
-use Rattle.amqp_resource.specs.Held.{Kept, LiveIds, SameHeld, Tied, ids_on, is_in, look, look_without}
+use Rattle.amqp_arrivals.specs.Live.{frames_kept, kept}
+use Rattle.amqp_resource.specs.Held.{SameHeld, Tied, ids_on, is_in, kept_without}
 use Rattle.amqp_resource.specs.Steps.{fault_of}
-
--- the frames of what is kept
-abbrev pub frames_in : Option Kept → List Frame
-frames_in None = []
-frames_in (Some kept) = kept.1
-
--- the frames that are kept for the id, in the order in which they came
-abbrev pub frames_kept : LiveIds → TransactionId → List Frame
-frames_kept live id = frames_in (look live id)
 
 -- the id is live, on no link and with no frames; all else is as it was
 pub record Added (old new : Held) (id : TransactionId) : Type 0 where
-  pub live : (t : TransactionId) → look new.live.entries t ≡ cond (same_id t id) (Some (None, []))
-      (look old.live.entries t)
+  pub live : (t : TransactionId) → kept new.work t ≡ cond (same_id t id) (Some (None, []))
+      (kept old.work t)
   pub links : (k : ℕ) → ids_on new.links.entries k ≡ ids_on old.links.entries k
   pub opened : new.opened ≡ old.opened
 
 -- the id is live no more; the same links are open, and if the ids of each were the live ids
 -- declared on it they still are; all else is as it was
 pub record Ended (old new : Held) (id : TransactionId) : Type 0 where
-  pub live : (t : TransactionId) → look new.live.entries t ≡ look_without id old.live.entries t
+  pub live : (t : TransactionId) → kept new.work t ≡ kept_without id old.work t
   pub links : (k : ℕ) → is_in new.links.entries k ≡ is_in old.links.entries k
   pub tied : Tied old → Tied new
   pub opened : new.opened ≡ old.opened
@@ -51,9 +43,9 @@ pub record Ended (old new : Held) (id : TransactionId) : Type 0 where
 -- live
 abbrev pub AllocatedIn : Held → Held → Result DrawnIds AllocTxnIdError → Type 0
 AllocatedIn old new (Ok drawn) =
-    (id : TransactionId) × DrewUnused old.live.entries drawn.ids id × Added old new id
+    (id : TransactionId) × DrewUnused old.work drawn.ids id × Added old new id
 AllocatedIn old new (Err (allocations.IdsRepeat drawn)) =
-    DrewLive old.live.entries drawn.ids × SameHeld old new
+    DrewLive old.work drawn.ids × SameHeld old new
 AllocatedIn old new (Err allocations.NotImplemented) = ⊥
 AllocatedIn old new (Err allocations.NoMemory) = SameHeld old new
 
@@ -83,17 +75,17 @@ step_error_of (commit_faults.Refused error handed) = errors.Fault error handed
 abbrev pub CommittedIn : Held → Held → Told → Told → TransactionId → Type 0
     → Result (Result (List Answers) TransactionError) CommitFault → Type 0
 CommittedIn old new told now id Untouched (Ok (Ok echoes)) =
-    (is_kept old.live.entries id ≡ true)
-    × CommittedWith old new told now id (frames_kept old.live.entries id) Untouched (Ok echoes)
+    (is_kept old.work id ≡ true)
+    × CommittedWith old new told now id (frames_kept (kept old.work id)) Untouched (Ok echoes)
 CommittedIn old new told now id Untouched (Ok (Err error)) =
-    (is_kept old.live.entries id ≡ false) × (error ≡ conditions.UnknownId) × SameHeld old new
+    (is_kept old.work id ≡ false) × (error ≡ conditions.UnknownId) × SameHeld old new
     × Untouched
 CommittedIn old new told now id Untouched (Err fault) =
-    (is_kept old.live.entries id ≡ true)
-    × CommittedWith old new told now id (frames_kept old.live.entries id) Untouched (Err fault)
+    (is_kept old.work id ≡ true)
+    × CommittedWith old new told now id (frames_kept (kept old.work id)) Untouched (Err fault)
 
 -- a rollback: a live id ended
 abbrev pub RolledBackIn : Held → Held → TransactionId → Result Accepted TransactionError → Type 0
-RolledBackIn old new id (Ok accepted) = (is_kept old.live.entries id ≡ true) × Ended old new id
+RolledBackIn old new id (Ok accepted) = (is_kept old.work id ≡ true) × Ended old new id
 RolledBackIn old new id (Err error) =
-    (is_kept old.live.entries id ≡ false) × (error ≡ conditions.UnknownId) × SameHeld old new
+    (is_kept old.work id ≡ false) × (error ≡ conditions.UnknownId) × SameHeld old new

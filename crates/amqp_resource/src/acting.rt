@@ -2,9 +2,11 @@
 
 ghost use Rattle.std.specs.Prelude.{◌≡◌, ◌≤◌, ◌<◌, ◌-◌, ◌^◌, IfOk, OnErr};
 ghost use Rattle.amqp_ids.specs.Ids.{Drew};
+ghost use Rattle.amqp_arrivals.specs.Live.{frame_count, owed};
 ghost use Rattle.amqp_record.specs.declared.step.Step.TheVariants as steps;
 ghost use Rattle.amqp_resource.specs.Held.{SameHeld};
 ghost use Rattle.amqp_resource.specs.Keeping.{Fits, Keeps};
+ghost use Rattle.amqp_resource.specs.Looking.{Pays, frames_added, frames_ended};
 ghost use Rattle.amqp_resource.specs.Steps.{StepDoes, StepCause, AnswersEnd, OnNoMemory, OnNoCall, ended_by};
 
 use crate::declaring::{declare_step, global_step};
@@ -13,21 +15,24 @@ use crate::ending::{end_locally, end_remotely, end_with_connection};
 use crate::frame_steps::frame_step;
 use crate::held::{Held, has_link};
 use crate::link_steps::{close_step, link_end_step, no_link_step};
+use amqp_arrivals::Looks;
 use amqp_ids::{Drawn, IdSource};
 use amqp_layer::LayerBelow;
 use amqp_record::{Reply, Step, StepError};
 use amqp_txn_codec::{ControlMessageBody, Declare, decode};
 use amqp_txn_types::Payload;
 use std::alloc::Global;
+use std::sync::ledger::Ledger;
 
 /// A control message.
-fn control_step<S: LayerBelow, G: IdSource>(
+fn control_step<S: LayerBelow, G: IdSource, L: Ledger>(
     held: &mut Held,
     below: &mut S,
     alloc: Global,
     link: u64,
     payload: &Payload,
     ids: &mut G,
+    looks: &mut Looks<L>,
 ) -> Result<(Drawn, Reply), StepError>
     ensures goes { StepDoes held.old held.new (S.told below.old) (S.told below.new)
         (steps.Control link payload.now) result }
@@ -42,12 +47,14 @@ fn control_step<S: LayerBelow, G: IdSource>(
     ensures drew { IfOk result (λ out. Drew (G.next ids.old) (G.next ids.new) out.0.ids) }
     ensures source { OnErr result (ids.new ≡ ids.old) }
     ensures start { G.start ids.new ≡ G.start ids.old }
+    ensures pays { Pays held.old.work held.new.work looks.old looks.new
+        (frames_ended held.old (steps.Control link payload.now)) 0 }
 {
     if !has_link(&held.links, link) {
         return no_link_step(held, alloc, link, payload);
     }
     match decode(payload.as_slice()) {
-        Err(_) => close_step(held, alloc, link, payload),
+        Err(_) => close_step(held, alloc, link, payload, looks),
         Ok(
             ControlMessageBody::Declare(
                 Declare {
@@ -59,18 +66,19 @@ fn control_step<S: LayerBelow, G: IdSource>(
             declare_step(held, alloc, link, payload, ids)
         }
         Ok(ControlMessageBody::Discharge(discharge)) => {
-            discharge_step(held, below, alloc, link, payload, discharge)
+            discharge_step(held, below, alloc, link, payload, discharge, looks)
         }
     }
 }
 
-/// One step of a session that hasn't stopped.
-pub fn take_step<S: LayerBelow, G: IdSource>(
+/// What a step does, before the log is closed up.
+fn act<S: LayerBelow, G: IdSource, L: Ledger>(
     held: &mut Held,
     below: &mut S,
     alloc: Global,
     step: &Step,
     ids: &mut G,
+    looks: &mut Looks<L>,
 ) -> Result<(Drawn, Reply), StepError>
     requires room { held.old.opened < 2 ^ 64 - 1 }
     ensures goes { StepDoes held.old held.new (S.told below.old) (S.told below.new) step.now
@@ -87,13 +95,50 @@ pub fn take_step<S: LayerBelow, G: IdSource>(
     ensures drew { IfOk result (λ out. Drew (G.next ids.old) (G.next ids.new) out.0.ids) }
     ensures source { OnErr result (ids.new ≡ ids.old) }
     ensures start { G.start ids.new ≡ G.start ids.old }
+    ensures pays { Pays held.old.work held.new.work looks.old looks.new
+        (frames_ended held.old step.now) (frames_added step.now) }
 {
     match step {
         Step::Frame(frame) => frame_step(held, below, alloc, frame),
-        Step::Control { link, payload } => control_step(held, below, alloc, *link, payload, ids),
-        Step::LinkEnd { link } => link_end_step(held, alloc, *link),
+        Step::Control { link, payload } => {
+            control_step(held, below, alloc, *link, payload, ids, looks)
+        }
+        Step::LinkEnd { link } => link_end_step(held, alloc, *link, looks),
         Step::LocalEnd(error) => Err(end_locally(error)),
         Step::RemoteEnd(error) => Err(end_remotely(error)),
         Step::ConnectionStop(reason) => Err(end_with_connection(reason)),
     }
+}
+
+/// One step of a session that hasn't stopped.
+pub fn take_step<S: LayerBelow, G: IdSource, L: Ledger>(
+    held: &mut Held,
+    below: &mut S,
+    alloc: Global,
+    step: &Step,
+    ids: &mut G,
+    looks: &mut Looks<L>,
+) -> Result<(Drawn, Reply), StepError>
+    requires room { held.old.opened < 2 ^ 64 - 1 }
+    ensures goes { StepDoes held.old held.new (S.told below.old) (S.told below.new) step.now
+        result }
+    ensures keeps { Fits held.old → Keeps held.old held.new (S.told below.old) (S.told below.new)
+        step.now result }
+    ensures cause { StepCause (S.told below.old).refusals (S.told below.new).refusals step.now
+        result }
+    ensures ended { AnswersEnd (ended_by step.now) result }
+    ensures same { OnNoMemory result (SameHeld held.old held.new) }
+    ensures untouched { OnNoCall step.now result (below.new ≡ below.old) }
+    ensures fixed { (S.told below.new).fixed ≡ (S.told below.old).fixed }
+    ensures later { (S.told below.old).refusals ≤ (S.told below.new).refusals }
+    ensures drew { IfOk result (λ out. Drew (G.next ids.old) (G.next ids.new) out.0.ids) }
+    ensures source { OnErr result (ids.new ≡ ids.old) }
+    ensures start { G.start ids.new ≡ G.start ids.old }
+    ensures pays { Pays held.old.work held.new.work looks.old looks.new
+        (frames_ended held.old step.now) (frames_added step.now) }
+    ensures few { owed held.new.work ≤ frame_count held.new.work }
+{
+    let result = act(held, below, alloc, step, ids, looks);
+    held.work.settle(looks);
+    result
 }

@@ -11,10 +11,12 @@ ghost use Rattle.amqp_resource.specs.Held.{SameHeld, is_in};
 ghost use Rattle.amqp_resource.specs.Draws.{DrewUnused, DrewLive};
 ghost use Rattle.amqp_resource.specs.Transacting.{AllocatedIn};
 ghost use Rattle.amqp_resource.specs.Keeping.{Fits, Keeps};
+ghost use Rattle.amqp_resource.specs.Looking.{Adds};
 ghost use Rattle.amqp_resource.specs.Steps.{StepDoesHere, StepCause, OnNoMemory, nothing_drawn};
 
-use crate::held::{Held, LiveIds, add_live, declare_on, has_id, make_room};
+use crate::held::{Held, declare_on, make_room};
 use crate::outcomes::no_draws;
+use amqp_arrivals::LiveWork;
 use amqp_ids::{Drawn, IdSource};
 use amqp_record::{RejectText, Reply, StepError};
 use amqp_sessions::AllocTxnIdError;
@@ -49,18 +51,22 @@ pub fn global_step(
 }
 
 /// Draws up to 16 ids, to the first that isn't live, and gives back the room that is left then.
-fn draw_unused<G: IdSource>(live: &LiveIds, ids: &mut G, drawn: &mut Drawn) -> Option<TransactionId>
+fn draw_unused<G: IdSource>(
+    work: &LiveWork,
+    ids: &mut G,
+    drawn: &mut Drawn,
+) -> Option<TransactionId>
     requires none { drawn.old.ids ≡ [] }
     requires room { 16 ≤ drawn.old.spare }
-    ensures unused { MatchOption result (DrewLive live.now.entries drawn.new.ids)
-        (λ id. DrewUnused live.now.entries drawn.new.ids id) }
+    ensures unused { MatchOption result (DrewLive work.now drawn.new.ids)
+        (λ id. DrewUnused work.now drawn.new.ids id) }
     ensures drew { Drew (G.next ids.old) (G.next ids.new) drawn.new.ids }
     ensures start { G.start ids.new ≡ G.start ids.old }
 {
     for _turn in 0..16usize {
         let id = ids.draw();
         drawn.push(id);
-        if !has_id(live, id) {
+        if !work.is_live(&id) {
             drawn.trim();
             return Some(id);
         }
@@ -87,6 +93,7 @@ pub fn declare_step<G: IdSource>(
     ensures drew { IfOk result (λ out. Drew (G.next ids.old) (G.next ids.new) out.0.ids) }
     ensures source { OnErr result (ids.new ≡ ids.old) }
     ensures start { G.start ids.new ≡ G.start ids.old }
+    ensures counts { Adds held.old.work held.new.work 0 }
 {
     let mut drawn = Drawn::new(alloc);
     let Ok(()) = drawn.make_room() else {
@@ -95,9 +102,9 @@ pub fn declare_step<G: IdSource>(
     let Ok(()) = make_room(held, link) else {
         return Err(StepError::NoMemory);
     };
-    match draw_unused(&held.live, ids, &mut drawn) {
+    match draw_unused(&held.work, ids, &mut drawn) {
         Some(id) => {
-            declare_on(held, alloc, link, id);
+            declare_on(held, link, id);
             Ok((drawn, Reply::Declared(id)))
         }
         None => Ok((
@@ -125,12 +132,12 @@ pub fn allocate<G: IdSource>(
     let Ok(()) = drawn.make_room() else {
         return Err(AllocTxnIdError::NoMemory);
     };
-    let Ok(()) = held.live.reserve(1) else {
+    let Ok(()) = held.work.make_room() else {
         return Err(AllocTxnIdError::NoMemory);
     };
-    match draw_unused(&held.live, ids, &mut drawn) {
+    match draw_unused(&held.work, ids, &mut drawn) {
         Some(id) => {
-            add_live(&mut held.live, alloc, None, id);
+            held.work.add(id, None);
             Ok(drawn)
         }
         None => Err(AllocTxnIdError::IdsRepeat(drawn)),

@@ -1,6 +1,6 @@
 //! Discharges: a rollback lets its frames go, a commit hands them.
 
-ghost use Rattle.std.specs.Prelude.{◌≡◌, ◌≤◌, true, Some, IfOk, length};
+ghost use Rattle.std.specs.Prelude.{◌≡◌, ◌≤◌, ◌<◌, true, Some, IfOk, length};
 ghost use Rattle.amqp_txn_codec.specs.Reading.{message_of};
 ghost use Rattle.amqp_txn_codec.specs.declared.message.ControlMessageBody.TheVariants as messages;
 ghost use Rattle.amqp_txn_types.specs.declared.small.TransactionError.TheVariants as transaction_errors;
@@ -9,13 +9,16 @@ ghost use Rattle.amqp_record.specs.declared.reply.Reply.TheVariants as replies;
 ghost use Rattle.amqp_record.specs.declared.reply.RejectText.TheVariants as texts;
 ghost use Rattle.amqp_resource.specs.Draws.{is_kept};
 ghost use Rattle.amqp_resource.specs.Held.{SameHeld, is_in};
-ghost use Rattle.amqp_resource.specs.Transacting.{CommittedIn, CommittedWith, RolledBackIn, frames_kept, step_error_of};
+ghost use Rattle.amqp_arrivals.specs.Live.{frame_count, frames_kept, kept, owed};
+ghost use Rattle.amqp_resource.specs.Transacting.{CommittedIn, CommittedWith, RolledBackIn, step_error_of};
 ghost use Rattle.amqp_resource.specs.Keeping.{Fits, Keeps};
+ghost use Rattle.amqp_resource.specs.Looking.{Pays, frames_ended};
 ghost use Rattle.amqp_resource.specs.Steps.{StepDoes, StepCause, OnNoMemory, OnNoCall, nothing_drawn};
 
 use crate::committing::hand_all;
-use crate::held::{Held, Live, find, has_id, is_declared_on, take};
+use crate::held::{Held, drop_work, is_declared_on};
 use crate::outcomes::{fault_of, no_draws};
+use amqp_arrivals::Looks;
 use amqp_ids::Drawn;
 use amqp_layer::{Echoes, LayerBelow};
 use amqp_record::{RejectText, Reply, StepError};
@@ -23,6 +26,7 @@ use amqp_sessions::CommitFault;
 use amqp_txn_codec::{Discharge, rolls_back};
 use amqp_txn_types::{Accepted, Payload, TransactionError, TransactionId};
 use std::alloc::Global;
+use std::sync::ledger::{Blank, Ledger};
 
 /// The reply to a discharge of an id that isn't both live and declared on the link.
 fn absent() -> Reply
@@ -34,30 +38,28 @@ fn absent() -> Reply
     }
 }
 
-/// Commits a live id with so many frames: room for the answers first, then it ends and its frames
-/// are handed.
-fn commit_live<S: LayerBelow>(
+/// Commits a live id: room for the answers first, then its frames are handed and it ends.
+fn commit_live<S: LayerBelow, L: Ledger>(
     held: &mut Held,
     below: &mut S,
     alloc: Global,
     id: TransactionId,
-    count: usize,
+    looks: &mut Looks<L>,
 ) -> Result<Echoes, CommitFault>
-    requires live { is_kept held.old.live.entries id ≡ true }
-    requires count { count ≡ length (frames_kept held.old.live.entries id) }
+    requires { is_kept held.old.work id ≡ true }
     ensures answer { CommittedWith held.old held.new (S.told below.old) (S.told below.new) id
-        (frames_kept held.old.live.entries id) (below.new ≡ below.old) result }
-    ensures fits { Fits held.old → Fits held.new }
+        (frames_kept (kept held.old.work id)) (below.new ≡ below.old) result }
     ensures fixed { (S.told below.new).fixed ≡ (S.told below.old).fixed }
     ensures later { (S.told below.old).refusals ≤ (S.told below.new).refusals }
+    ensures pays { Pays held.old.work held.new.work looks.old looks.new
+        (length (frames_kept (kept held.old.work id))) 0 }
 {
-    let Ok(echoes) = Vec::with_capacity(alloc, count) else {
+    let Ok(echoes) = Vec::with_capacity(alloc, held.work.count(&id)) else {
         return Err(CommitFault::NoMemory);
     };
-    let Some(Live { holder: _, frames }) = take(held, id) else {
-        unreachable!()
-    };
-    match hand_all(below, frames.into_vec(), echoes) {
+    let handed = hand_all(below, &mut held.work, id, echoes, looks);
+    drop_work(held, id, looks);
+    match handed {
         Ok(echoes) => Ok(echoes),
         Err(refusal) => Err(CommitFault::Refused {
             error: fault_of(refusal.error),
@@ -77,13 +79,14 @@ fn step_error_of(fault: CommitFault) -> StepError
 }
 
 /// A discharge on an open link.
-pub fn discharge_step<S: LayerBelow>(
+pub fn discharge_step<S: LayerBelow, L: Ledger>(
     held: &mut Held,
     below: &mut S,
     alloc: Global,
     link: u64,
     payload: &Payload,
     discharge: Discharge,
+    looks: &mut Looks<L>,
 ) -> Result<(Drawn, Reply), StepError>
     requires message { message_of payload.now ≡ Some (messages.Discharge discharge) }
     requires opened { is_in held.old.links.entries link ≡ true }
@@ -98,55 +101,98 @@ pub fn discharge_step<S: LayerBelow>(
     ensures fixed { (S.told below.new).fixed ≡ (S.told below.old).fixed }
     ensures later { (S.told below.old).refusals ≤ (S.told below.new).refusals }
     ensures draws { IfOk result (λ out. out.0 ≡ nothing_drawn) }
+    ensures pays { Pays held.old.work held.new.work looks.old looks.new
+        (frames_ended held.old (steps.Control link payload.now)) 0 }
 {
-    let Some(one) = find(&held.live, discharge.txn_id) else {
-        return Ok((no_draws(alloc), absent()));
-    };
-    let declared_here = is_declared_on(one, link);
-    let count = one.frames.len();
-    if !declared_here {
+    if !is_declared_on(&held.work, discharge.txn_id, link) {
         return Ok((no_draws(alloc), absent()));
     }
     if rolls_back(discharge.fail) {
-        let _dropped = take(held, discharge.txn_id);
+        drop_work(held, discharge.txn_id, looks);
         return Ok((no_draws(alloc), Reply::Accepted(Echoes::new(alloc))));
     }
-    match commit_live(held, below, alloc, discharge.txn_id, count) {
+    match commit_live(held, below, alloc, discharge.txn_id, looks) {
         Ok(echoes) => Ok((no_draws(alloc), Reply::Accepted(echoes))),
         Err(fault) => Err(step_error_of(fault)),
     }
 }
 
 /// Commits an id, whichever link declared it.
-pub fn commit_kept<S: LayerBelow>(
+fn commit_id<S: LayerBelow, L: Ledger>(
     held: &mut Held,
     below: &mut S,
     alloc: Global,
     id: TransactionId,
+    looks: &mut Looks<L>,
 ) -> Result<Result<Echoes, TransactionError>, CommitFault>
     ensures answer { CommittedIn held.old held.new (S.told below.old) (S.told below.new) id
         (below.new ≡ below.old) result }
-    ensures fits { Fits held.old → Fits held.new }
     ensures fixed { (S.told below.new).fixed ≡ (S.told below.old).fixed }
 {
-    let Some(one) = find(&held.live, id) else {
+    if !held.work.is_live(&id) {
         return Ok(Err(TransactionError::UnknownId));
-    };
-    let count = one.frames.len();
-    match commit_live(held, below, alloc, id, count) {
+    }
+    match commit_live(held, below, alloc, id, looks) {
         Ok(echoes) => Ok(Ok(echoes)),
         Err(fault) => Err(fault),
     }
 }
 
-/// Rolls an id back, whichever link declared it: it ends and its frames are let go.
-pub fn roll_back_kept(held: &mut Held, id: TransactionId) -> Result<Accepted, TransactionError>
-    ensures answer { RolledBackIn held.old held.new id result }
+/// Commits an id, whichever link declared it, and closes the log up. Its looks are counted in a
+/// blank ledger.
+pub fn commit_kept<S: LayerBelow, L: Ledger>(
+    held: &mut Held,
+    below: &mut S,
+    alloc: Global,
+    id: TransactionId,
+    blank: Blank,
+) -> Result<Result<Echoes, TransactionError>, CommitFault>
+    requires name { blank.name ≡ L.name }
+    requires parts { blank.parts ≡ L.parts }
+    requires some { 0 < blank.parts }
+    ensures answer { CommittedIn held.old held.new (S.told below.old) (S.told below.new) id
+        (below.new ≡ below.old) result }
     ensures fits { Fits held.old → Fits held.new }
+    ensures fixed { (S.told below.new).fixed ≡ (S.told below.old).fixed }
+    ensures few { owed held.new.work ≤ frame_count held.new.work }
 {
-    if !has_id(&held.live, id) {
+    let mut looks = Looks::<L>::new(blank);
+    let committed = commit_id(held, below, alloc, id, &mut looks);
+    held.work.settle(&mut looks);
+    committed
+}
+
+/// Rolls an id back, whichever link declared it: it ends and its frames are let go.
+fn roll_back_id<L: Ledger>(
+    held: &mut Held,
+    id: TransactionId,
+    looks: &mut Looks<L>,
+) -> Result<Accepted, TransactionError>
+    ensures { RolledBackIn held.old held.new id result }
+{
+    if !held.work.is_live(&id) {
         return Err(TransactionError::UnknownId);
     }
-    let _dropped = take(held, id);
+    drop_work(held, id, looks);
     Ok(Accepted)
+}
+
+/// Rolls an id back, whichever link declared it, and closes the log up. Its looks are counted in a
+/// blank ledger.
+pub fn roll_back_kept<L: Ledger>(
+    held: &mut Held,
+    id: TransactionId,
+    blank: Blank,
+) -> Result<Accepted, TransactionError>
+    requires name { blank.name ≡ L.name }
+    requires parts { blank.parts ≡ L.parts }
+    requires some { 0 < blank.parts }
+    ensures answer { RolledBackIn held.old held.new id result }
+    ensures fits { Fits held.old → Fits held.new }
+    ensures few { owed held.new.work ≤ frame_count held.new.work }
+{
+    let mut looks = Looks::<L>::new(blank);
+    let rolled_back = roll_back_id(held, id, &mut looks);
+    held.work.settle(&mut looks);
+    rolled_back
 }

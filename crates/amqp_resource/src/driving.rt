@@ -1,6 +1,6 @@
 //! Lists of steps.
 
-ghost use Rattle.std.specs.Prelude.{◌≡◌, ◌≤◌, ◌↔◌, length, take, Some};
+ghost use Rattle.std.specs.Prelude.{◌≡◌, ◌≤◌, ◌<◌, ◌+◌, ◌*◌, ◌↔◌, length, take, Some};
 ghost use Rattle.amqp_txn_types.specs.declared.delivery.SessionStopReason.{SessionStopReason};
 ghost use Rattle.amqp_layer.specs.declared.inner_error.SessionInnerError.TheVariants as faults;
 ghost use Rattle.amqp_ids.specs.Ids.{Drew};
@@ -9,14 +9,18 @@ ghost use Rattle.amqp_record.specs.declared.stop.Stop.TheVariants as stops;
 ghost use Rattle.amqp_record.specs.Entries.{drawn_of, steps_of};
 ghost use Rattle.amqp_record.specs.Legal.{IsLegal};
 ghost use Rattle.amqp_record.specs.Opened.{opens};
-ghost use Rattle.amqp_resource.specs.Drive.{NextStep, RunLeaves, RunRefused, RunRose, RunTook, StopCause, StopsBy, StopsWith};
+ghost use Rattle.amqp_resource.specs.Drive.{NextStep, RunLeaves, RunRefused, RunRose, RunTook, StopCause, StopsBy, StopsWith, work_count};
+ghost use Rattle.amqp_resource.specs.Driving.{DriveSays};
 ghost use Rattle.amqp_resource.specs.Steps.{IsFirstStop, UnderDead, ended_by, entry_of};
 ghost use Rattle.amqp_resource.specs.Session.{FitsTogether, IsFresh, told_of};
 
 use crate::session::TxnSession;
+use amqp_arrivals::{LiveWork, Looks};
 use amqp_ids::{Drawn, IdSource};
 use amqp_layer::LayerBelow;
 use amqp_record::{Driven, Entries, Entry, Reply, StepError, Steps, Stop};
+use std::marker::Brand;
+use std::sync::ledger::{Blank, Ledger};
 
 /// The stop of a run, by the error of its last step, with the number of frames handed.
 fn stop_by(error: StepError) -> (Stop, usize)
@@ -57,13 +61,44 @@ fn fill_in(entry: &mut Entry, drawn: Drawn, reply: Reply)
     entry.reply = reply;
 }
 
-/// Makes the steps of a fresh session in order, until one isn't answered.
+/// Makes the steps of a fresh session in order, until one isn't answered. It takes no memory for
+/// the record: each entry stands where its step did.
 ///
-/// It takes no memory for the record: each entry stands where its step did.
+/// Its clauses are those of [`drive_counted`] but for the one on looks.
 pub fn drive<S: LayerBelow, G: IdSource>(
     session: &mut TxnSession<S>,
     steps: Steps,
     ids: &mut G,
+) -> Driven
+    requires { IsFresh S.told session.old }
+    ensures { DriveSays S.told G.next G.start session.old session.new ids.old ids.new steps result }
+{
+    drive_blank::<S, G, Brand>(session, steps, ids, Blank::new(1))
+}
+
+/// A run whose looks are counted in a blank ledger.
+fn drive_blank<S: LayerBelow, G: IdSource, L: Ledger>(
+    session: &mut TxnSession<S>,
+    steps: Steps,
+    ids: &mut G,
+    blank: Blank,
+) -> Driven
+    requires fresh { IsFresh S.told session.old }
+    requires name { blank.name ≡ L.name }
+    requires parts { blank.parts ≡ L.parts }
+    requires some { 0 < blank.parts }
+    ensures { DriveSays S.told G.next G.start session.old session.new ids.old ids.new steps result }
+{
+    let mut looks = Looks::<L>::new(blank);
+    drive_counted(session, steps, ids, &mut looks)
+}
+
+/// A run as by [`drive`], which counts its looks into the log of the work.
+pub fn drive_counted<S: LayerBelow, G: IdSource, L: Ledger>(
+    session: &mut TxnSession<S>,
+    steps: Steps,
+    ids: &mut G,
+    looks: &mut Looks<L>,
 ) -> Driven
     requires { IsFresh S.told session.old }
     // The record: each entry is an answer of those before it, to the first of the steps, with the
@@ -99,10 +134,15 @@ pub fn drive<S: LayerBelow, G: IdSource>(
     // together.
     ensures leaves { RunLeaves session.new result.entries result.stop }
     ensures fits { FitsTogether session.new }
+    // Two looks at most come for each entry that is a frame of transactional work.
+    ensures looks { looks.new ≤ looks.old + 2 * work_count result.entries }
 {
+    let alloc = session.allocator();
+    // Nothing is kept, so the log may as well be a new one, which owes no look.
+    session.held.work = LiveWork::new(alloc);
     let mut entries = steps.into_entries();
     for at in 0..entries.len() {
-        match session.step(&entries[at].step, ids) {
+        match session.step_counted(&entries[at].step, ids, looks) {
             Ok((drawn, reply)) => fill_in(&mut entries[at], drawn, reply),
             Err(error) => {
                 entries.truncate(at);

@@ -1,8 +1,9 @@
 //! Steps that are frames: plain ones, work under a transaction, and attaches of control links.
 
-ghost use Rattle.std.specs.Prelude.{◌≡◌, ◌≤◌, ◌<◌, ◌-◌, ◌^◌, ◌++◌, ◌∷◌, [], true, false, Some, IfOk, IfSome, OnOk, OnErr, MatchOption, is_some};
+ghost use Rattle.std.specs.Prelude.{◌≡◌, ◌≤◌, ◌<◌, ◌-◌, ◌^◌, true, false, Some, IfOk, IfSome, MatchOption, is_some};
 ghost use Rattle.amqp_txn_types.specs.declared.performatives.Frame.TheVariants as frames;
 ghost use Rattle.amqp_txn_types.specs.Frames.{txn, is_coordinator_attach, is_plain_frame, attaches_coordinator};
+ghost use Rattle.amqp_txn_types.specs.Works.{frame_of_work};
 ghost use Rattle.amqp_record.specs.declared.step.Step.TheVariants as steps;
 ghost use Rattle.amqp_txn_types.specs.Presumptive.{answered_under, presumed};
 ghost use Rattle.amqp_resource.specs.Draws.{is_kept};
@@ -10,16 +11,18 @@ ghost use Rattle.amqp_resource.specs.Held.{SameHeld};
 ghost use Rattle.amqp_resource.specs.Opening.{OpensLink};
 ghost use Rattle.amqp_resource.specs.Posting.{Posted};
 ghost use Rattle.amqp_resource.specs.Keeping.{Fits, Keeps};
+ghost use Rattle.amqp_resource.specs.Looking.{Adds, frames_added};
 ghost use Rattle.amqp_resource.specs.Steps.{StepDoes, StepCause, OnNoMemory, OnNoCall, nothing_drawn};
 
-use crate::held::{Held, LiveIds, open_link};
+use crate::held::{Held, open_link};
 use crate::outcomes::{fault_of, handed_with, no_draws};
+use amqp_arrivals::{LiveWork, presumptive};
 use amqp_ids::Drawn;
 use amqp_layer::{Answers, LayerBelow, SessionInnerError, check_given, take_frame};
 use amqp_record::{Reply, StepError};
 use amqp_txn_types::{
-    Attach, Frame, Frames, NoMemory, TransactionId, Transfer, TryClone, is_coordinator,
-    presumed_disposition, txn_of,
+    Attach, Frame, Frames, NoMemory, TransactionId, Transfer, TryClone, TxnWorkFrame,
+    is_coordinator, txn_of,
 };
 use std::alloc::Global;
 
@@ -64,7 +67,7 @@ fn presumed(alloc: Global, transfer: &Transfer, id: TransactionId) -> Result<Fra
         id) }
 {
     let mut given = Frames::new(alloc);
-    if let Some(disposition) = presumed_disposition(transfer.settled, transfer.delivery_id, id) {
+    if let Some(disposition) = presumptive(&id, transfer) {
         given.append(Frame::Disposition(disposition))?;
     }
     Ok(given)
@@ -80,39 +83,61 @@ fn answers_under(alloc: Global, frame: &Frame, id: TransactionId) -> Result<Fram
     }
 }
 
-/// Keeps a copy of the frame, and gives what it is answered at once. For want of memory the list is
-/// as it was.
+/// A copy of a frame under an id, which is a transfer or a disposition.
+#[tactic(auto, unfolding(amqp_txn_types::specs::Frames::txn))]
+fn copy_work(frame: &Frame) -> Result<TxnWorkFrame, NoMemory>
+    requires { is_some (txn frame.now) ≡ true }
+    ensures { IfOk result (λ work. frame_of_work work ≡ frame.now) }
+{
+    match frame {
+        Frame::Transfer { transfer, payload } => Ok(TxnWorkFrame::Post {
+            transfer: transfer.try_clone()?,
+            payload: payload.try_clone()?,
+        }),
+        Frame::Disposition(disposition) => Ok(TxnWorkFrame::Retire(disposition.try_clone()?)),
+        _ => unreachable!(),
+    }
+}
+
+/// Keeps a copy of a frame under a live id, and gives what it is answered at once. For want of
+/// memory what is kept is as it was.
 fn keep_copy(
-    frames: &mut Frames,
+    work: &mut LiveWork,
     alloc: Global,
     frame: &Frame,
     id: TransactionId,
 ) -> Result<Frames, NoMemory>
-    ensures given { IfOk result (λ given. given ≡ answered_under id frame.now) }
-    ensures ok { OnOk result (frames.new ≡ frames.old ++ frame.now ∷ []) }
-    ensures err { OnErr result (frames.new ≡ frames.old) }
+    requires live { is_kept work.old id ≡ true }
+    requires under { txn frame.now ≡ Some id }
+    ensures posted { Posted work.old work.new frame.now id result }
+    ensures counts { Adds work.old work.new 1 }
 {
     let given = answers_under(alloc, frame, id)?;
-    frames.append(frame.try_clone()?)?;
-    Ok(given)
+    let copy = copy_work(frame)?;
+    match work.keep(&id, copy) {
+        Ok(()) => Ok(given),
+        Err((_unkept, error)) => Err(error),
+    }
 }
 
-/// Keeps a copy of the frame under the id, and gives what it is answered at once; `None` where the
+/// Keeps a copy of a frame under its id, and gives what it is answered at once; `None` where the
 /// id isn't live.
 pub fn keep_under(
-    live: &mut LiveIds,
+    work: &mut LiveWork,
     alloc: Global,
     frame: &Frame,
     id: TransactionId,
 ) -> Option<Result<Frames, NoMemory>>
-    ensures live { is_some result ≡ is_kept live.old.entries id }
-    ensures posted { MatchOption result (live.new.entries ≡ live.old.entries)
-        (Posted live.old.entries live.new.entries frame.now id) }
+    requires { txn frame.now ≡ Some id }
+    ensures live { is_some result ≡ is_kept work.old id }
+    ensures posted { MatchOption result (work.new ≡ work.old)
+        (Posted work.old work.new frame.now id) }
+    ensures counts { Adds work.old work.new 1 }
 {
-    match live.get_mut(&id) {
-        Some(one) => Some(keep_copy(&mut one.frames, alloc, frame, id)),
-        None => None,
+    if !work.is_live(&id) {
+        return None;
     }
+    Some(keep_copy(work, alloc, frame, id))
 }
 
 /// A frame under an id is kept.
@@ -135,8 +160,9 @@ fn post_step<S: LayerBelow>(
     ensures fixed { (S.told below.new).fixed ≡ (S.told below.old).fixed }
     ensures later { (S.told below.old).refusals ≤ (S.told below.new).refusals }
     ensures draws { IfOk result (λ out. out.0 ≡ nothing_drawn) }
+    ensures counts { Adds held.old.work held.new.work 1 }
 {
-    let Some(kept) = keep_under(&mut held.live, alloc, frame, id) else {
+    let Some(kept) = keep_under(&mut held.work, alloc, frame, id) else {
         return Err(StepError::Fault {
             error: SessionInnerError::UnknownTxnId,
             handed: 0,
@@ -169,8 +195,9 @@ pub fn open_control<S: LayerBelow>(
     attach: &Attach,
 ) -> Option<Result<(u64, Frames), SessionInnerError>>
     requires { held.old.opened < 2 ^ 64 - 1 }
-    ensures { MatchOption result (SameHeld held.old held.new × (below.new ≡ below.old))
+    ensures opens { MatchOption result (SameHeld held.old held.new × (below.new ≡ below.old))
         (OpensLink S.told S.opening_gives held.old held.new below.old below.new attach.now) }
+    ensures work { held.new.work ≡ held.old.work }
 {
     let Ok(()) = held.links.reserve(1) else {
         return None;
@@ -207,6 +234,7 @@ fn attach_step<S: LayerBelow>(
     ensures fixed { (S.told below.new).fixed ≡ (S.told below.old).fixed }
     ensures later { (S.told below.old).refusals ≤ (S.told below.new).refusals }
     ensures draws { IfOk result (λ out. out.0 ≡ nothing_drawn) }
+    ensures counts { Adds held.old.work held.new.work 0 }
 {
     let Some(opened) = open_control(held, below, alloc, attach) else {
         return Err(StepError::NoMemory);
@@ -255,6 +283,7 @@ pub fn frame_step<S: LayerBelow>(
     ensures fixed { (S.told below.new).fixed ≡ (S.told below.old).fixed }
     ensures later { (S.told below.old).refusals ≤ (S.told below.new).refusals }
     ensures draws { IfOk result (λ out. out.0 ≡ nothing_drawn) }
+    ensures counts { Adds held.old.work held.new.work (frames_added (steps.Frame frame.now)) }
 {
     if let Some(id) = txn_of(frame) {
         return post_step(held, below, alloc, frame, id);

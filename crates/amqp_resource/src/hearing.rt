@@ -1,8 +1,8 @@
 //! What a session does with a frame or a control link that comes by its calls.
 
-ghost use Rattle.std.specs.Prelude.{◌≡◌, ◌≤◌, None, OnErr};
+ghost use Rattle.std.specs.Prelude.{◌≡◌, ◌≤◌, None, Some, OnErr};
 ghost use Rattle.amqp_txn_types.specs.Counts.{Rose};
-ghost use Rattle.amqp_txn_types.specs.Frames.{is_coordinator_attach};
+ghost use Rattle.amqp_txn_types.specs.Frames.{is_coordinator_attach, txn};
 ghost use Rattle.amqp_layer.specs.Told.{Opens, Takes};
 ghost use Rattle.amqp_resource.specs.Hearing.{Hears, HearsAttach, HearsControl, HearsFrame, HearsPlain, HearsUnder, OpensControl};
 ghost use Rattle.amqp_resource.specs.Opening.{frames_of};
@@ -33,7 +33,8 @@ pub fn count_answer<T, E>(refusals: &mut u64, answer: Result<T, E>) -> Result<T,
 impl<S: LayerBelow> TxnSession<S> {
     /// A frame under an id is kept, where the id is live; else it stops the session.
     fn hear_under(&mut self, frame: &Frame, id: TransactionId) -> Result<Frames, SessionInnerError>
-        requires { stop_of self.old ≡ None }
+        requires runs { stop_of self.old ≡ None }
+        requires under { txn frame.now ≡ Some id }
         ensures hears { HearsUnder self.old self.new frame.now id (is_live_on self.old id) result }
         ensures fits { FitsTogether self.old → FitsTogether self.new }
         ensures counts { refusals_of self.new ≡ counted result (refusals_of self.old) }
@@ -41,7 +42,7 @@ impl<S: LayerBelow> TxnSession<S> {
         ensures below { below_of self.new ≡ below_of self.old }
     {
         let alloc = self.allocator();
-        match keep_under(&mut self.held.live, alloc, frame, id) {
+        match keep_under(&mut self.held.work, alloc, frame, id) {
             Some(Ok(given)) => Ok(given),
             Some(Err(_)) => refuse_call(&mut self.refusals, SessionInnerError::NoMemory),
             None => {

@@ -2,40 +2,33 @@
 //! An id or a link is found by its hash. But for making room in a full table nothing here walks all
 //! of them.
 
-ghost use Rattle.std.specs.Prelude.{◌≡◌, ◌<◌, ◌↔◌, IsTrue, ◌∷◌, ◌++◌, [], ℕ, true, false, ◌&&◌, ◌==◌, nat_eq, OnOk, OnErr, IfSome, None, Some, cond, option_copied};
+ghost use Rattle.std.specs.Prelude.{◌≡◌, ◌<◌, ◌↔◌, IsTrue, [], ℕ, true, false, ◌&&◌, ◌==◌, nat_eq, OnOk, IfSome, None, Some, cond, length};
 ghost use Rattle.std.specs.List.{list_any};
 ghost use Rattle.std.specs.Map.{lookup};
-ghost use Rattle.std.specs.Option.{option_map};
 ghost use Rattle.std.specs.HashMap.{spare};
 ghost use Rattle.std.specs.HashSet.{spare as spare_ids};
 ghost use Rattle.amqp_txn_types.specs.declared.id.TransactionId.{TransactionId as Id};
 ghost use Rattle.amqp_txn_types.specs.Ids.{same_id};
-ghost use Rattle.amqp_resource.specs.Draws.{is_kept};
+ghost use Rattle.amqp_arrivals.specs.Live.{frames_kept, kept};
 ghost use Rattle.amqp_record.specs.Live.{is_link};
-ghost use Rattle.amqp_resource.specs.Held.{HasRoom, SameHeld, Stands, Tied, ids_on, is_among, is_in, kept_of, look, look_without, unless_on};
+ghost use Rattle.amqp_resource.specs.Draws.{is_kept};
+ghost use Rattle.amqp_resource.specs.Held.{HasRoom, SameHeld, Stands, Tied, ids_on, is_among, is_in, is_kept_on, kept_without, unless_on};
+ghost use Rattle.amqp_resource.specs.Looking.{Adds, Pays, frames_for, frames_on};
 
-use amqp_txn_types::{Frames, NoMemory, TransactionId};
+use amqp_arrivals::{LiveWork, Looks};
+use amqp_txn_types::{NoMemory, TransactionId};
 use indexmap::{IndexMap, IndexSet};
 use std::alloc::Global;
-
-/// What is kept for a live id: the link that declared it and the frames that came under it, as they
-/// came. An id that the session allocated by itself was declared on no link.
-#[derive(Drop)]
-pub struct Live {
-    pub holder: Option<u64>,
-    pub frames: Frames,
-}
-
-/// The live ids.
-pub type LiveIds = IndexMap<TransactionId, Live>;
+use std::sync::ledger::Ledger;
 
 /// The open links, each with the live ids that were declared on it.
 pub type OpenLinks = IndexMap<u64, IndexSet<TransactionId>>;
 
-/// What a session keeps; `opened` counts all links that were opened.
+/// What a session keeps: the live ids with their work, the open links, and how many links were
+/// opened.
 #[derive(Drop)]
 pub struct Held {
-    pub live: LiveIds,
+    pub work: LiveWork,
     pub links: OpenLinks,
     pub opened: u64,
 }
@@ -44,7 +37,7 @@ pub struct Held {
 pub fn keeps_nothing(held: &Held) -> bool
     ensures { IsTrue result ↔ Stands held.now [] }
 {
-    if !held.live.is_empty() {
+    if !held.work.is_empty() {
         return false;
     }
     if !held.links.is_empty() {
@@ -53,26 +46,22 @@ pub fn keeps_nothing(held: &Held) -> bool
     held.opened == 0
 }
 
-/// Whether the id is live.
-pub fn has_id(live: &LiveIds, id: TransactionId) -> bool
-    ensures { result ≡ is_kept live.now.entries id }
+/// Whether the link is this one.
+fn is_on(home: Option<u64>, link: u64) -> bool
+    ensures { result ≡ is_link link home }
 {
-    live.contains_key(&id)
+    match home {
+        Some(home) => home == link,
+        None => false,
+    }
 }
 
-/// What is kept for the id.
-pub fn find(live: &LiveIds, id: TransactionId) -> Option<&Live>
-    ensures { option_map kept_of (option_copied result) ≡ look live.now.entries id }
+/// Whether the id is live and was declared on the link.
+pub fn is_declared_on(work: &LiveWork, id: TransactionId, link: u64) -> bool
+    ensures { result ≡ is_kept_on link (kept work.now id) }
 {
-    live.get(&id)
-}
-
-/// Whether the id was declared on the link.
-pub fn is_declared_on(one: &Live, link: u64) -> bool
-    ensures { result ≡ is_link link one.now.holder }
-{
-    match one.holder {
-        Some(holder) => holder == link,
+    match work.home(&id) {
+        Some(home) => is_on(home, link),
         None => false,
     }
 }
@@ -113,27 +102,13 @@ fn make_room_on(links: &mut OpenLinks, link: u64) -> Result<(), NoMemory>
 /// Makes room for one more live id, declared on the link.
 pub fn make_room(held: &mut Held, link: u64) -> Result<(), NoMemory>
     ensures same { SameHeld held.old held.new }
+    ensures counts { Adds held.old.work held.new.work 0 }
     ensures room { OnOk result (HasRoom held.new link) }
 {
-    let Ok(()) = held.live.reserve(1) else {
+    let Ok(()) = held.work.make_room() else {
         return Err(NoMemory);
     };
     make_room_on(&mut held.links, link)
-}
-
-/// Adds an id without frames, for which there is room.
-pub fn add_live(live: &mut LiveIds, alloc: Global, holder: Option<u64>, id: TransactionId)
-    requires { 0 < spare live.old }
-    ensures { (t : Id) → look live.new.entries t ≡ cond (same_id t id) (Some (holder, []))
-        (look live.old.entries t) }
-{
-    let one = Live {
-        holder,
-        frames: Frames::new(alloc),
-    };
-    let Ok(_) = live.insert(id, one) else {
-        unreachable!()
-    };
 }
 
 /// Adds an id to those of its link, for which there is room.
@@ -161,17 +136,18 @@ fn add_on(links: &mut OpenLinks, link: u64, id: TransactionId)
 }
 
 /// Declares an id that isn't live on an open link, for which there is room.
-pub fn declare_on(held: &mut Held, alloc: Global, link: u64, id: TransactionId)
+pub fn declare_on(held: &mut Held, link: u64, id: TransactionId)
     requires room { HasRoom held.old link }
     requires opened { is_in held.old.links.entries link ≡ true }
-    requires unused { look held.old.live.entries id ≡ None }
-    ensures live { (t : Id) → look held.new.live.entries t ≡ cond (same_id t id)
-        (Some (Some link, [])) (look held.old.live.entries t) }
+    requires unused { kept held.old.work id ≡ None }
+    ensures live { (t : Id) → kept held.new.work t ≡ cond (same_id t id) (Some (Some link, []))
+        (kept held.old.work t) }
     ensures links { (k : ℕ) → is_in held.new.links.entries k ≡ is_in held.old.links.entries k }
     ensures tied { Tied held.old → Tied held.new }
     ensures opened { held.new.opened ≡ held.old.opened }
+    ensures counts { Adds held.old.work held.new.work 0 }
 {
-    add_live(&mut held.live, alloc, Some(link), id);
+    held.work.add(id, Some(link));
     add_on(&mut held.links, link, id);
 }
 
@@ -184,12 +160,12 @@ fn drop_id(ids: &mut IndexSet<TransactionId>, id: TransactionId)
 }
 
 /// Takes an id out of those of the link that declared it, if one did.
-fn drop_on(links: &mut OpenLinks, holder: Option<u64>, id: TransactionId)
+fn drop_on(links: &mut OpenLinks, home: Option<u64>, id: TransactionId)
     ensures links { (k : ℕ) → is_in links.new.entries k ≡ is_in links.old.entries k }
     ensures ids { (k : ℕ) → (t : Id) → is_among t (ids_on links.new.entries k) ≡ cond
-        (is_link k holder && same_id id t) false (is_among t (ids_on links.old.entries k)) }
+        (is_link k home && same_id id t) false (is_among t (ids_on links.old.entries k)) }
 {
-    let Some(link) = holder else {
+    let Some(link) = home else {
         return;
     };
     if let Some(ids) = links.get_mut(&link) {
@@ -197,41 +173,48 @@ fn drop_on(links: &mut OpenLinks, holder: Option<u64>, id: TransactionId)
     }
 }
 
-/// Takes out what is kept for the id: it is live no more, and none of its link's.
-pub fn take(held: &mut Held, id: TransactionId) -> Option<Live>
-    ensures taken { option_map kept_of result ≡ look held.old.live.entries id }
-    ensures rest { (t : Id) → look held.new.live.entries t ≡ look_without id held.old.live.entries
-        t }
+/// Lets a live id go with what is kept for it: it is live no more, and none of its link's.
+pub fn drop_work<L: Ledger>(held: &mut Held, id: TransactionId, looks: &mut Looks<L>)
+    requires { is_kept held.old.work id ≡ true }
+    ensures rest { (t : Id) → kept held.new.work t ≡ kept_without id held.old.work t }
     ensures links { (k : ℕ) → is_in held.new.links.entries k ≡ is_in held.old.links.entries k }
     ensures tied { Tied held.old → Tied held.new }
     ensures opened { held.new.opened ≡ held.old.opened }
+    ensures pays { Pays held.old.work held.new.work looks.old looks.new
+        (length (frames_kept (kept held.old.work id))) 0 }
 {
-    let taken = held.live.swap_remove(&id)?;
-    drop_on(&mut held.links, taken.holder, id);
-    Some(taken)
+    let Some(home) = held.work.home(&id) else {
+        unreachable!()
+    };
+    held.work.drop_all(&id, looks);
+    drop_on(&mut held.links, home, id);
 }
 
 /// Lets the ids go with what is kept for them.
-fn drop_ids(live: &mut LiveIds, ids: &[TransactionId])
-    ensures { (t : Id) → look live.new.entries t ≡ cond (list_any (same_id t) ids.now) None
-        (look live.old.entries t) }
+fn drop_ids<L: Ledger>(work: &mut LiveWork, ids: &[TransactionId], looks: &mut Looks<L>)
+    ensures kept { (t : Id) → kept work.new t ≡ cond (list_any (same_id t) ids.now) None
+        (kept work.old t) }
+    ensures pays { Pays work.old work.new looks.old looks.new (frames_for work.old (Some ids.now))
+        0 }
 {
     for id in ids {
-        drop(live.swap_remove(id));
+        work.drop_all(id, looks);
     }
 }
 
 /// Closes a link and lets go what was declared on it.
-pub fn end_link(held: &mut Held, link: u64)
-    ensures live { Tied held.old → (t : Id) → look held.new.live.entries t ≡ unless_on link
-        (look held.old.live.entries t) }
+pub fn end_link<L: Ledger>(held: &mut Held, link: u64, looks: &mut Looks<L>)
+    ensures live { Tied held.old → (t : Id) → kept held.new.work t ≡ unless_on link
+        (kept held.old.work t) }
     ensures links { (k : ℕ) → is_in held.new.links.entries k ≡ cond (link == k) false
         (is_in held.old.links.entries k) }
     ensures tied { Tied held.old → Tied held.new }
     ensures opened { held.new.opened ≡ held.old.opened }
+    ensures pays { Pays held.old.work held.new.work looks.old looks.new (frames_on held.old link)
+        0 }
 {
     let Some(ids) = held.links.swap_remove(&link) else {
         return;
     };
-    drop_ids(&mut held.live, ids.as_slice());
+    drop_ids(&mut held.work, ids.as_slice(), looks);
 }

@@ -41,6 +41,7 @@ mod outcomes;
 mod session;
 mod transacting;
 
+pub use amqp_arrivals::Looks;
 pub use amqp_coordinator::{
     CoordinatorError, CoordinatorReply, DischargeError, ResourceTransaction, SuccessfulOutcome,
     TransactionManager, TxnCoordinator,
@@ -51,5 +52,5 @@ pub use amqp_record::{
     commits, hands, home, is_answer, is_legal, is_live, is_open, work,
 };
 pub use as_session::HandleControlLink;
-pub use driving::drive;
+pub use driving::{drive, drive_counted};
 pub use session::TxnSession;

@@ -6,37 +6,48 @@ ghost use Rattle.amqp_layer.specs.Told.{Told};
 ghost use Rattle.amqp_record.specs.declared.step.Step.TheVariants as steps;
 ghost use Rattle.amqp_resource.specs.Held.{SameHeld, is_in};
 ghost use Rattle.amqp_resource.specs.Keeping.{Fits, Keeps};
+ghost use Rattle.amqp_resource.specs.Looking.{Pays, frames_ended};
 ghost use Rattle.amqp_resource.specs.Steps.{StepDoesHere, StepCause, OnNoMemory, nothing_drawn};
 
 use crate::held::{Held, end_link, has_link};
 use crate::outcomes::no_draws;
+use amqp_arrivals::Looks;
 use amqp_ids::Drawn;
 use amqp_record::{Reply, StepError};
 use amqp_txn_types::{AmqpError, Payload};
 use std::alloc::Global;
+use std::sync::ledger::Ledger;
 
 /// The end of a link aborts what it declared.
-pub fn link_end_step(held: &mut Held, alloc: Global, link: u64) -> Result<(Drawn, Reply), StepError>
+pub fn link_end_step<L: Ledger>(
+    held: &mut Held,
+    alloc: Global,
+    link: u64,
+    looks: &mut Looks<L>,
+) -> Result<(Drawn, Reply), StepError>
     ensures goes { StepDoesHere held.old held.new (steps.LinkEnd link) result }
     ensures keeps { (told : Told) → Fits held.old
         → Keeps held.old held.new told told (steps.LinkEnd link) result }
     ensures cause { (n : ℕ) → StepCause n n (steps.LinkEnd link) result }
     ensures same { OnNoMemory result (SameHeld held.old held.new) }
     ensures draws { IfOk result (λ out. out.0 ≡ nothing_drawn) }
+    ensures pays { Pays held.old.work held.new.work looks.old looks.new
+        (frames_ended held.old (steps.LinkEnd link)) 0 }
 {
     if !has_link(&held.links, link) {
         return Ok((no_draws(alloc), Reply::NoLink));
     }
-    end_link(held, link);
+    end_link(held, link, looks);
     Ok((no_draws(alloc), Reply::LinkEnded))
 }
 
 /// A payload that is no control message closes its link.
-pub fn close_step(
+pub fn close_step<L: Ledger>(
     held: &mut Held,
     alloc: Global,
     link: u64,
     payload: &Payload,
+    looks: &mut Looks<L>,
 ) -> Result<(Drawn, Reply), StepError>
     requires message { message_of payload.now ≡ None }
     requires opened { is_in held.old.links.entries link ≡ true }
@@ -46,8 +57,10 @@ pub fn close_step(
     ensures cause { (n : ℕ) → StepCause n n (steps.Control link payload.now) result }
     ensures same { OnNoMemory result (SameHeld held.old held.new) }
     ensures draws { IfOk result (λ out. out.0 ≡ nothing_drawn) }
+    ensures pays { Pays held.old.work held.new.work looks.old looks.new
+        (frames_ended held.old (steps.Control link payload.now)) 0 }
 {
-    end_link(held, link);
+    end_link(held, link, looks);
     Ok((no_draws(alloc), Reply::LinkClosed(AmqpError::NotAllowed)))
 }
 

@@ -1,6 +1,6 @@
 //! A session: what it keeps, the layer below, and whether it stopped.
 
-ghost use Rattle.std.specs.Prelude.{◌≡◌, ◌≤◌, ◌<◌, ◌-◌, ◌^◌, ◌↔◌, ◌∷◌, ◌++◌, [], List, None, Some, Err, IfSome, IfOk, IfErr, OnErr, IsTrue, true};
+ghost use Rattle.std.specs.Prelude.{◌≡◌, ◌≤◌, ◌<◌, ◌+◌, ◌*◌, ◌-◌, ◌^◌, ◌↔◌, ◌∷◌, ◌++◌, [], List, None, Some, Err, IfSome, IfOk, IfErr, OnErr, IsTrue, true};
 ghost use Rattle.amqp_txn_types.specs.declared.id.TransactionId.{TransactionId as Id};
 ghost use Rattle.amqp_layer.specs.declared.inner_error.SessionInnerError.TheVariants as faults;
 ghost use Rattle.amqp_txn_types.specs.Counts.{Rose};
@@ -13,16 +13,21 @@ ghost use Rattle.amqp_record.specs.Answers.{Answer};
 ghost use Rattle.amqp_resource.specs.Steps.{entry_of, ended_by, takes_memory, AnswersEnd, IfEnded, IfRefused, IfUnknown, IsControlAttach, IsFirstStop, MayFault, OnAttachRefused, OnNoMemory, OnNoCall, OpenedBy, RefusedAdds, RefusedBy, TookFirst, TookHands, UnderDead};
 ghost use Rattle.amqp_resource.specs.Complete.{InOrder, Completed};
 ghost use Rattle.amqp_resource.specs.Keeping.{AnswerKeeps, UnderUnkept};
-ghost use Rattle.amqp_resource.specs.Session.{FitsTogether, ForEachRecord, IsFresh, SameSession, StandsFor, StopAfter, below_of, held_of, is_live_on, opened_of, refusals_of, stop_of, told_of};
+ghost use Rattle.amqp_resource.specs.Stepping.{StepSays};
+ghost use Rattle.amqp_resource.specs.Looking.{dues, frames_added, frames_ended};
+ghost use Rattle.amqp_resource.specs.Session.{FitsTogether, ForEachRecord, IsFresh, SameSession, StandsFor, StopAfter, below_of, frame_count_of, held_of, is_live_on, opened_of, owed_of, refusals_of, stop_of, told_of};
 
 use crate::acting::take_step;
-use crate::held::{Held, has_id, keeps_nothing};
+use crate::held::{Held, keeps_nothing};
+use amqp_arrivals::{LiveWork, Looks};
 use amqp_ids::{Drawn, IdSource};
 use amqp_layer::LayerBelow;
 use amqp_record::{Drawn16, Reply, Step, StepError, StopCode, code_of_end, code_of_fault};
 use amqp_txn_types::{SessionState, TransactionId};
 use indexmap::IndexMap;
 use std::alloc::Global;
+use std::marker::Brand;
+use std::sync::ledger::{Blank, Ledger};
 
 /// A session that serves transactions over a layer below. Part 4 of the standard, section 4.4.
 ///
@@ -67,10 +72,11 @@ impl<S: LayerBelow> TxnSession<S> {
         ensures below { below_of result ≡ below }
         ensures refusals { refusals_of result ≡ 0 }
         ensures fits { FitsTogether result }
+        ensures owed { owed_of result ≡ 0 }
     {
         TxnSession {
             held: Held {
-                live: IndexMap::new(alloc),
+                work: LiveWork::new(alloc),
                 links: IndexMap::new(alloc),
                 opened: 0,
             },
@@ -102,7 +108,7 @@ impl<S: LayerBelow> TxnSession<S> {
         ensures as_record { (r : List Entry) → StandsFor self.now r
             → result ≡ is_live r txn_id.now }
     {
-        has_id(&self.held.live, *txn_id)
+        self.held.work.is_live(txn_id)
     }
 
     /// How many control links were opened so far.
@@ -111,6 +117,13 @@ impl<S: LayerBelow> TxnSession<S> {
         ensures as_record { (r : List Entry) → StandsFor self.now r → result ≡ attached_count r }
     {
         self.held.opened
+    }
+
+    /// The looks that the log of the work owes for frames taken so far.
+    pub fn owed(&self) -> usize
+        ensures { result ≡ owed_of self.now }
+    {
+        self.held.work.owed()
     }
 
     /// The code of the session's first stop.
@@ -143,10 +156,42 @@ impl<S: LayerBelow> TxnSession<S> {
     /// `handed` counts the step's frames that were taken. Each of these stops the session. A
     /// refused attach of a control link is a reply, and the session goes on. `NoMemory` leaves the
     /// session as it was.
+    ///
+    /// Its clauses are those of [`step_counted`](Self::step_counted) but for those on looks.
     pub fn step<G: IdSource>(
         &mut self,
         step: &Step,
         ids: &mut G,
+    ) -> Result<(Drawn16, Reply), StepError>
+        requires { stop_of self.old ≡ None → opened_of self.old < 2 ^ 64 - 1 }
+        ensures { StepSays S.told G.next G.start self.old self.new ids.old ids.new step.now result }
+    {
+        self.step_blank::<G, Brand>(step, ids, Blank::new(1))
+    }
+
+    /// One step, whose looks are counted in a blank ledger.
+    fn step_blank<G: IdSource, L: Ledger>(
+        &mut self,
+        step: &Step,
+        ids: &mut G,
+        blank: Blank,
+    ) -> Result<(Drawn16, Reply), StepError>
+        requires room { stop_of self.old ≡ None → opened_of self.old < 2 ^ 64 - 1 }
+        requires name { blank.name ≡ L.name }
+        requires parts { blank.parts ≡ L.parts }
+        requires some { 0 < blank.parts }
+        ensures { StepSays S.told G.next G.start self.old self.new ids.old ids.new step.now result }
+    {
+        let mut looks = Looks::<L>::new(blank);
+        self.step_counted(step, ids, &mut looks)
+    }
+
+    /// One step as by [`step`](Self::step), which counts its looks into the log of the work.
+    pub fn step_counted<G: IdSource, L: Ledger>(
+        &mut self,
+        step: &Step,
+        ids: &mut G,
+        looks: &mut Looks<L>,
     ) -> Result<(Drawn16, Reply), StepError>
         requires room { stop_of self.old ≡ None → opened_of self.old < 2 ^ 64 - 1 }
         // A stopped session answers with the code of its first stop, and nothing changes.
@@ -225,11 +270,27 @@ impl<S: LayerBelow> TxnSession<S> {
         ensures complete { ForEachRecord self.old (λ r. (n : List Id) →
             InOrder (told_of S.told self.old).refusals (told_of S.told self.new).refusals
             (G.next ids.old) r step.now n → Completed result) }
+        // The looks of the step and those owed after it are at most those owed before it and two
+        // for each frame that it ends. While the session hasn't stopped, no more are owed than
+        // frames are kept.
+        ensures looks { looks.new + owed_of self.new
+            ≤ looks.old + owed_of self.old + 2 * frames_ended (held_of self.old) step.now }
+        ensures few { stop_of self.new ≡ None → owed_of self.new ≤ frame_count_of self.new }
+        // Two looks at most come for each frame that is kept.
+        ensures dues { looks.new + dues (held_of self.new).work
+            ≤ looks.old + dues (held_of self.old).work + 2 * frames_added step.now }
     {
         if let Some(code) = self.stop {
             return Err(StepError::Stopped(code));
         }
-        let result = take_step(&mut self.held, &mut self.below, self.alloc, step, ids);
+        let result = take_step(
+            &mut self.held,
+            &mut self.below,
+            self.alloc,
+            step,
+            ids,
+            looks,
+        );
         self.stop = stop_after(&result);
         result
     }

@@ -18,6 +18,8 @@ use amqp_layer::{Echoes, LayerBelow, Tells};
 use amqp_record::{StopCode, code_of_fault};
 use amqp_sessions::{AllocTxnIdError, CommitFault, HandleDeclare, HandleDischarge};
 use amqp_txn_types::{Accepted, TransactionError, TransactionId, refuse};
+use std::marker::Brand;
+use std::sync::ledger::Blank;
 
 /// Counts a refusal of a call, and answers it.
 pub fn refuse_call<T, E>(refusals: &mut u64, error: E) -> Result<T, E>
@@ -80,7 +82,13 @@ impl<S: LayerBelow> HandleDischarge for TxnSession<S> {
             return Ok(refuse_call(&mut self.refusals, TransactionError::UnknownId));
         }
         let alloc = self.allocator();
-        match commit_kept(&mut self.held, &mut self.below, alloc, *txn_id) {
+        match commit_kept::<S, Brand>(
+            &mut self.held,
+            &mut self.below,
+            alloc,
+            *txn_id,
+            Blank::new(1),
+        ) {
             Ok(Ok(echoes)) => Ok(Ok(echoes)),
             Ok(Err(error)) => Ok(refuse_call(&mut self.refusals, error)),
             Err(fault) => {
@@ -97,7 +105,7 @@ impl<S: LayerBelow> HandleDischarge for TxnSession<S> {
         if self.stop.is_some() {
             return refuse_call(&mut self.refusals, TransactionError::UnknownId);
         }
-        match roll_back_kept(&mut self.held, *txn_id) {
+        match roll_back_kept::<Brand>(&mut self.held, *txn_id, Blank::new(1)) {
             Ok(accepted) => Ok(accepted),
             Err(error) => refuse_call(&mut self.refusals, error),
         }

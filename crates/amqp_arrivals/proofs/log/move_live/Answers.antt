@@ -1,37 +1,49 @@
-use Rattle.std.proofs.Common.{◌<◌, ◌≤◌, ◌+◌, arith, ap, ◌∙◌, length}
-use Rattle.std.proofs.lemmas.List.Filters.{FiltersInPlace-more_swap, FiltersInPlace-more_no}
+use Rattle.std.proofs.Common.{◌<◌, ◌≤◌, ◌+◌, arith, ap, refl, subst, sym, ◌∙◌, length}
+use Rattle.std.proofs.lemmas.List.Filters.{FiltersInPlace, FiltersInPlace-more_swap, FiltersInPlace-more_no}
+use Rattle.amqp_arrivals.specs.declared.cell.Cell.TheVariants as cells
 use Rattle.amqp_arrivals.specs.Cells.{is_live_cell}
 use Rattle.amqp_arrivals.specs.Index.{places_kept}
 use Rattle.amqp_arrivals.proofs.Closing.{looked_at_live, looked_at_dead, moved_all}
+use Rattle.amqp_arrivals.proofs.Reading.{dead_here, live_here}
 use Rattle.amqp_arrivals.proofs.log.move_live.Goals as goal
-use Rattle.amqp_arrivals.proofs.log.move_live.Goals.{in-Live, in-Dead}
+use Rattle.amqp_arrivals.proofs.log.move_live.Goals.{in-Some, in_default}
 
 pub loop-place-preserved : goal.loop-place-preserved
 loop-place-preserved g c =
     let i = c.loop-place.place in
+    let xs = c.args.cells.now.cells in
+    let ys = c.loop-place.cells.cells in
     let held = c.loop-place.invariant.cells in
-    let there : i < length c.loop-place.cells.items = omega (arith, c.loop-place.cells.ok.0, c.args.cells.now.ok.0, held.long) in
-    let below : i < length c.args.cells.now.items = omega (arith, held.long) in
-    elim c.match-index.branch [
-      | in-Live w ↦ rw (w.cells-is, w.index-is, w.looks-is, w.kept-is) (record {
-        cells = FiltersInPlace-more_swap held there (ap is_live_cell w.in-Live.is) c.index.ensures w.swap.ensures.by_index;
-        index = λ t. w.move_place.ensures.places t ∙ looked_at_live t w.in-Live.txn_id w.in-Live.work c.index.result.now (places_kept c.loop-place.index.entries t) held below c.index.ensures w.in-Live.is (c.loop-place.invariant.index t);
-        keys = w.move_place.ensures.keys ∙ c.loop-place.invariant.keys;
-        spare = w.move_place.ensures.spare ∙ c.loop-place.invariant.spare;
-        looks = omega (arith, w.tick.ensures, c.loop-place.invariant.looks);
-      })
-      | in-Dead w ↦ rw (w.cells-is, w.index-is, w.looks-is, w.kept-is) (record {
-        cells = FiltersInPlace-more_no held there (ap is_live_cell w.in-Dead.is) c.index.ensures;
-        index = λ t. looked_at_dead t c.index.result.now (places_kept c.loop-place.index.entries t) held below c.index.ensures w.in-Dead.is (c.loop-place.invariant.index t);
-        keys = c.loop-place.invariant.keys;
-        spare = c.loop-place.invariant.spare;
-        looks = c.loop-place.invariant.looks;
-      })
+    let there : i < length ys = omega (arith, c.loop-place-test.true, c.len-place-end.ensures, held.long) in
+    let below : i < length xs = omega (arith, held.long) in
+    elim c.match-bring.branch [
+      | in-Some w ↦
+          let id = w.in-Some.txn_id in
+          let at = live_here ys i id (sym c.bring.ensures.id ∙ w.in-Some.is) in
+          rw (w.index-is, w.kept-is) (record {
+            cells = FiltersInPlace-more_swap held there refl at.1 w.in-Some.ensures.live;
+            index = λ t.
+                w.move_place.ensures.places t
+                ∙ looked_at_live t id at.0 (cells.Live id at.0) (places_kept c.loop-place.index.entries t) held below at.1 refl (c.loop-place.invariant.index t);
+            keys = w.move_place.ensures.keys ∙ c.loop-place.invariant.keys;
+            spare = w.move_place.ensures.spare ∙ c.loop-place.invariant.spare;
+            looks = omega (arith, w.in-Some.ensures.looks, c.loop-place.invariant.looks);
+          })
+      | in_default w ↦
+          let at = dead_here ys i there (sym c.bring.ensures.id ∙ w.in_default.is) in
+          let same = w.in_default.ensures.dead in
+          rw (w.index-is, w.kept-is) (record {
+            cells =
+                subst (λ zs. FiltersInPlace is_live_cell xs zs c.loop-place.kept (i + 1)) (sym same.0)
+                (FiltersInPlace-more_no held there refl at);
+            index = λ t. looked_at_dead t cells.Dead (places_kept c.loop-place.index.entries t) held below at refl (c.loop-place.invariant.index t);
+            keys = c.loop-place.invariant.keys;
+            spare = c.loop-place.invariant.spare;
+            looks = same.1 ∙ c.loop-place.invariant.looks;
+          })
     ]
 
 pub returns-clause-looks : goal.returns-clause-looks
 returns-clause-looks g c =
-    let held = c.loop-place.invariant.cells in
-    let past : length c.args.cells.now.items ≤ c.loop-place.place = omega (arith, c.args.cells.now.ok.0) in
-    let all = moved_all held past in
-    c.loop-place.invariant.looks ∙ ap (λ n. c.args.looks.now + n) all
+    let past : length c.args.cells.now.cells ≤ c.loop-place.place = omega (arith, c.len-place-end.ensures, c.loop-place-test.false) in
+    c.loop-place.invariant.looks ∙ ap (λ n. c.args.looks.now + n) (moved_all c.loop-place.invariant.cells past)

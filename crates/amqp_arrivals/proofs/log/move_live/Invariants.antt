@@ -9,8 +9,8 @@ use Rattle.amqp_arrivals.proofs.log.move_live.Given as goal
 
 abbrev pub invariant-loop-place : goal.invariant-loop-place
 invariant-loop-place g l = record {
-  cells : FiltersInPlace is_live_cell l.initial.cells.items l.cells.items l.kept l.place;
-  index : (t : TransactionId) → places_kept l.index.entries t ≡ places_from l.place t (drop l.place l.initial.cells.items) ++ places_from 0 t (filter is_live_cell (take l.place l.initial.cells.items));
+  cells : FiltersInPlace is_live_cell l.initial.cells.cells l.cells.cells l.kept l.place;
+  index : (t : TransactionId) → places_kept l.index.entries t ≡ places_from l.place t (drop l.place l.initial.cells.cells) ++ places_from 0 t (filter is_live_cell (take l.place l.initial.cells.cells));
   keys : keys l.index ≡ keys l.initial.index;
   spare : spare l.index ≡ spare l.initial.index;
   looks : l.looks ≡ l.initial.looks + l.kept;

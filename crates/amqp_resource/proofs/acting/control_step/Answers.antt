@@ -1,5 +1,6 @@
 use Rattle.std.proofs.Common.{◌≡◌, refl}
 use Rattle.amqp_record.specs.declared.step.Step.TheVariants as steps
+use Rattle.amqp_resource.proofs.Looked.{pays_adds, pays_none}
 use Rattle.amqp_resource.proofs.Parts.{no_call_holds}
 use Rattle.amqp_resource.proofs.acting.control_step.Goals as goal
 
@@ -50,3 +51,12 @@ returns-in-Ok-Declare-Some-clause-untouched g c = no_call_holds (steps.Control c
 
 pub returns-in-Ok-Declare-None-clause-untouched : goal.returns-in-Ok-Declare-None-clause-untouched
 returns-in-Ok-Declare-None-clause-untouched g c = no_call_holds (steps.Control c.args.link c.args.payload.now) c.declare_step.result (c.args.below.now ≡ c.args.below.now) refl
+
+pub returns-then-not-has_link-clause-pays : goal.returns-then-not-has_link-clause-pays
+returns-then-not-has_link-clause-pays g c = pays_none _ _ _ _
+
+pub returns-in-Ok-Declare-Some-clause-pays : goal.returns-in-Ok-Declare-Some-clause-pays
+returns-in-Ok-Declare-Some-clause-pays g c = pays_none _ _ _ _
+
+pub returns-in-Ok-Declare-None-clause-pays : goal.returns-in-Ok-Declare-None-clause-pays
+returns-in-Ok-Declare-None-clause-pays g c = pays_adds _ _ _ _ _ c.declare_step.ensures.counts

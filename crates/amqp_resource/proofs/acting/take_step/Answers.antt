@@ -1,43 +1,23 @@
-use Rattle.std.proofs.Common.{◌≡◌, refl, Err}
-use Rattle.amqp_resource.proofs.Parts.{answers_end, local_error, no_call_holds, remote_error}
-use Rattle.amqp_resource.proofs.Keeping.{keeps-end}
+use Rattle.std.proofs.Common.{refl}
+use Rattle.amqp_resource.specs.declared.held.Held.{Held}
+use Rattle.amqp_resource.specs.Held.{SameHeld}
+use Rattle.amqp_resource.proofs.Looked.{pays_settled}
+use Rattle.amqp_resource.proofs.Moved.{does_moved, keeps_moved, same_moved}
+use Rattle.amqp_resource.proofs.acting.take_step.Given.{Over}
 use Rattle.amqp_resource.proofs.acting.take_step.Goals as goal
 
-pub returns-in-LinkEnd-clause-goes : goal.returns-in-LinkEnd-clause-goes
-returns-in-LinkEnd-clause-goes g c r s = rw c.in-LinkEnd.is (c.link_end_step.ensures.goes r s _)
+-- what the step left is as it was, the log closed up
+settled : (g : Over) (c : goal.After-settle g) → SameHeld c.act-result.new.held (record c.act-result.new.held { work = c.settle.new.self })
+settled g c = record { live = c.settle.ensures.same.kept; links = λ k. refl; opened = refl }
 
-pub returns-in-LinkEnd-clause-cause : goal.returns-in-LinkEnd-clause-cause
-returns-in-LinkEnd-clause-cause g c = rw c.in-LinkEnd.is (c.link_end_step.ensures.cause _)
+pub returns-clause-goes : goal.returns-clause-goes
+returns-clause-goes g c = does_moved c.args.held.now _ _ _ _ c.args.step.now c.act-result.result (settled g c) c.act-result.ensures.goes
 
-pub returns-in-LocalEnd-clause-ended : goal.returns-in-LocalEnd-clause-ended
-returns-in-LocalEnd-clause-ended g c = rw c.in-LocalEnd.is (answers_end _ _ _ (local_error _) c.end_locally.ensures)
+pub returns-clause-keeps : goal.returns-clause-keeps
+returns-clause-keeps g c f = keeps_moved c.args.held.now _ _ _ _ c.args.step.now c.act-result.result (settled g c) (c.act-result.ensures.keeps f)
 
-pub returns-in-RemoteEnd-clause-ended : goal.returns-in-RemoteEnd-clause-ended
-returns-in-RemoteEnd-clause-ended g c = rw c.in-RemoteEnd.is (answers_end _ _ _ (remote_error _) c.end_remotely.ensures)
+pub returns-clause-same : goal.returns-clause-same
+returns-clause-same g c = same_moved c.args.held.now _ _ c.act-result.result (settled g c) c.act-result.ensures.same
 
-pub returns-in-ConnectionStop-clause-ended : goal.returns-in-ConnectionStop-clause-ended
-returns-in-ConnectionStop-clause-ended g c = rw c.in-ConnectionStop.is (answers_end _ _ _ refl c.end_with_connection.ensures)
-
-pub returns-in-RemoteEnd-clause-untouched : goal.returns-in-RemoteEnd-clause-untouched
-returns-in-RemoteEnd-clause-untouched g c = no_call_holds c.args.step.now (Err c.end_remotely.result) (c.args.below.now ≡ c.args.below.now) refl
-
-pub returns-in-LinkEnd-clause-untouched : goal.returns-in-LinkEnd-clause-untouched
-returns-in-LinkEnd-clause-untouched g c = no_call_holds c.args.step.now c.link_end_step.result (c.args.below.now ≡ c.args.below.now) refl
-
-pub returns-in-LinkEnd-clause-keeps : goal.returns-in-LinkEnd-clause-keeps
-returns-in-LinkEnd-clause-keeps g c f = rw c.in-LinkEnd.is (c.link_end_step.ensures.keeps _ f)
-
-pub returns-in-LocalEnd-clause-keeps : goal.returns-in-LocalEnd-clause-keeps
-returns-in-LocalEnd-clause-keeps g c f = rw c.in-LocalEnd.is (keeps-end c.args.held.now _ _ _ _ _ c.end_locally.ensures refl (λ u. u) f)
-
-pub returns-in-RemoteEnd-clause-keeps : goal.returns-in-RemoteEnd-clause-keeps
-returns-in-RemoteEnd-clause-keeps g c f = rw c.in-RemoteEnd.is (keeps-end c.args.held.now _ _ _ _ _ c.end_remotely.ensures refl (λ u. u) f)
-
-pub returns-in-ConnectionStop-clause-keeps : goal.returns-in-ConnectionStop-clause-keeps
-returns-in-ConnectionStop-clause-keeps g c f = rw c.in-ConnectionStop.is (keeps-end c.args.held.now _ _ _ _ _ c.end_with_connection.ensures refl (λ u. u) f)
-
-pub returns-in-LocalEnd-clause-untouched : goal.returns-in-LocalEnd-clause-untouched
-returns-in-LocalEnd-clause-untouched g c = no_call_holds c.args.step.now (Err c.end_locally.result) (c.args.below.now ≡ c.args.below.now) refl
-
-pub returns-in-ConnectionStop-clause-untouched : goal.returns-in-ConnectionStop-clause-untouched
-returns-in-ConnectionStop-clause-untouched g c = no_call_holds c.args.step.now (Err c.end_with_connection.result) (c.args.below.now ≡ c.args.below.now) refl
+pub returns-clause-pays : goal.returns-clause-pays
+returns-clause-pays g c = pays_settled _ _ _ _ _ _ _ _ c.act-result.ensures.pays c.settle.ensures.same.frames c.settle.ensures.looks

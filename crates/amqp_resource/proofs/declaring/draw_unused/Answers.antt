@@ -8,8 +8,8 @@ use Rattle.amqp_resource.specs.Draws.{is_kept}
 use Rattle.amqp_resource.proofs.Going.{all-snoc}
 use Rattle.amqp_resource.proofs.declaring.draw_unused.Goals as goal
 
-pub returns-then-not-has_id-clause-drew : goal.returns-then-not-has_id-clause-drew
-returns-then-not-has_id-clause-drew g c =
+pub returns-then-not-is_live-clause-drew : goal.returns-then-not-is_live-clause-drew
+returns-then-not-is_live-clause-drew g c =
     let P : List TransactionId → Type 0 = λ ds. Drew (g.G.IdSource.next c.args.ids.now) (g.G.IdSource.next c.draw-id.new.self) ds in
     subst P (sym (c.trim.ensures.ids ∙ c.push.ensures.ids))
     (Drew-append (g.G.IdSource.next c.args.ids.now) (g.G.IdSource.next c.loop-turn.ids) (g.G.IdSource.next c.draw-id.new.self) c.loop-turn.drawn.ids (c.draw-id.result ∷ [])
@@ -24,7 +24,7 @@ loop-turn-preserved g c =
     record {
       count = ap length items ∙ length-append c.loop-turn.drawn.ids (c.draw-id.result ∷ []) ∙ ap (λ n. n + 1) c.loop-turn.invariant.count;
       room = omega (arith, c.loop-turn.invariant.room, c.push.ensures.spare);
-      all = ap (list_all (is_kept c.args.live.now.entries)) items ∙ all-snoc c.args.live.now.entries c.loop-turn.drawn.ids c.draw-id.result c.loop-turn.invariant.all (sym c.has_id.ensures ∙ c.if-not-has_id.false);
+      all = ap (list_all (is_kept c.args.work.now)) items ∙ all-snoc c.args.work.now c.loop-turn.drawn.ids c.draw-id.result c.loop-turn.invariant.all (sym c.is_live.ensures ∙ c.if-not-is_live.false);
       drew =
           subst (λ (ds : List TransactionId). Drew start end ds) (sym items)
           (Drew-append start mid end c.loop-turn.drawn.ids (c.draw-id.result ∷ []) c.loop-turn.invariant.drew (Drew-one mid end c.draw-id.result c.draw-id.ensures.drawn c.draw-id.ensures.rest));

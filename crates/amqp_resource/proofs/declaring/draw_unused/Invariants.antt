@@ -8,7 +8,7 @@ abbrev pub invariant-loop-turn : goal.invariant-loop-turn
 invariant-loop-turn g l = record {
   count : length l.drawn.ids ≡ l._turn;
   room : 16 ≤ l.drawn.spare + l._turn;
-  all : list_all (is_kept l.live.entries) l.drawn.ids ≡ true;
+  all : list_all (is_kept l.work) l.drawn.ids ≡ true;
   drew : Drew (g.G.IdSource.next l.fn.ids) (g.G.IdSource.next l.ids) l.drawn.ids;
   start : g.G.IdSource.start l.ids ≡ g.G.IdSource.start l.fn.ids;
 }

@@ -1,17 +1,29 @@
-use Rattle.std.proofs.Common.{ap, sym, ◌∙◌, ◌||◌, cond, take, None, arith}
+use Rattle.std.proofs.Common.{◌≡◌, ◌≤◌, ap, sym, ◌∙◌, ◌||◌, cond, length, subst, take, ℕ, Option, None, arith}
 use Rattle.std.specs.List.{list_any}
 use Rattle.std.proofs.lemmas.List.Folds.{list_any_more}
 use Rattle.amqp_txn_types.specs.Ids.{same_id}
-use Rattle.amqp_resource.specs.Held.{look}
-use Rattle.amqp_resource.proofs.Kept.{look_updated, gone_more}
+use Rattle.amqp_arrivals.specs.Live.{Kept, frames_kept, kept}
+use Rattle.amqp_resource.proofs.Kept.{gone_more}
+use Rattle.amqp_resource.proofs.Looked.{fewer, summed_more}
 use Rattle.amqp_resource.proofs.held.drop_ids.Goals as goal
 
 pub loop-id-preserved : goal.loop-id-preserved
-loop-id-preserved c t =
+loop-id-preserved g c =
     let i = c.loop-id.id-index in
     let id = c.id-item.result in
-    let before = look c.args.live.now.entries t in
-    look_updated c.loop-id.live.entries _ id None c.swap_remove.ensures.updates.0 t
-    ∙ ap (λ o. cond (same_id t id) None o) (c.loop-id.invariant t)
-    ∙ gone_more (list_any (same_id t) (take i c.args.ids.now)) (same_id t id) before
-    ∙ sym (ap (λ b. cond b None before) (list_any_more (same_id t) c.args.ids.now i id (omega arith) ∙ ap (λ x. list_any (same_id t) (take i c.args.ids.now) || same_id t x) (sym c.id-item.is)))
+    let gone = list_any (same_id id) (take i c.args.ids.now) in
+    let most : length (frames_kept (kept c.loop-id.work id)) ≤ length (frames_kept (kept c.args.work.now id)) =
+    subst (λ (o : Option Kept). length (frames_kept o) ≤ length (frames_kept (kept c.args.work.now id))) (sym (c.loop-id.invariant.kept id)) (fewer gone (kept c.args.work.now id)) in
+    let more = summed_more (λ t. length (frames_kept (kept c.args.work.now t))) c.args.ids.now i id (omega arith) c.id-item.is in
+    let taken = c.drop_all.ensures in
+    record {
+      kept = λ t.
+          taken.kept t
+          ∙ ap (λ o. cond (same_id t id) None o) (c.loop-id.invariant.kept t)
+          ∙ gone_more (list_any (same_id t) (take i c.args.ids.now)) (same_id t id) (kept c.args.work.now t)
+          ∙ sym (ap (λ b. cond b None (kept c.args.work.now t)) (list_any_more (same_id t) c.args.ids.now i id (omega arith) ∙ ap (λ x. list_any (same_id t) (take i c.args.ids.now) || same_id t x) (sym c.id-item.is)));
+      pays = record {
+        ended = omega (arith, c.loop-id.invariant.pays.ended, taken.looks, taken.owed, most, more);
+        all = omega (arith, c.loop-id.invariant.pays.all, taken.looks, taken.owed, taken.frames);
+      };
+    }

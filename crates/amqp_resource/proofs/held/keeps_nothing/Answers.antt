@@ -10,6 +10,5 @@ returns-then-not-is_empty-2 c = (λ x. cc x, λ s. let e = c.is_empty-2.ensures.
 
 pub returns : goal.returns
 returns c =
-    let live = no_items c.args.held.now.live.entries (c.is_empty.ensures.0 c.if-not-is_empty.false) in
     let links = no_items c.args.held.now.links.entries (c.is_empty-2.ensures.0 c.if-not-is_empty-2.false) in
-    (λ x. stands-new c.args.held.now live links (eqb-true c.args.held.now.opened 0 x), λ s. eq-eqb c.args.held.now.opened 0 s.opened)
+    (λ x. stands-new c.args.held.now (c.is_empty.ensures.0 c.if-not-is_empty.false) links (eqb-true c.args.held.now.opened 0 x), λ s. eq-eqb c.args.held.now.opened 0 s.opened)

@@ -1,13 +1,21 @@
+use Rattle.std.proofs.Common.{ℕ, subst}
+use Rattle.amqp_resource.specs.Looking.{Pays}
+use Rattle.amqp_resource.proofs.Looked.{ends_closed}
 use Rattle.amqp_resource.proofs.Going.{answered-close}
 use Rattle.amqp_resource.proofs.Keeping.{keeps-closed}
 use Rattle.amqp_resource.proofs.link_steps.close_step.Goals as goal
 
 pub returns-clause-goes : goal.returns-clause-goes
-returns-clause-goes c r s told =
+returns-clause-goes g c r s told =
     let ended = c.end_link.ensures in
     rw c.no_draws.ensures (answered-close c.args.held.now c.end_link.new.held r c.args.link c.args.payload.now told c.requires.message c.requires.opened s (ended.tied s.tied) (ended.live s.tied) ended.links ended.opened)
 
 pub returns-clause-keeps : goal.returns-clause-keeps
-returns-clause-keeps c told f =
+returns-clause-keeps g c told f =
     let ended = c.end_link.ensures in
     keeps-closed c.args.held.now c.end_link.new.held told c.args.link c.args.payload.now _ c.no_draws.ensures c.requires.message c.requires.opened ended.live ended.links ended.tied ended.opened f
+
+pub returns-clause-pays : goal.returns-clause-pays
+returns-clause-pays g c =
+    subst (λ (n : ℕ). Pays c.args.held.now.work c.end_link.new.held.work c.args.looks.now c.end_link.new.looks n 0)
+    (ends_closed c.args.held.now c.args.link c.args.payload.now c.requires.message c.requires.opened) c.end_link.ensures.pays

@@ -15,9 +15,9 @@ pub invariant_of-self-2 : goal.invariant_of-self-2
 invariant_of-self-2 c =
     let id = c.args.txn_id.now in
     let work = c.args.work in
-    let cs = c.self.inside.cells.items in
-    let long : c.len.result ≡ length cs = c.len.ensures ∙ c.reserve.new.self.ok.0 ∙ ap length c.reserve.ensures.items in
-    let after = c.push_reserved.ensures.items ∙ ap (λ xs. xs ++ cells.Live id work ∷ []) c.reserve.ensures.items in
+    let cs = c.self.inside.cells.cells in
+    let long : c.len.result ≡ length cs = c.len.ensures ∙ ap length c.reserve.ensures.cells in
+    let after = c.push.ensures ∙ ap (λ xs. xs ++ cells.Live id work ∷ []) c.reserve.ensures.cells in
     record {
       places = λ t.
           c.in-Ok-add_place.ensures.ok t

@@ -8,5 +8,5 @@ returns c =
     let id = c.args.txn_id.now in
     c.place_count.ensures
     ∙ ap length (c.self.invariant.places id)
-    ∙ as_many 0 id c.self.inside.cells.items
+    ∙ as_many 0 id c.self.inside.cells.cells
     ∙ ap (λ (log : Log). length (frames_of log id)) c.self.view_is

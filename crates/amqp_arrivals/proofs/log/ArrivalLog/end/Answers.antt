@@ -9,7 +9,7 @@ pub invariant_of-self : goal.invariant_of-self
 invariant_of-self c =
     let id = c.args.txn_id.now in
     let old = c.self.inside.index.entries in
-    let none = c.self.invariant.places id ∙ no_places 0 id c.self.inside.cells.items (ap (λ (log : Log). frames_of log id) c.self.view_is ∙ c.requires.empty) in
+    let none = c.self.invariant.places id ∙ no_places 0 id c.self.inside.cells.cells (ap (λ (log : Log). frames_of log id) c.self.view_is ∙ c.requires.empty) in
     record {
       places = λ t. kept_ended old c.swap_remove-places.new.self.entries id none c.swap_remove-places.ensures.updates.0 t ∙ c.self.invariant.places t;
       gone = c.self.invariant.gone;

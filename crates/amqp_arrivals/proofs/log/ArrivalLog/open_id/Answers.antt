@@ -27,9 +27,9 @@ returns-in-Ok-clause-ok c =
 pub returns-in-Ok-clause-fresh : goal.returns-in-Ok-clause-fresh
 returns-in-Ok-clause-fresh c =
     let none = not_found c.self.inside.index.entries c.args.txn_id (ap (λ log. is_opened log c.args.txn_id) c.self.view_is ∙ c.requires) in
-    no_frames 0 c.args.txn_id c.self.inside.cells.items (sym (c.self.invariant.places c.args.txn_id) ∙ ap places_in none)
+    no_frames 0 c.args.txn_id c.self.inside.cells.cells (sym (c.self.invariant.places c.args.txn_id) ∙ ap places_in none)
 
 pub returns-clause-fresh : goal.returns-clause-fresh
 returns-clause-fresh c =
     let none = not_found c.self.inside.index.entries c.args.txn_id (ap (λ log. is_opened log c.args.txn_id) c.self.view_is ∙ c.requires) in
-    no_frames 0 c.args.txn_id c.self.inside.cells.items (sym (c.self.invariant.places c.args.txn_id) ∙ ap places_in none)
+    no_frames 0 c.args.txn_id c.self.inside.cells.cells (sym (c.self.invariant.places c.args.txn_id) ∙ ap places_in none)

@@ -1,22 +1,27 @@
-use Rattle.std.proofs.Common.{◌≡◌, ◌+◌, ap, sym, refl, zero-add, ◌∙◌, cond, length, Some}
-use Rattle.std.specs.Prelude.{count_by, is_some, slice_get, slice_set}
-use Rattle.std.proofs.lemmas.Option.{slice_get_read}
+use Rattle.std.proofs.Common.{arith, ◌≡◌, ◌+◌, ◌^◌, ◌<◌, ap, sym, subst, zero-add, ◌∙◌, cond}
+use Rattle.std.specs.Prelude.{count_by, is_some}
 use Rattle.amqp_txn_types.specs.Ids.{same_id}
-use Rattle.amqp_arrivals.specs.declared.cell.Cell.TheVariants as cells
 use Rattle.amqp_arrivals.specs.Cells.{Log, is_dead_cell, places_from, work_at, work_in}
 use Rattle.amqp_arrivals.specs.Index.{without_place}
+use Rattle.amqp_arrivals.proofs.Frames.{dead-fits}
 use Rattle.amqp_arrivals.proofs.Placed.{places-taken, dead-taken, work-below}
 use Rattle.amqp_arrivals.proofs.log.ArrivalLog.take.Goals as goal
 
+pub overflow_add-self : goal.overflow_add-self
+overflow_add-self g c =
+    let cs = c.self.inside.cells.cells in
+    let small : c.self.inside.dead + 1 < 2 ^ 64 = subst (λ n. n + 1 < 2 ^ 64) (sym c.self.invariant.gone) (dead-fits c.args.place c.take-txn_id.result.0 c.take-txn_id.result.1 cs c.take-txn_id.ensures.taken c.take-txn_id.ensures.small) in
+    omega (arith, small)
+
 pub invariant_of-self : goal.invariant_of-self
 invariant_of-self g c =
-    let cs = c.self.inside.cells.items in
+    let cs = c.self.inside.cells.cells in
     let i = c.args.place in
-    let id = c.in-Live.txn_id in
-    let work = c.in-Live.work in
-    let below = work-below cs i (ap (λ (log : Log). is_some (work_at log.cells i)) c.self.view_is ∙ c.requires) in
-    let at : slice_get cs i ≡ Some (cells.Live c.in-Live.txn_id c.in-Live.work) = slice_get_read cs (length cs) i c.index_mut.result.now refl below c.index_mut.ensures.value ∙ ap Some (sym c.replace.ensures.value ∙ c.in-Live.is) in
-    let after = ap (λ x. slice_set cs i x) c.replace.ensures.after in
+    let id = c.take-txn_id.result.0 in
+    let work = c.take-txn_id.result.1 in
+    let at = c.take-txn_id.ensures.taken in
+    let below = work-below cs i (ap (λ o. is_some (work_in o)) at) in
+    let after = c.take-txn_id.ensures.cells in
     record {
       places = λ t.
           c.drop_place.ensures.places t
@@ -28,9 +33,4 @@ invariant_of-self g c =
     }
 
 pub returns-clause-work : goal.returns-clause-work
-returns-clause-work g c =
-    let cs = c.self.inside.cells.items in
-    let i = c.args.place in
-    let below = work-below cs i (ap (λ (log : Log). is_some (work_at log.cells i)) c.self.view_is ∙ c.requires) in
-    let at : slice_get cs i ≡ Some (cells.Live c.in-Live.txn_id c.in-Live.work) = slice_get_read cs (length cs) i c.index_mut.result.now refl below c.index_mut.ensures.value ∙ ap Some (sym c.replace.ensures.value ∙ c.in-Live.is) in
-    sym (ap work_in at) ∙ ap (λ (log : Log). work_at log.cells i) c.self.view_is
+returns-clause-work g c = sym (ap work_in c.take-txn_id.ensures.taken) ∙ ap (λ (log : Log). work_at log.cells c.args.place) c.self.view_is

@@ -4,4 +4,4 @@ use Rattle.amqp_resource.proofs.Going.{kept_live}
 use Rattle.amqp_resource.proofs.session.TxnSession.is_live.Goals as goal
 
 pub returns-clause-as_record : goal.returns-clause-as_record
-returns-clause-as_record g c r s = c.has_id.ensures ∙ kept_live (held_of c.args.self.now) r c.args.txn_id.now s
+returns-clause-as_record g c r s = c.is_live.ensures ∙ kept_live (held_of c.args.self.now) r c.args.txn_id.now s

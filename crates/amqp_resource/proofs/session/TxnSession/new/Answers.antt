@@ -3,4 +3,4 @@ use Rattle.amqp_resource.proofs.Standing.{stands-new}
 use Rattle.amqp_resource.proofs.session.TxnSession.new.Goals as goal
 
 pub returns-clause-stands : goal.returns-clause-stands
-returns-clause-stands g c = stands-new _ c.new.ensures.empty c.new-2.ensures.empty refl
+returns-clause-stands g c = stands-new _ c.new.ensures.kept c.new-2.ensures.empty refl

@@ -1,7 +1,7 @@
 use Rattle.std.proofs.Common.{ap}
 use Rattle.amqp_resource.proofs.Parts.{step_answer, step_stands, step_taken, step_part, step_opened, opened_none, step_refused, step_last, step_unknown, step_unknown_only, step_cause, step_attach, step_memory, cause_attach, cause_rose, cause_ended, cause_first, no_call_weaker}
 use Rattle.amqp_resource.proofs.Complete.{complete, drew_next}
-use Rattle.amqp_resource.proofs.session.TxnSession.step.Goals as goal
+use Rattle.amqp_resource.proofs.session.TxnSession.step_counted.Goals as goal
 
 pub returns-clause-answer : goal.returns-clause-answer
 returns-clause-answer g c e r s = step_answer _ _ _ r _ _ (c.take_step-result.ensures.goes r s)
@@ -69,3 +69,12 @@ returns-clause-dead g c e f u = let kept = c.take_step-result.ensures.keeps f in
 
 pub returns-clause-attach_rose : goal.returns-clause-attach_rose
 returns-clause-attach_rose g c = cause_attach _ _ _ _ c.take_step-result.ensures.cause
+
+pub returns-clause-looks : goal.returns-clause-looks
+returns-clause-looks g c = c.take_step-result.ensures.pays.ended
+
+pub returns-clause-few : goal.returns-clause-few
+returns-clause-few g c e = c.take_step-result.ensures.few
+
+pub returns-clause-dues : goal.returns-clause-dues
+returns-clause-dues g c = c.take_step-result.ensures.pays.all

@@ -1,25 +1,28 @@
-use Rattle.std.proofs.Common.{rules, ap, sym, ◌∙◌, refl, ℕ, suc, ◌+◌, ◌<◌, List, ◌++◌, ◌∷◌, [], ◌≡◌, arith, length, take, drop, set}
+use Rattle.std.proofs.Common.{rules, ap, sym, ◌∙◌, refl, ℕ, suc, ◌+◌, ◌<◌, ◌≤◌, List, ◌++◌, ◌∷◌, [], ◌≡◌, arith, length, take, drop, set}
 use Rattle.std.proofs.Math.ListN.{length-set}
 use Rattle.amqp_record.specs.declared.entry.Entry.{Entry}
 use Rattle.amqp_record.specs.declared.step.Step.{Step}
 use Rattle.amqp_record.specs.Entries.{steps_of}
 use Rattle.amqp_resource.specs.Steps.{entry_of}
 use Rattle.amqp_resource.specs.Session.{held_of, below_of, stop_of}
-use Rattle.amqp_resource.specs.Drive.{Left}
-use Rattle.amqp_resource.proofs.Filling.{filled_more, left_at, same_at, steps_filled, steps_waiting}
+use Rattle.amqp_resource.specs.Drive.{Left, work_count}
+use Rattle.amqp_resource.proofs.Filling.{filled_all, filled_more, left_at, same_at, steps_filled, steps_waiting}
+use Rattle.amqp_resource.proofs.Going.{emptied}
 use Rattle.amqp_resource.proofs.Keeping.{fits-stands}
+use Rattle.amqp_resource.proofs.Looked.{step_spends, work_more}
 use Rattle.amqp_resource.proofs.Parts.{end_is, no_call_weaker}
 use Rattle.amqp_resource.proofs.Running.{Broke, broke_cause, broke_ended, broke_refused, broke_took, broke_unknown, failed, ran-more, ran-nil, steps-first, stops_by}
-use Rattle.amqp_resource.proofs.driving.drive.Given.{Over}
-use Rattle.amqp_resource.proofs.driving.drive.Goals as goal
+use Rattle.amqp_resource.proofs.driving.drive_counted.Given.{Over}
+use Rattle.amqp_resource.proofs.driving.drive_counted.Goals as goal
 
 pub loop-at-init : goal.loop-at-init
 loop-at-init g c = record {
   runs = c.requires.runs;
-  ran = ran-nil (g.S.Tells.told (below_of c.args.session.now)) (g.G.IdSource.next c.args.ids.now) (held_of c.args.session.now) c.requires.stands;
+  ran = ran-nil (g.S.Tells.told (below_of c.args.session.now)) (g.G.IdSource.next c.args.ids.now) _ (emptied (held_of c.args.session.now) c.new.result c.requires.stands c.new.ensures.kept);
   start = refl;
   steps = ap steps_of c.into_entries-entries.ensures ∙ steps_waiting c.args.steps;
   count = search rules;
+  looks = omega (arith, c.new.ensures.owed, c.new.ensures.frames);
 }
 
 pub loop-at-preserved : goal.loop-at-preserved
@@ -32,15 +35,15 @@ loop-at-preserved g c =
     let new : Entry = c.fill_in.new.entry in
     let here : at < length es = omega (arith, c.loop-at-test.true, c.loop-at.invariant.count) in
     let filled : new ≡ e =
-        c.fill_in.ensures
-        ∙ ap (λ (x : Entry). entry_of x.step c.in-Ok.drawn c.in-Ok.reply) (same_at es at c.index_mut.result.now old here c.index_mut.ensures.value c.index.ensures) in
+    c.fill_in.ensures
+    ∙ ap (λ (x : Entry). entry_of x.step c.in-Ok.drawn c.in-Ok.reply) (same_at es at c.index_mut.result.now old here c.index_mut.ensures.value c.index.ensures) in
     let more : take (at + 1) (set es at new) ≡ r ++ e ∷ [] = filled_more es at new here ∙ ap (λ (x : Entry). r ++ x ∷ []) filled in
     let runs = c.loop-at.invariant.runs in
     let stands = c.loop-at.invariant.ran.stands in
     let said = c.in-Ok.ensures in
     record {
       runs = said.stops runs;
-      ran = rw more (ran-more _ _ _ _ _ _ (held_of c.loop-at.session) (held_of c.step.new.self) r old.step c.in-Ok.drawn c.in-Ok.reply c.loop-at.invariant.ran
+      ran = rw more (ran-more _ _ _ _ _ _ (held_of c.loop-at.session) (held_of c.step_counted.new.self) r old.step c.in-Ok.drawn c.in-Ok.reply c.loop-at.invariant.ran
           (record {
             stands = said.stands runs r stands;
             taken = said.taken runs r stands;
@@ -54,10 +57,11 @@ loop-at-preserved g c =
       start = said.start ∙ c.loop-at.invariant.start;
       steps = steps_filled es at new old (ap (λ (x : Entry). x.step) filled) c.index.ensures ∙ c.loop-at.invariant.steps;
       count = length-set es at new ∙ c.loop-at.invariant.count;
+      looks = omega (arith, c.loop-at.invariant.looks, said.dues, ap work_count more ∙ work_more r e);
     }
 
 -- what the step that stopped the run leaves
-broke : (g : Over) (c : goal.After-driven g) → Broke (held_of c.step.new.self) (g.S.Tells.told (below_of c.loop-at.session)) (g.S.Tells.told (below_of c.step.new.self)) (take c.loop-at.at c.loop-at.entries.items) c.index.result.now.step c.in-Err.error (stop_of c.step.new.self)
+broke : (g : Over) (c : goal.After-driven g) → Broke (held_of c.step_counted.new.self) (g.S.Tells.told (below_of c.loop-at.session)) (g.S.Tells.told (below_of c.step_counted.new.self)) (take c.loop-at.at c.loop-at.entries.items) c.index.result.now.step c.in-Err.error (stop_of c.step_counted.new.self)
 broke g c =
     let r : List Entry = take c.loop-at.at c.loop-at.entries.items in
     let runs = c.loop-at.invariant.runs in
@@ -75,7 +79,7 @@ broke g c =
       ended = λ reason is. end_is _ _ reason (said.ended runs) is;
       ended_only = said.ended_only;
       memory = said.memory runs r stands;
-      own = no_call_weaker c.index.result.now.step (failed c.in-Err.error) (below_of c.step.new.self ≡ below_of c.loop-at.session) _ (ap g.S.Tells.told) said.untouched;
+      own = no_call_weaker c.index.result.now.step (failed c.in-Err.error) (below_of c.step_counted.new.self ≡ below_of c.loop-at.session) _ (ap g.S.Tells.told) said.untouched;
       later = said.later;
       fixed = said.fixed;
       stops = said.stops runs;
@@ -123,3 +127,15 @@ returns-in-Err-clause-fits g c = c.in-Err.ensures.fits (fits-stands (held_of c.l
 
 pub returns-clause-fits : goal.returns-clause-fits
 returns-clause-fits g c = fits-stands (held_of c.loop-at.session) (take c.loop-at.at c.loop-at.entries.items) c.loop-at.invariant.ran.stands
+
+pub returns-in-Err-clause-looks : goal.returns-in-Err-clause-looks
+returns-in-Err-clause-looks g c =
+    let said = c.in-Err.ensures in
+    let spent = step_spends (held_of c.loop-at.session) c.index.result.now.step (held_of c.loop-at.session).work (held_of c.step_counted.new.self).work c.loop-at.looks c.step_counted.new.looks (record { ended = said.looks; all = said.dues }) in
+    rw (c.driven.ensures, c.truncate.ensures.items) (omega (arith, c.loop-at.invariant.looks, spent))
+
+pub returns-clause-looks : goal.returns-clause-looks
+returns-clause-looks g c =
+    let es = c.loop-at.entries.items in
+    let done : length es ≤ c.loop-at.at = omega (arith, c.loop-at-test.false, c.loop-at.invariant.count) in
+    rw c.driven-2.ensures (omega (arith, c.loop-at.invariant.looks, ap work_count (filled_all es c.loop-at.at done)))

@@ -1,0 +1,85 @@
+//! What a session keeps as one value: that its calls succeed where there is memory, and its clauses,
+//! seen on small values.
+
+ghost use Rattle.std.specs.Prelude.{◌≡◌, ◌<◌};
+
+use crate::values::{id, number_of, work};
+use amqp_arrivals::{LiveWork, Looks};
+use std::marker::Brand;
+use std::process::Abort;
+use std::sync::ledger::{Blank, Ledger};
+use std::test::Fail;
+
+fn add<R: Abort>(rt: &R, live: &mut LiveWork, octet: u8, home: Option<u64>) -> Result<(), Fail> {
+    let txn_id = id(octet);
+    live.make_room()?;
+    assert!(rt; !live.is_live(&txn_id));
+    live.add(txn_id, home);
+    assert!(rt; live.is_live(&txn_id));
+    Ok(())
+}
+
+fn keep<R: Abort>(rt: &R, live: &mut LiveWork, octet: u8, number: u32) -> Result<(), Fail> {
+    let txn_id = id(octet);
+    assert!(rt; live.is_live(&txn_id));
+    match live.keep(&txn_id, work(number)) {
+        Ok(()) => Ok(()),
+        Err(unkept) => Err(Fail::from(unkept.1)),
+    }
+}
+
+/// Works 1 to 3: the odd ones under the id 1, of the link 7, and the even one under the id 2, of no
+/// link.
+fn two_ids<R: Abort>(rt: &R, live: &mut LiveWork) -> Result<(), Fail> {
+    add(rt, live, 1, Some(7))?;
+    add(rt, live, 2, None)?;
+    keep(rt, live, 1, 1)?;
+    keep(rt, live, 2, 2)?;
+    keep(rt, live, 1, 3)
+}
+
+#[test]
+fn new_value_keeps_nothing(rt: HostRuntime) {
+    let live = LiveWork::new(rt.alloc());
+    assert!(rt; live.is_empty());
+    assert_eq!(rt; live.home(&id(1)), None);
+    assert_eq!(rt; live.count(&id(1)), 0);
+    assert_eq!(rt; live.owed(), 0);
+}
+
+#[test]
+fn ids_have_their_links(rt: HostRuntime) -> Result<(), Fail> {
+    let mut live = LiveWork::new(rt.alloc());
+    two_ids(&rt, &mut live)?;
+    assert_eq!(rt; live.home(&id(1)), Some(Some(7)));
+    assert_eq!(rt; live.home(&id(2)), Some(None));
+    assert_eq!(rt; live.home(&id(3)), None);
+    assert_eq!(rt; live.len(), 2);
+    assert_eq!(rt; live.count(&id(1)), 2);
+    assert_eq!(rt; live.frame_count(), 3);
+    Ok(())
+}
+
+fn drops<L: Ledger, R: Abort>(rt: &R, live: &mut LiveWork, blank: Blank)
+    requires name { blank.name ≡ L.name }
+    requires parts { blank.parts ≡ L.parts }
+    requires some { 0 < blank.parts }
+{
+    let mut looks = Looks::<L>::new(blank);
+    assert_eq!(rt; number_of(live.take_first(&id(1), &mut looks)), Some(1));
+    live.drop_all(&id(1), &mut looks);
+    assert!(rt; !live.is_live(&id(1)));
+    assert_eq!(rt; live.frame_count(), 1);
+    assert_eq!(rt; live.owed(), 2);
+    live.settle(&mut looks);
+    assert_eq!(rt; live.owed(), 0);
+    assert_eq!(rt; number_of(live.take_first(&id(2), &mut looks)), Some(2));
+}
+
+#[test]
+fn dropped_id_leaves_the_other(rt: HostRuntime) -> Result<(), Fail> {
+    let mut live = LiveWork::new(rt.alloc());
+    two_ids(&rt, &mut live)?;
+    drops::<Brand, HostRuntime>(&rt, &mut live, Blank::new(1));
+    Ok(())
+}

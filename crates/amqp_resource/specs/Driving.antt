@@ -1,0 +1,56 @@
+-- What driving a list of steps gives.
+use Rattle.std.specs.Prelude.{ℕ, ◌≡◌, ◌≤◌, ◌↔◌, Option, Some, List, length, take}
+use Rattle.amqp_txn_types.specs.declared.id.TransactionId.{TransactionId}
+use Rattle.amqp_txn_types.specs.declared.delivery.SessionStopReason.{SessionStopReason}
+use Rattle.amqp_txn_types.specs.Growing.{grown}
+use Rattle.amqp_layer.specs.declared.inner_error.SessionInnerError.TheVariants as faults
+use Rattle.amqp_layer.specs.Told.{Told}
+use Rattle.amqp_ids.specs.Ids.{Drew}
+use Rattle.amqp_record.specs.declared.step.Step.{Step}
+use Rattle.amqp_record.specs.declared.stop.Driven.{Driven}
+use Rattle.amqp_record.specs.declared.stop.Stop.TheVariants as stops
+use Rattle.amqp_record.specs.Entries.{drawn_of, steps_of}
+use Rattle.amqp_record.specs.Legal.{IsLegal}
+use Rattle.amqp_record.specs.Opened.{opens}
+use Rattle.amqp_resource.specs.declared.session.TxnSession.{TxnSession}
+use Rattle.amqp_resource.specs.Drive.{NextStep, RunLeaves, RunRefused, RunRose, RunTook, StopCause, StopsWith}
+use Rattle.amqp_resource.specs.Steps.{UnderDead, ended_by}
+use Rattle.amqp_resource.specs.Session.{FitsTogether, told_of}
+
+-- the clauses of a run of these steps, each by its name
+pub record DriveSays {S G : Type 0} (told : S → Told) (next : G → ℕ → TransactionId)
+    (starts : G → Option (ℕ → TransactionId)) (old new : TxnSession S) (before after : G)
+    (all : List Step) (result : Driven) : Type 0 where
+  -- The record: each entry is an answer of those before it, to the first of the steps, with the
+  -- source's next ids.
+  pub legal : IsLegal result.entries
+  pub at : result.at ≡ length result.entries
+  pub steps : steps_of result.entries ≡ take result.at all
+  pub drew : Drew (next before) (next after) (drawn_of result.entries)
+  pub start : starts after ≡ starts before
+  -- The stop: Done exactly where every step has its entry, and each other one by the next step.
+  pub done : (result.stop ≡ stops.Done) ↔ (steps_of result.entries ≡ all)
+  pub cause : StopCause all result.entries result.stop
+  pub unknown : NextStep all result.entries (λ s. UnderDead result.entries s) →
+      result.stop ≡ stops.Fault faults.UnknownTxnId
+  pub ended : (reason : SessionStopReason) → NextStep all result.entries
+      (λ s. ended_by s ≡ Some reason) →
+      StopsWith result.stop (stops.Ended reason)
+  -- What below took, opened and refused, after what it had before.
+  pub taken : RunTook (told_of told old).taken (told_of told new).taken
+      all result.entries result.stop result.handed
+  pub opened : (told_of told new).opened
+      ≡ grown (told_of told old).opened (opens result.entries)
+  pub refused : RunRefused (told_of told old).refused
+      (told_of told new).refused
+      all result.entries result.stop result.handed
+  -- Each refusal that was answered was counted, as long as the count can rise.
+  pub rose : RunRose (told_of told old).refusals
+      (told_of told new).refusals
+      result.entries result.stop
+  pub later : (told_of told old).refusals ≤ (told_of told new).refusals
+  pub fixed : (told_of told new).fixed ≡ (told_of told old).fixed
+  -- The session stands for the record, or keeps the code of its stop, and what it keeps fits
+  -- together.
+  pub leaves : RunLeaves new result.entries result.stop
+  pub fits : FitsTogether new

@@ -1,0 +1,101 @@
+-- What a step leaves of a session, by its answer.
+use Rattle.std.specs.Prelude.{ℕ, ◌≡◌, ◌≤◌, Option, Some, None, Result, Err, List, [], ◌∷◌, ◌++◌, true, IfSome, IfOk, IfErr, OnErr}
+use Rattle.amqp_txn_types.specs.declared.id.TransactionId.{TransactionId}
+use Rattle.amqp_txn_types.specs.Counts.{Rose}
+use Rattle.amqp_layer.specs.declared.inner_error.SessionInnerError.TheVariants as faults
+use Rattle.amqp_layer.specs.Told.{Told}
+use Rattle.amqp_ids.specs.Drawn.{DrawnIds}
+use Rattle.amqp_ids.specs.Ids.{Drew}
+use Rattle.amqp_record.specs.declared.step.Step.{Step}
+use Rattle.amqp_record.specs.declared.reply.Reply.{Reply}
+use Rattle.amqp_record.specs.declared.entry.Entry.{Entry}
+use Rattle.amqp_record.specs.declared.stop.StepError.{StepError}
+use Rattle.amqp_record.specs.declared.stop.StepError.TheVariants as errors
+use Rattle.amqp_record.specs.Answers.{Answer}
+use Rattle.amqp_resource.specs.declared.session.TxnSession.{TxnSession}
+use Rattle.amqp_resource.specs.Steps.{entry_of, ended_by, takes_memory, AnswersEnd, IfEnded, IfRefused, IfUnknown, IsControlAttach, IsFirstStop, MayFault, OnAttachRefused, OnNoMemory, OnNoCall, OpenedBy, RefusedAdds, RefusedBy, TookFirst, TookHands, UnderDead}
+use Rattle.amqp_resource.specs.Complete.{InOrder, Completed}
+use Rattle.amqp_resource.specs.Keeping.{AnswerKeeps, UnderUnkept}
+use Rattle.amqp_resource.specs.Session.{FitsTogether, ForEachRecord, SameSession, StandsFor, StopAfter, below_of, held_of, refusals_of, stop_of, told_of}
+
+-- the clauses of a step, each by its name: on a session over a layer that tells this, with a source
+-- that gives these ids
+pub record StepSays {S G : Type 0} (told : S → Told) (next : G → ℕ → TransactionId)
+    (starts : G → Option (ℕ → TransactionId)) (old new : TxnSession S) (before after : G) (s : Step)
+    (result : Result (DrawnIds × Reply) StepError) : Type 0 where
+  -- A stopped session answers with the code of its first stop, and nothing changes.
+  pub stopped : IfSome (stop_of old) (λ code.
+      (result ≡ Err (errors.Stopped code)) × (new ≡ old) × (after ≡ before))
+  pub runs : stop_of old ≡ None → IfErr result IsFirstStop
+  -- The reply is an answer of the record to the step with the ids drawn, and the session then
+  -- stands for the record with this entry.
+  pub answer : ForEachRecord old (λ r. IfOk result
+      (λ out. Answer r s out.0.ids out.1))
+  pub stands : ForEachRecord old (λ r. IfOk result (λ out.
+      StandsFor new (r ++ entry_of s out.0 out.1 ∷ [])))
+  -- Below took exactly what the step hands, each frame with what the reply says was given
+  -- back; where it refused, the first of them.
+  pub taken : ForEachRecord old (λ r. IfOk result (λ out.
+      TookHands (told_of told old) (told_of told new) r s out.1))
+  pub handed : ForEachRecord old (λ r. IfRefused result (λ error handed.
+      TookFirst (told_of told old) (told_of told new) r s handed))
+  -- What below opened and refused.
+  pub opened : ForEachRecord old (λ r. IfOk result (λ out.
+      OpenedBy (told_of told old) (told_of told new) s out.1))
+  pub opened_none : ForEachRecord old (λ r. OnErr result
+      ((told_of told new).opened ≡ (told_of told old).opened))
+  pub refused : ForEachRecord old (λ r. IfOk result (λ out.
+      RefusedBy (told_of told old) (told_of told new) s out.1))
+  pub refused_last : ForEachRecord old (λ r. IfRefused result (λ error handed.
+      RefusedAdds (told_of told old) (told_of told new) r s error
+      handed))
+  -- An unknown id is the fault of work under an id that isn't live, and of nothing else.
+  pub unknown : ForEachRecord old (λ r.
+      UnderDead r s → result ≡ Err (errors.Fault faults.UnknownTxnId 0))
+  pub unknown_only : ForEachRecord old (λ r. IfUnknown result (λ handed.
+      UnderDead r s × (handed ≡ 0)))
+  -- Every other fault is a refusal below, of a step that makes a call there.
+  pub refusal : ForEachRecord old (λ r. IfRefused result
+      (λ error handed. MayFault r s))
+  pub refusal_rose : IfRefused result (λ error handed.
+      Rose (told_of told old).refusals (told_of told new).refusals)
+  pub attach_refused : ForEachRecord old (λ r. OnAttachRefused result
+      (Rose (told_of told old).refusals (told_of told new).refusals
+      × IsControlAttach s))
+  -- An end is answered with its own value; a copy of its error may want memory.
+  pub ended : stop_of old ≡ None → AnswersEnd (ended_by s) result
+  pub ended_only : IfEnded result (λ reason. ended_by s ≡ Some reason)
+  -- Want of memory leaves the session as it was, standing for what it stood for, and comes of
+  -- no step that takes none.
+  pub same : OnNoMemory result (SameSession old new)
+  pub memory : ForEachRecord old (λ r. OnNoMemory result
+      (StandsFor new r × (takes_memory r s ≡ true)))
+  -- An error that isn't a refusal below makes no call there. The count of refusals never
+  -- falls.
+  pub untouched : OnNoCall s result (below_of new ≡ below_of old)
+  pub later : (told_of told old).refusals ≤ (told_of told new).refusals
+  pub fixed : (told_of told new).fixed ≡ (told_of told old).fixed
+  -- On every session that runs and whose parts fit together, also one that stands for no
+  -- record: the answer by what is kept, what it leaves of each id and of the links, and what
+  -- was done below.
+  pub fits : FitsTogether old → FitsTogether new
+  pub keeps : stop_of old ≡ None → FitsTogether old
+      → AnswerKeeps (held_of old) (held_of new)
+      (told_of told old) (told_of told new) s result
+  pub dead : stop_of old ≡ None → FitsTogether old
+      → UnderUnkept (held_of old) s →
+      result ≡ Err (errors.Fault faults.UnknownTxnId 0)
+  pub attach_rose : OnAttachRefused result
+      (Rose (told_of told old).refusals (told_of told new).refusals)
+  -- The count of its own calls, those of its traits, has no part in it.
+  pub refusals : refusals_of new ≡ refusals_of old
+  -- The stop that is kept.
+  pub stops : stop_of old ≡ None → StopAfter result (stop_of new)
+  -- The ids drawn are the source's next ones, and every error leaves the source.
+  pub drew : IfOk result (λ out. Drew (next before) (next after) out.0.ids)
+  pub source : OnErr result (after ≡ before)
+  pub start : starts after ≡ starts before
+  -- A valid step during which no refusal is counted does what was asked, or wants memory.
+  pub complete : ForEachRecord old (λ r. (n : List TransactionId) →
+      InOrder (told_of told old).refusals (told_of told new).refusals
+      (next before) r s n → Completed result)
