@@ -1,8 +1,7 @@
 -- Where an id was declared.
-use Rattle.std.proofs.Common.{◌≡◌, ℕ, ◌<◌, Bool, true, false, cond, Option, Some, None, List, [], ◌∷◌, ◌++◌, length, refl, sym, ◌∙◌, ap, subst}
+use Rattle.std.proofs.Common.{◌≡◌, ℕ, Bool, true, false, Option, Some, None, List, [], ◌∷◌, ◌++◌, length, refl, sym, ◌∙◌, ap}
 use Rattle.std.specs.Prelude.{slice_get}
 use Rattle.amqp_txn_types.specs.declared.id.TransactionId.{TransactionId}
-use Rattle.amqp_txn_types.specs.declared.performatives.Frame.{Frame}
 use Rattle.amqp_record.specs.declared.entry.Entry.{Entry}
 use Rattle.amqp_record.specs.declared.step.Step.{Step}
 use Rattle.amqp_record.specs.declared.step.Step.TheVariants as steps
@@ -11,14 +10,14 @@ use Rattle.amqp_record.specs.declared.reply.Reply.TheVariants as replies
 use Rattle.amqp_record.specs.Entries.{declares, reply_declares, step_link}
 use Rattle.amqp_record.specs.Links.{is_open}
 use Rattle.amqp_record.specs.Live.{home, is_live, is_open_at, since, undischarged, undischarged_from}
-use Rattle.amqp_record.specs.Homes.{DeclaredAt, DeclaredAtHome, DeclaresOn, HasOpenHome}
+use Rattle.amqp_record.specs.Homes.{DeclaredAt, DeclaredAtHome, HasOpenHome}
 use Rattle.amqp_record.specs.Answers.{Answer}
 use Rattle.amqp_record.specs.Legal.{IsLegal}
 use Rattle.amqp_record.proofs.Ids.{same_id-eq}
 use Rattle.amqp_record.proofs.Places.{slice_get-append, slice_get-at}
 use Rattle.amqp_record.proofs.Looking.{since-below, since-declared, since-other, home-declared, home-other}
 use Rattle.amqp_record.proofs.Living.{live_open, live_undischarged}
-use Rattle.amqp_record.proofs.Whole.{IsLegal-snoc, declared_control, legal_induction}
+use Rattle.amqp_record.proofs.Whole.{declared_control, legal_induction}
 
 open_home : (r : List Entry) (o : Option ℕ) → is_open_at r o ≡ true → (k : ℕ) × (o ≡ Some k) × (is_open r k ≡ true)
 open_home r None h = cc h

@@ -1,6 +1,6 @@
 -- What the lives of one transaction say of one another, and of others.
 use Rattle.std.proofs.Common.{◌≡◌, ℕ, suc, ◌+◌, ◌<◌, Bool, true, false, cond, not, ◌&&◌, Option, Some, None, List, [], ◌∷◌, ◌++◌, length, map, take, drop, refl, sym, ◌∙◌, ap, arith, append-nil, append_assoc, subst, take-append-drop}
-use Rattle.std.specs.Prelude.{slice_get, ◌==◌, ◌↔◌}
+use Rattle.std.specs.Prelude.{slice_get, ◌↔◌}
 use Rattle.std.specs.List.{flat_map, list_any}
 use Rattle.std.proofs.lemmas.Bool.{and_parts, ne_eqb, eqb-true, eq-eqb}
 use Rattle.std.proofs.lemmas.List.{length-append, length-map, length-take-le, map-append}

@@ -10,7 +10,6 @@ use Rattle.amqp_record.specs.declared.step.Step.TheVariants as steps
 use Rattle.amqp_record.specs.declared.reply.Reply.{Reply}
 use Rattle.amqp_record.specs.declared.reply.Reply.TheVariants as replies
 use Rattle.amqp_record.specs.Entries.{declares, discharges, reply_declares, step_discharges, is_under}
-use Rattle.amqp_record.specs.Links.{is_open}
 use Rattle.amqp_record.specs.Live.{since, home, undischarged, is_live, is_open_at, frame_places, frame_places_from, places_from}
 use Rattle.amqp_record.proofs.Places.{places_from-snoc}
 use Rattle.amqp_record.proofs.Looking.{since-other, since-below, home-other, undischarged-other}

@@ -6,15 +6,10 @@ use Rattle.std.specs.List.{list_all}
 use Rattle.amqp_layer.specs.Windows.{WindowFits, AllWindowsFit}
 use Rattle.amqp_txn_types.specs.Presumptive.{answered_under}
 use Rattle.amqp_txn_types.specs.declared.id.TransactionId.{TransactionId}
-use Rattle.amqp_txn_types.specs.declared.small.Role.TheVariants as roles
 use Rattle.amqp_txn_types.specs.declared.small.AmqpError.TheVariants as amqp_errors
 use Rattle.amqp_txn_types.specs.declared.small.TransactionError.TheVariants as transaction_errors
-use Rattle.amqp_txn_types.specs.declared.delivery.Outcome.TheVariants as outcomes
-use Rattle.amqp_txn_types.specs.declared.delivery.DeliveryState.TheVariants as states
-use Rattle.amqp_txn_types.specs.declared.performatives.Disposition.{Disposition}
 use Rattle.amqp_txn_types.specs.declared.performatives.Frame.{Frame}
-use Rattle.amqp_txn_types.specs.declared.performatives.Frame.TheVariants as frames
-use Rattle.amqp_txn_types.specs.Frames.{txn, is_coordinator_attach, is_transfer}
+use Rattle.amqp_txn_types.specs.Frames.{txn, is_coordinator_attach}
 use Rattle.amqp_txn_codec.specs.declared.message.ControlMessageBody.{ControlMessageBody}
 use Rattle.amqp_txn_codec.specs.declared.message.ControlMessageBody.TheVariants as messages
 use Rattle.amqp_txn_codec.specs.Reading.{message_of}

@@ -1,9 +1,8 @@
 -- What one entry of a record says by itself: an entry is a step, the ids that it drew, its reply.
 -- The sections named here and in the files that follow are those of part 4 of the standard
 -- (OASIS AMQP 1.0, Transactions).
-use Rattle.std.specs.Prelude.{ℕ, ◌==◌, Bool, true, false, Option, Some, None, List, map, nat_eq}
+use Rattle.std.specs.Prelude.{ℕ, ◌==◌, Bool, true, false, Option, Some, None, List, map}
 use Rattle.std.specs.List.{flat_map}
-use Rattle.std.specs.Cmp.Lexicographic.{pointwise}
 use Rattle.amqp_txn_types.specs.Ids.{same_id, is_some_id}
 use Rattle.amqp_txn_types.specs.declared.id.TransactionId.{TransactionId}
 use Rattle.amqp_txn_types.specs.Frames.{txn}

@@ -11,3 +11,4 @@ pub mod Stops
 pub mod Opened
 pub mod Others
 pub mod Texts
+pub mod Waiting

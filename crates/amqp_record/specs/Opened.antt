@@ -1,5 +1,5 @@
 -- What a record says that the layer below opened, and what it refused while the session went on.
-use Rattle.std.specs.Prelude.{ℕ, Bool, true, false, cond, List, [], ◌∷◌}
+use Rattle.std.specs.Prelude.{ℕ, Bool, true, false, List, [], ◌∷◌}
 use Rattle.std.specs.List.{flat_map, count_by}
 use Rattle.amqp_layer.specs.Told.{refusal_of}
 use Rattle.amqp_txn_types.specs.declared.performatives.Attach.{Attach}
@@ -7,7 +7,6 @@ use Rattle.amqp_txn_types.specs.declared.performatives.Frame.{Frame}
 use Rattle.amqp_txn_types.specs.declared.performatives.Frame.TheVariants as frames
 use Rattle.amqp_layer.specs.declared.inner_error.SessionInnerError.{SessionInnerError}
 use Rattle.amqp_layer.specs.declared.refusal.Refusal.{Refusal}
-use Rattle.amqp_layer.specs.Faults.{is_no_memory}
 use Rattle.amqp_record.specs.declared.step.Step.{Step}
 use Rattle.amqp_record.specs.declared.step.Step.TheVariants as steps
 use Rattle.amqp_record.specs.declared.reply.Reply.{Reply}

@@ -62,6 +62,7 @@ mod live_ids;
 mod open_links;
 mod reply;
 mod step;
+mod steps;
 mod stop;
 
 pub use answering::is_answer;
@@ -76,5 +77,6 @@ pub use legal_records::{is_entry_after, is_legal, work};
 pub use live_ids::{entries_since, home, is_held_on, is_live, since};
 pub use open_links::{is_open, links_attached};
 pub use reply::{RejectText, Reply};
-pub use step::{Step, Steps};
+pub use step::Step;
+pub use steps::Steps;
 pub use stop::{Driven, StepError, Stop, StopCode, code_of_end, code_of_fault};

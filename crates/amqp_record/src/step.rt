@@ -1,6 +1,6 @@
 //! What a session is asked to do.
 
-use amqp_txn_types::{ConnectionStopReason, Error, Frame, Items, NoMemory, Payload, TryClone};
+use amqp_txn_types::{ConnectionStopReason, Error, Frame, NoMemory, Payload, TryClone};
 
 /// One step of a session.
 #[derive(Debug, Drop, PartialEq)]
@@ -44,6 +44,3 @@ impl TryClone for Step {
 }
 
 const _: () = prove!(size_of::<Step>() <= 256);
-
-/// Steps, in order.
-pub type Steps = Items<Step>;

@@ -200,6 +200,40 @@ fn steps_and_replies_are_copied(rt: HostRuntime) -> Result<(), Fail> {
     Ok(())
 }
 
+/// The ends of links 0 and 1.
+fn two_ends(alloc: Global) -> Result<Steps, NoMemory> {
+    let mut steps = Steps::with_room(alloc, 2)?;
+    steps.append(Step::LinkEnd { link: 0 })?;
+    steps.append(Step::LinkEnd { link: 1 })?;
+    Ok(steps)
+}
+
+fn are_steps_copied(steps: &Steps) -> Result<bool, NoMemory> {
+    let copy = steps.try_clone()?;
+    let same = copy == *steps;
+    drop(copy);
+    Ok(same)
+}
+
+#[test]
+fn a_list_of_steps_is_copied(rt: HostRuntime) -> Result<(), Fail> {
+    let steps = two_ends(rt.alloc())?;
+    let copied = are_steps_copied(&steps);
+    let count = steps.len();
+    let entries = steps.into_entries();
+    assert_eq!(rt; entries.len(), count);
+    assert!(rt; copied?);
+    Ok(())
+}
+
+#[test]
+fn a_step_is_pushed(rt: HostRuntime) {
+    let mut steps = Steps::new(rt.alloc());
+    assert!(rt; steps.is_empty());
+    assert!(rt; steps.push(Step::LinkEnd { link: 7 }).is_ok());
+    assert!(rt; matches!(steps.get(0), Some(Step::LinkEnd { link: 7 })));
+}
+
 #[test]
 fn a_control_attach_is_not_plain(rt: HostRuntime) -> Result<(), Fail> {
     let frame = control_attach(rt.alloc())?;

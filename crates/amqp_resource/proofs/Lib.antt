@@ -10,3 +10,4 @@ pub mod Moved
 pub mod Looked
 pub mod Calling
 pub mod Heard
+pub mod Filling

@@ -35,7 +35,7 @@ use Rattle.amqp_resource.specs.Held.{Stands}
 use Rattle.amqp_layer.specs.Taking.{TookFrames}
 use Rattle.amqp_resource.specs.Steps.{IfAttachRefused, IfEnded, IfRefused, IfUnknown, IsControlAttach, IsFirstStop, MayFault, OnNoMemory, OnNoCall, OpenedBy, RefusedAdds, RefusedBy, TookFirst, TookHands, UnderDead, ended_by, entry_of, is_unknown, takes_memory}
 use Rattle.amqp_resource.specs.Session.{StopAfter, held_of, stop_of}
-use Rattle.amqp_resource.specs.Drive.{Left, NextStep, RunLeaves, RunRefused, RunRose, RunTook, StopCause, StopsBy, StopsWith, WantedMemory}
+use Rattle.amqp_resource.specs.Drive.{Left, NextStep, RunLeaves, RunRefused, RunRose, RunTook, StopCause, StopsBy, StopsWith}
 use Rattle.amqp_txn_types.proofs.Growing.{grown-grown, grown-nil}
 
 -- ---- the record that a run has made so far
@@ -189,7 +189,7 @@ pub broke_cause : (g : Held) (old new : Told) (r : List Entry) (s : Step) (error
 broke_cause g old new r s (errors.Fault error handed) kept all rest l b = (s, rest, l, pick (is_unknown error) (λ (x : UnderDead r s × (handed ≡ 0)). x.0) (λ (x : MayFault r s). x) b.unknown_only b.refusal)
 broke_cause g old new r s (errors.Ended reason) kept all rest l b = (s, rest, l, b.ended_only)
 broke_cause g old new r s (errors.Stopped code) kept all rest l b = absurd b.first
-broke_cause g old new r s errors.NoMemory kept all rest l b = inr (s, rest, l, b.memory.1)
+broke_cause g old new r s errors.NoMemory kept all rest l b = (s, rest, l, b.memory.1)
 
 pub broke_not_done : (g : Held) (old new : Told) (r : List Entry) (s : Step) (error : StepError) (kept : Option StopCode) → Broke g old new r s error kept → stop_by error ≡ stops.Done → ⊥
 broke_not_done g old new r s (errors.Fault error handed) kept b e = cc e
@@ -200,12 +200,12 @@ broke_not_done g old new r s errors.NoMemory kept b e = cc e
 pub broke_done : (g : Held) (old new : Told) (r : List Entry) (s : Step) (error : StepError) (kept : Option StopCode) (all rest : List Step) → Left all r (s ∷ rest) → Broke g old new r s error kept → (stop_by error ≡ stops.Done) ↔ (steps_of r ≡ all)
 broke_done g old new r s error kept all rest l b = (λ e. absurd (broke_not_done g old new r s error kept b e), λ e. absurd (more_left all rest r s l e))
 
-pub broke_unknown : (g : Held) (old new : Told) (r : List Entry) (s : Step) (error : StepError) (kept : Option StopCode) (all rest : List Step) → Left all r (s ∷ rest) → Broke g old new r s error kept → NextStep all r (λ x. UnderDead r x) → StopsWith (stop_by error) (stops.Fault faults.UnknownTxnId)
+pub broke_unknown : (g : Held) (old new : Told) (r : List Entry) (s : Step) (error : StepError) (kept : Option StopCode) (all rest : List Step) → Left all r (s ∷ rest) → Broke g old new r s error kept → NextStep all r (λ x. UnderDead r x) → stop_by error ≡ stops.Fault faults.UnknownTxnId
 broke_unknown g old new r s error kept all rest l b n =
     let here : n.0 ≡ s = same_next (steps_of r) n.1 rest n.0 s (sym n.2 ∙ l) in
     let said = b.unknown (subst (λ (x : Step). UnderDead r x) here n.3) in
     let same : error ≡ errors.Fault faults.UnknownTxnId 0 = cc said in
-    inl (ap stop_by same)
+    ap stop_by same
 
 pub broke_ended : (g : Held) (old new : Told) (r : List Entry) (s : Step) (error : StepError) (kept : Option StopCode) (all rest : List Step) → Left all r (s ∷ rest) → Broke g old new r s error kept → (reason : SessionStopReason) → NextStep all r (λ x. ended_by x ≡ Some reason) → StopsWith (stop_by error) (stops.Ended reason)
 broke_ended g old new r s error kept all rest l b reason n =
@@ -254,8 +254,3 @@ broke_leaves x old new r s errors.NoMemory b = (b.memory.0, b.stops)
 
 pub done_rose : (old new : Told) (f k : ℕ → TransactionId) (h : Held) (r : List Entry) → Ran old new f k h r → RunRose old.refusals new.refusals r stops.Done
 done_rose old new f k h r ran = rose-last old.refusals new.refusals new.refusals (attach_refused_count r) true ran.rose (omega arith) tt
-
--- a run that had no room has steps to make, and no entry
-pub no_room : (all : List Step) → (length all ≡ 0 → ⊥) → WantedMemory all []
-no_room [] n = absurd (n refl)
-no_room (s ∷ rest) n = inl (refl, (s, rest, refl, tt))

@@ -1,5 +1,5 @@
 -- What driving a list of steps leaves.
-use Rattle.std.specs.Prelude.{ℕ, ◌≡◌, ◌≤◌, ◌+◌, ◌-◌, ◌^◌, ◌⊎◌, Bool, true, false, not, min, ⊤, Option, Some, None, List, [], ◌∷◌, ◌++◌, length, take, MatchBool, if◌then◌else◌}
+use Rattle.std.specs.Prelude.{ℕ, ◌≡◌, ◌≤◌, ◌+◌, ◌-◌, ◌^◌, ◌⊎◌, Bool, true, false, not, min, Option, Some, None, List, [], ◌∷◌, ◌++◌, length, take, MatchBool, if◌then◌else◌}
 use Rattle.std.specs.List.{sum_by}
 use Rattle.amqp_txn_types.specs.declared.performatives.Frame.{Frame}
 use Rattle.amqp_layer.specs.declared.inner_error.SessionInnerError.{SessionInnerError}
@@ -44,18 +44,13 @@ abbrev pub IfRefusal : Stop → Type 0 → (SessionInnerError → Type 0) → Ty
 IfRefusal (stops.Fault error) P Q = MatchBool (is_unknown error) P (Q error)
 IfRefusal _ P Q = P
 
--- memory was wanted before the first entry, or by the next step, which takes some
-abbrev pub WantedMemory : List Step → List Entry → Type 0
-WantedMemory all r =
-    ((r ≡ []) × NextStep all r (λ s. ⊤)) ⊎ NextStep all r (λ s. takes_memory r s ≡ true)
-
 -- why the run stopped: every step has its entry, or the next step is what stopped it
 abbrev pub StopCause : List Step → List Entry → Stop → Type 0
 StopCause all r stops.Done = steps_of r ≡ all
 StopCause all r (stops.Fault error) =
     NextStep all r (λ s. MatchBool (is_unknown error) (UnderDead r s) (MayFault r s))
 StopCause all r (stops.Ended reason) = NextStep all r (λ s. ended_by s ≡ Some reason)
-StopCause all r stops.NoMemory = WantedMemory all r
+StopCause all r stops.NoMemory = NextStep all r (λ s. takes_memory r s ≡ true)
 
 -- what was taken: the pairs of the record, and after a refusal below the first frames of the next
 -- step's

@@ -32,7 +32,7 @@ pub record DriveSays {S G : Type 0} (told : S → Told) (next : G → ℕ → Tr
   pub done : (result.stop ≡ stops.Done) ↔ (steps_of result.entries ≡ all)
   pub cause : StopCause all result.entries result.stop
   pub unknown : NextStep all result.entries (λ s. UnderDead result.entries s) →
-      StopsWith result.stop (stops.Fault faults.UnknownTxnId)
+      result.stop ≡ stops.Fault faults.UnknownTxnId
   pub ended : (reason : SessionStopReason) → NextStep all result.entries
       (λ s. ended_by s ≡ Some reason) →
       StopsWith result.stop (stops.Ended reason)

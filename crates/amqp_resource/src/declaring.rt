@@ -50,7 +50,7 @@ pub fn global_step(
     ))
 }
 
-/// Draws up to 16 ids, to the first that isn't live.
+/// Draws up to 16 ids, to the first that isn't live, and gives back the room that is left then.
 fn draw_unused<G: IdSource>(
     work: &LiveWork,
     ids: &mut G,
@@ -67,6 +67,7 @@ fn draw_unused<G: IdSource>(
         let id = ids.draw();
         drawn.push(id);
         if !work.is_live(&id) {
+            drawn.trim();
             return Some(id);
         }
     }

@@ -11,15 +11,14 @@ ghost use Rattle.amqp_record.specs.Legal.{IsLegal};
 ghost use Rattle.amqp_record.specs.Opened.{opens};
 ghost use Rattle.amqp_resource.specs.Drive.{NextStep, RunLeaves, RunRefused, RunRose, RunTook, StopCause, StopsBy, StopsWith, work_count};
 ghost use Rattle.amqp_resource.specs.Driving.{DriveSays};
-ghost use Rattle.amqp_resource.specs.Steps.{IsFirstStop, UnderDead, ended_by};
+ghost use Rattle.amqp_resource.specs.Steps.{IsFirstStop, UnderDead, ended_by, entry_of};
 ghost use Rattle.amqp_resource.specs.Session.{FitsTogether, IsFresh, told_of};
 
 use crate::session::TxnSession;
 use amqp_arrivals::{LiveWork, Looks};
-use amqp_ids::IdSource;
+use amqp_ids::{Drawn, IdSource};
 use amqp_layer::LayerBelow;
-use amqp_record::{Driven, Entries, Entry, StepError, Steps, Stop};
-use std::collections::VecDeque;
+use amqp_record::{Driven, Entries, Entry, Reply, StepError, Steps, Stop};
 use std::marker::Brand;
 use std::sync::ledger::{Blank, Ledger};
 
@@ -54,7 +53,16 @@ fn driven(entries: Vec<Entry>, stop: Stop, handed: usize) -> Driven
     }
 }
 
-/// Makes the steps of a fresh session in order, until one isn't answered.
+/// Fills in what the step of an entry drew and was answered.
+fn fill_in(entry: &mut Entry, drawn: Drawn, reply: Reply)
+    ensures { entry.new ≡ entry_of entry.old.step drawn reply }
+{
+    entry.drawn = drawn;
+    entry.reply = reply;
+}
+
+/// Makes the steps of a fresh session in order, until one isn't answered. It takes no memory for
+/// the record: each entry stands where its step did.
 ///
 /// Its clauses are those of [`drive_counted`] but for the one on looks.
 pub fn drive<S: LayerBelow, G: IdSource>(
@@ -104,7 +112,7 @@ pub fn drive_counted<S: LayerBelow, G: IdSource, L: Ledger>(
     ensures done { (result.stop ≡ stops.Done) ↔ (steps_of result.entries ≡ steps) }
     ensures cause { StopCause steps result.entries result.stop }
     ensures unknown { NextStep steps result.entries (λ s. UnderDead result.entries s) →
-        StopsWith result.stop (stops.Fault faults.UnknownTxnId) }
+        result.stop ≡ stops.Fault faults.UnknownTxnId }
     ensures ended { (reason : SessionStopReason) → NextStep steps result.entries
         (λ s. ended_by s ≡ Some reason) →
         StopsWith result.stop (stops.Ended reason) }
@@ -132,15 +140,12 @@ pub fn drive_counted<S: LayerBelow, G: IdSource, L: Ledger>(
     let alloc = session.allocator();
     // Nothing is kept, so the log may as well be a new one, which owes no look.
     session.held.work = LiveWork::new(alloc);
-    let Ok(mut entries) = Vec::with_capacity(alloc, steps.len()) else {
-        return driven(Vec::new(alloc), Stop::NoMemory, 0);
-    };
-    let mut rest = VecDeque::from(steps.into_vec());
-    while let Some(step) = rest.pop_front() {
-        match session.step_counted(&step, ids, looks) {
-            Ok((drawn, reply)) => entries.push_reserved(Entry { step, drawn, reply }),
+    let mut entries = steps.into_entries();
+    for at in 0..entries.len() {
+        match session.step_counted(&entries[at].step, ids, looks) {
+            Ok((drawn, reply)) => fill_in(&mut entries[at], drawn, reply),
             Err(error) => {
-                drop(step);
+                entries.truncate(at);
                 let (stop, handed) = stop_by(error);
                 return driven(entries, stop, handed);
             }

@@ -16,8 +16,7 @@ pub(crate) fn made(alloc: Global, count: u32) -> Result<Steps, NoMemory>
     requires { count ≤ 20000 }
     ensures { IfOk result (λ steps. steps ≡ made count) }
 {
-    let mut steps = Steps::new(alloc);
-    steps.items.reserve(5 * count as usize + 1)?;
+    let mut steps = Steps::with_room(alloc, 5 * count as usize + 1)?;
     steps.append(made_attach(alloc)?)?;
     append_transactions(alloc, &mut steps, count)?;
     Ok(steps)

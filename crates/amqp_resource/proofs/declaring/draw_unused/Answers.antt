@@ -11,7 +11,7 @@ use Rattle.amqp_resource.proofs.declaring.draw_unused.Goals as goal
 pub returns-then-not-is_live-clause-drew : goal.returns-then-not-is_live-clause-drew
 returns-then-not-is_live-clause-drew g c =
     let P : List TransactionId → Type 0 = λ ds. Drew (g.G.IdSource.next c.args.ids.now) (g.G.IdSource.next c.draw-id.new.self) ds in
-    subst P (sym c.push.ensures.ids)
+    subst P (sym (c.trim.ensures.ids ∙ c.push.ensures.ids))
     (Drew-append (g.G.IdSource.next c.args.ids.now) (g.G.IdSource.next c.loop-turn.ids) (g.G.IdSource.next c.draw-id.new.self) c.loop-turn.drawn.ids (c.draw-id.result ∷ [])
     c.loop-turn.invariant.drew (Drew-one (g.G.IdSource.next c.loop-turn.ids) (g.G.IdSource.next c.draw-id.new.self) c.draw-id.result c.draw-id.ensures.drawn c.draw-id.ensures.rest))
 

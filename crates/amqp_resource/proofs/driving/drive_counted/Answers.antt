@@ -1,44 +1,49 @@
-use Rattle.std.proofs.Common.{ap, sym, ◌∙◌, refl, subst, List, ◌++◌, ◌∷◌, [], ◌≡◌, arith, length}
-use Rattle.std.proofs.lemmas.List.{length-append}
+use Rattle.std.proofs.Common.{rules, ap, sym, ◌∙◌, refl, ℕ, suc, ◌+◌, ◌<◌, ◌≤◌, List, ◌++◌, ◌∷◌, [], ◌≡◌, arith, length, take, drop, set}
+use Rattle.std.proofs.Math.ListN.{length-set}
 use Rattle.amqp_record.specs.declared.entry.Entry.{Entry}
 use Rattle.amqp_record.specs.declared.step.Step.{Step}
+use Rattle.amqp_record.specs.Entries.{steps_of}
 use Rattle.amqp_resource.specs.Steps.{entry_of}
 use Rattle.amqp_resource.specs.Session.{held_of, below_of, stop_of}
 use Rattle.amqp_resource.specs.Drive.{Left, work_count}
-use Rattle.amqp_resource.proofs.Parts.{end_is, no_call_weaker}
-use Rattle.amqp_resource.proofs.Running.{Broke, broke_cause, broke_ended, broke_refused, broke_took, broke_unknown, failed, left-more, no_room, ran-more, ran-nil, stops_by}
-use Rattle.amqp_resource.proofs.driving.drive_counted.Given.{Over}
-use Rattle.amqp_resource.proofs.Keeping.{fits-stands}
+use Rattle.amqp_resource.proofs.Filling.{filled_all, filled_more, left_at, same_at, steps_filled, steps_waiting}
 use Rattle.amqp_resource.proofs.Going.{emptied}
+use Rattle.amqp_resource.proofs.Keeping.{fits-stands}
 use Rattle.amqp_resource.proofs.Looked.{step_spends, work_more}
+use Rattle.amqp_resource.proofs.Parts.{end_is, no_call_weaker}
+use Rattle.amqp_resource.proofs.Running.{Broke, broke_cause, broke_ended, broke_refused, broke_took, broke_unknown, failed, ran-more, ran-nil, steps-first, stops_by}
+use Rattle.amqp_resource.proofs.driving.drive_counted.Given.{Over}
 use Rattle.amqp_resource.proofs.driving.drive_counted.Goals as goal
 
-pub loop-step-init : goal.loop-step-init
-loop-step-init g c =
-    let items : c.in-Ok.entries.items ≡ [] = c.in-Ok.ensures.items in
-    let all : c.from-rest.result.items ≡ c.args.steps = c.from-rest.ensures.0 ∙ c.into_vec.ensures in
-    record {
-      runs = c.requires.runs;
-      ran = rw items (ran-nil (g.S.Tells.told (below_of c.args.session.now)) (g.G.IdSource.next c.args.ids.now) _ (emptied (held_of c.args.session.now) c.new.result c.requires.stands c.new.ensures.kept));
-      start = refl;
-      left = rw items (sym all);
-      count = rw items (omega (arith, ap length all));
-      room = omega (arith, c.in-Ok.ensures.capacity, c.len.ensures);
-      looks = omega (arith, c.new.ensures.owed, c.new.ensures.frames);
-    }
+pub loop-at-init : goal.loop-at-init
+loop-at-init g c = record {
+  runs = c.requires.runs;
+  ran = ran-nil (g.S.Tells.told (below_of c.args.session.now)) (g.G.IdSource.next c.args.ids.now) _ (emptied (held_of c.args.session.now) c.new.result c.requires.stands c.new.ensures.kept);
+  start = refl;
+  steps = ap steps_of c.into_entries-entries.ensures ∙ steps_waiting c.args.steps;
+  count = search rules;
+  looks = omega (arith, c.new.ensures.owed, c.new.ensures.frames);
+}
 
-pub loop-step-preserved : goal.loop-step-preserved
-loop-step-preserved g c =
-    let r = c.loop-step.entries.items in
-    let e : Entry = entry_of c.in-Some.step c.in-Ok-step_counted.drawn c.in-Ok-step_counted.reply in
-    let runs = c.loop-step.invariant.runs in
-    let stands = c.loop-step.invariant.ran.stands in
-    let pushed : c.push_reserved.new.self.items ≡ r ++ e ∷ [] = c.push_reserved.ensures.items in
-    let popped : c.loop-step.rest.items ≡ c.in-Some.step ∷ c.pop_front.new.self.items = c.in-Some.ensures.items in
-    let said = c.in-Ok-step_counted.ensures in
+pub loop-at-preserved : goal.loop-at-preserved
+loop-at-preserved g c =
+    let es = c.loop-at.entries.items in
+    let at = c.loop-at.at in
+    let r : List Entry = take at es in
+    let old : Entry = c.index.result.now in
+    let e : Entry = entry_of old.step c.in-Ok.drawn c.in-Ok.reply in
+    let new : Entry = c.fill_in.new.entry in
+    let here : at < length es = omega (arith, c.loop-at-test.true, c.loop-at.invariant.count) in
+    let filled : new ≡ e =
+    c.fill_in.ensures
+    ∙ ap (λ (x : Entry). entry_of x.step c.in-Ok.drawn c.in-Ok.reply) (same_at es at c.index_mut.result.now old here c.index_mut.ensures.value c.index.ensures) in
+    let more : take (at + 1) (set es at new) ≡ r ++ e ∷ [] = filled_more es at new here ∙ ap (λ (x : Entry). r ++ x ∷ []) filled in
+    let runs = c.loop-at.invariant.runs in
+    let stands = c.loop-at.invariant.ran.stands in
+    let said = c.in-Ok.ensures in
     record {
       runs = said.stops runs;
-      ran = rw pushed (ran-more _ _ _ _ _ _ (held_of c.loop-step.session) (held_of c.step_counted.new.self) r c.in-Some.step c.in-Ok-step_counted.drawn c.in-Ok-step_counted.reply c.loop-step.invariant.ran
+      ran = rw more (ran-more _ _ _ _ _ _ (held_of c.loop-at.session) (held_of c.step_counted.new.self) r old.step c.in-Ok.drawn c.in-Ok.reply c.loop-at.invariant.ran
           (record {
             stands = said.stands runs r stands;
             taken = said.taken runs r stands;
@@ -49,19 +54,18 @@ loop-step-preserved g c =
             fixed = said.fixed;
           })
           said.drew);
-      start = said.start ∙ c.loop-step.invariant.start;
-      left = rw pushed (left-more c.args.steps r c.in-Some.step c.in-Ok-step_counted.drawn c.in-Ok-step_counted.reply c.pop_front.new.self.items (rw (← popped) c.loop-step.invariant.left));
-      count = omega (arith, ap length pushed, length-append r (e ∷ []), ap length popped, c.loop-step.invariant.count);
-      room = omega (arith, c.loop-step.invariant.room, c.push_reserved.ensures.capacity);
-      looks = omega (arith, c.loop-step.invariant.looks, said.dues, ap work_count pushed ∙ work_more r e);
+      start = said.start ∙ c.loop-at.invariant.start;
+      steps = steps_filled es at new old (ap (λ (x : Entry). x.step) filled) c.index.ensures ∙ c.loop-at.invariant.steps;
+      count = length-set es at new ∙ c.loop-at.invariant.count;
+      looks = omega (arith, c.loop-at.invariant.looks, said.dues, ap work_count more ∙ work_more r e);
     }
 
 -- what the step that stopped the run leaves
-broke : (g : Over) (c : goal.After-drop-rest g) → Broke (held_of c.step_counted.new.self) (g.S.Tells.told (below_of c.loop-step.session)) (g.S.Tells.told (below_of c.step_counted.new.self)) c.loop-step.entries.items c.in-Some.step c.in-Err.error (stop_of c.step_counted.new.self)
+broke : (g : Over) (c : goal.After-driven g) → Broke (held_of c.step_counted.new.self) (g.S.Tells.told (below_of c.loop-at.session)) (g.S.Tells.told (below_of c.step_counted.new.self)) (take c.loop-at.at c.loop-at.entries.items) c.index.result.now.step c.in-Err.error (stop_of c.step_counted.new.self)
 broke g c =
-    let r = c.loop-step.entries.items in
-    let runs = c.loop-step.invariant.runs in
-    let stands = c.loop-step.invariant.ran.stands in
+    let r : List Entry = take c.loop-at.at c.loop-at.entries.items in
+    let runs = c.loop-at.invariant.runs in
+    let stands = c.loop-at.invariant.ran.stands in
     let said = c.in-Err.ensures in
     record {
       first = said.runs runs;
@@ -75,67 +79,63 @@ broke g c =
       ended = λ reason is. end_is _ _ reason (said.ended runs) is;
       ended_only = said.ended_only;
       memory = said.memory runs r stands;
-      own = no_call_weaker c.in-Some.step (failed c.in-Err.error) (below_of c.step_counted.new.self ≡ below_of c.loop-step.session) _ (ap g.S.Tells.told) said.untouched;
+      own = no_call_weaker c.index.result.now.step (failed c.in-Err.error) (below_of c.step_counted.new.self ≡ below_of c.loop-at.session) _ (ap g.S.Tells.told) said.untouched;
       later = said.later;
       fixed = said.fixed;
       stops = said.stops runs;
     }
 
-left : (g : Over) (c : goal.After-drop-rest g) → Left c.args.steps c.loop-step.entries.items (c.in-Some.step ∷ c.pop_front.new.self.items)
+-- the steps from that one on
+abbrev rest : (g : Over) → goal.After-driven g → List Step
+rest g c = steps_of (drop (suc c.loop-at.at) c.loop-at.entries.items)
+
+left : (g : Over) (c : goal.After-driven g) → Left c.args.steps (take c.loop-at.at c.loop-at.entries.items) (c.index.result.now.step ∷ rest g c)
 left g c =
-    let popped : c.loop-step.rest.items ≡ c.in-Some.step ∷ c.pop_front.new.self.items = c.in-Some.ensures.items in
-    subst (λ (ss : List Step). Left c.args.steps c.loop-step.entries.items ss) popped c.loop-step.invariant.left
+    let here : c.loop-at.at < length c.loop-at.entries.items = omega (arith, c.loop-at-test.true, c.loop-at.invariant.count) in
+    left_at c.args.steps c.loop-at.entries.items c.loop-at.at c.index.result.now c.loop-at.invariant.steps here c.index.ensures
+
+pub returns-in-Err-clause-steps : goal.returns-in-Err-clause-steps
+returns-in-Err-clause-steps g c = rw (c.driven.ensures, c.truncate.ensures.items) (steps-first c.args.steps (c.index.result.now.step ∷ rest g c) (take c.loop-at.at c.loop-at.entries.items) (left g c))
 
 pub returns-in-Err-clause-cause : goal.returns-in-Err-clause-cause
 returns-in-Err-clause-cause g c =
     let by = stops_by c.in-Err.error c.stop_by-stop.result.0 c.stop_by-stop.result.1 c.stop_by-stop.ensures in
-    rw (c.driven-in-Err.ensures, by.0) (broke_cause _ _ _ c.loop-step.entries.items c.in-Some.step c.in-Err.error _ c.args.steps c.pop_front.new.self.items (left g c) (broke g c))
+    rw (c.driven.ensures, c.truncate.ensures.items, by.0) (broke_cause _ _ _ (take c.loop-at.at c.loop-at.entries.items) c.index.result.now.step c.in-Err.error _ c.args.steps (rest g c) (left g c) (broke g c))
 
 pub returns-in-Err-clause-unknown : goal.returns-in-Err-clause-unknown
 returns-in-Err-clause-unknown g c =
     let by = stops_by c.in-Err.error c.stop_by-stop.result.0 c.stop_by-stop.result.1 c.stop_by-stop.ensures in
-    rw (c.driven-in-Err.ensures, by.0) (broke_unknown _ _ _ c.loop-step.entries.items c.in-Some.step c.in-Err.error _ c.args.steps c.pop_front.new.self.items (left g c) (broke g c))
+    rw (c.driven.ensures, c.truncate.ensures.items, by.0) (broke_unknown _ _ _ (take c.loop-at.at c.loop-at.entries.items) c.index.result.now.step c.in-Err.error _ c.args.steps (rest g c) (left g c) (broke g c))
 
 pub returns-in-Err-clause-ended : goal.returns-in-Err-clause-ended
 returns-in-Err-clause-ended g c =
     let by = stops_by c.in-Err.error c.stop_by-stop.result.0 c.stop_by-stop.result.1 c.stop_by-stop.ensures in
-    rw (c.driven-in-Err.ensures, by.0) (broke_ended _ _ _ c.loop-step.entries.items c.in-Some.step c.in-Err.error _ c.args.steps c.pop_front.new.self.items (left g c) (broke g c))
+    rw (c.driven.ensures, c.truncate.ensures.items, by.0) (broke_ended _ _ _ (take c.loop-at.at c.loop-at.entries.items) c.index.result.now.step c.in-Err.error _ c.args.steps (rest g c) (left g c) (broke g c))
 
 pub returns-in-Err-clause-taken : goal.returns-in-Err-clause-taken
 returns-in-Err-clause-taken g c =
     let by = stops_by c.in-Err.error c.stop_by-stop.result.0 c.stop_by-stop.result.1 c.stop_by-stop.ensures in
-    rw (c.driven-in-Err.ensures, by.0, by.1) (broke_took _ _ _ _ _ _ _ c.loop-step.entries.items c.in-Some.step c.in-Err.error _ c.args.steps c.pop_front.new.self.items (left g c) c.loop-step.invariant.ran (broke g c))
+    rw (c.driven.ensures, c.truncate.ensures.items, by.0, by.1) (broke_took _ _ _ _ _ _ _ (take c.loop-at.at c.loop-at.entries.items) c.index.result.now.step c.in-Err.error _ c.args.steps (rest g c) (left g c) c.loop-at.invariant.ran (broke g c))
 
 pub returns-in-Err-clause-refused : goal.returns-in-Err-clause-refused
 returns-in-Err-clause-refused g c =
     let by = stops_by c.in-Err.error c.stop_by-stop.result.0 c.stop_by-stop.result.1 c.stop_by-stop.ensures in
-    rw (c.driven-in-Err.ensures, by.0, by.1) (broke_refused _ _ _ _ _ _ _ c.loop-step.entries.items c.in-Some.step c.in-Err.error _ c.args.steps c.pop_front.new.self.items (left g c) c.loop-step.invariant.ran (broke g c))
-
-pub returns-in_default-clause-taken : goal.returns-in_default-clause-taken
-returns-in_default-clause-taken g c =
-    rw (c.driven.ensures, c.new-in_default.ensures.items) ((ran-nil (g.S.Tells.told (below_of c.args.session.now)) (g.G.IdSource.next c.args.ids.now) (held_of c.args.session.now) c.requires.stands).taken, refl)
-
-pub returns-in_default-clause-cause : goal.returns-in_default-clause-cause
-returns-in_default-clause-cause g c = rw (c.driven.ensures, c.new-in_default.ensures.items) (no_room c.args.steps (λ empty. let some = c.in_default.ensures.succeeds (c.len.ensures ∙ empty) in cc some))
-
-pub returns-in_default-clause-fits : goal.returns-in_default-clause-fits
-returns-in_default-clause-fits g c = fits-stands (record (held_of c.args.session.now) { work = c.new.result }) [] (emptied (held_of c.args.session.now) c.new.result c.requires.stands c.new.ensures.kept)
+    rw (c.driven.ensures, c.truncate.ensures.items, by.0, by.1) (broke_refused _ _ _ _ _ _ _ (take c.loop-at.at c.loop-at.entries.items) c.index.result.now.step c.in-Err.error _ c.args.steps (rest g c) (left g c) c.loop-at.invariant.ran (broke g c))
 
 pub returns-in-Err-clause-fits : goal.returns-in-Err-clause-fits
-returns-in-Err-clause-fits g c = c.in-Err.ensures.fits (fits-stands (held_of c.loop-step.session) c.loop-step.entries.items c.loop-step.invariant.ran.stands)
+returns-in-Err-clause-fits g c = c.in-Err.ensures.fits (fits-stands (held_of c.loop-at.session) (take c.loop-at.at c.loop-at.entries.items) c.loop-at.invariant.ran.stands)
 
 pub returns-clause-fits : goal.returns-clause-fits
-returns-clause-fits g c = fits-stands (held_of c.loop-step.session) c.loop-step.entries.items c.loop-step.invariant.ran.stands
-
-pub returns-in_default-clause-leaves : goal.returns-in_default-clause-leaves
-returns-in_default-clause-leaves g c =
-    rw (c.driven.ensures, c.new-in_default.ensures.items) (emptied (held_of c.args.session.now) c.new.result c.requires.stands c.new.ensures.kept, c.requires.runs)
+returns-clause-fits g c = fits-stands (held_of c.loop-at.session) (take c.loop-at.at c.loop-at.entries.items) c.loop-at.invariant.ran.stands
 
 pub returns-in-Err-clause-looks : goal.returns-in-Err-clause-looks
 returns-in-Err-clause-looks g c =
     let said = c.in-Err.ensures in
-    let spent = step_spends (held_of c.loop-step.session) c.in-Some.step (held_of c.loop-step.session).work (held_of c.step_counted.new.self).work c.loop-step.looks c.step_counted.new.looks (record { ended = said.looks; all = said.dues }) in
-    rw c.driven-in-Err.ensures (omega (arith, c.loop-step.invariant.looks, spent))
+    let spent = step_spends (held_of c.loop-at.session) c.index.result.now.step (held_of c.loop-at.session).work (held_of c.step_counted.new.self).work c.loop-at.looks c.step_counted.new.looks (record { ended = said.looks; all = said.dues }) in
+    rw (c.driven.ensures, c.truncate.ensures.items) (omega (arith, c.loop-at.invariant.looks, spent))
 
 pub returns-clause-looks : goal.returns-clause-looks
-returns-clause-looks g c = rw c.driven-2.ensures (omega (arith, c.loop-step.invariant.looks))
+returns-clause-looks g c =
+    let es = c.loop-at.entries.items in
+    let done : length es ≤ c.loop-at.at = omega (arith, c.loop-at-test.false, c.loop-at.invariant.count) in
+    rw c.driven-2.ensures (omega (arith, c.loop-at.invariant.looks, ap work_count (filled_all es c.loop-at.at done)))
