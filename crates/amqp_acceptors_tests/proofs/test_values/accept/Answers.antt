@@ -1,0 +1,7 @@
+use Rattle.amqp_acceptors_tests.proofs.test_values.accept.Goals as goal
+
+pub accept_incoming_attach-requires-clause-source : goal.accept_incoming_attach-requires-clause-source
+accept_incoming_attach-requires-clause-source g c = c.requires.source
+
+pub accept_incoming_attach-requires-clause-target : goal.accept_incoming_attach-requires-clause-target
+accept_incoming_attach-requires-clause-target g c = c.requires.target
