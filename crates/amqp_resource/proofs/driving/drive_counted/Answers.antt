@@ -35,7 +35,7 @@ loop-step-preserved g c =
     let stands = c.loop-step.invariant.ran.stands in
     let pushed : c.push_reserved.new.self.items ≡ r ++ e ∷ [] = c.push_reserved.ensures.items in
     let popped : c.loop-step.rest.items ≡ c.in-Some.step ∷ c.pop_front.new.self.items = c.in-Some.ensures.items in
-    let said = c.in-Ok-step_counted.ensures in
+    let said = c.in-Ok-step_counted.ensures.says in
     record {
       runs = said.stops runs;
       ran = rw pushed (ran-more _ _ _ _ _ _ (held_of c.loop-step.session) (held_of c.step_counted.new.self) r c.in-Some.step c.in-Ok-step_counted.drawn c.in-Ok-step_counted.reply c.loop-step.invariant.ran
@@ -53,7 +53,7 @@ loop-step-preserved g c =
       left = rw pushed (left-more c.args.steps r c.in-Some.step c.in-Ok-step_counted.drawn c.in-Ok-step_counted.reply c.pop_front.new.self.items (rw (← popped) c.loop-step.invariant.left));
       count = omega (arith, ap length pushed, length-append r (e ∷ []), ap length popped, c.loop-step.invariant.count);
       room = omega (arith, c.loop-step.invariant.room, c.push_reserved.ensures.capacity);
-      looks = omega (arith, c.loop-step.invariant.looks, said.dues, ap work_count pushed ∙ work_more r e);
+      looks = omega (arith, c.loop-step.invariant.looks, c.in-Ok-step_counted.ensures.dues, ap work_count pushed ∙ work_more r e);
     }
 
 -- what the step that stopped the run leaves
@@ -62,7 +62,7 @@ broke g c =
     let r = c.loop-step.entries.items in
     let runs = c.loop-step.invariant.runs in
     let stands = c.loop-step.invariant.ran.stands in
-    let said = c.in-Err.ensures in
+    let said = c.in-Err.ensures.says in
     record {
       first = said.runs runs;
       handed = said.handed runs r stands;
@@ -122,7 +122,7 @@ pub returns-in_default-clause-fits : goal.returns-in_default-clause-fits
 returns-in_default-clause-fits g c = fits-stands (record (held_of c.args.session.now) { work = c.new.result }) [] (emptied (held_of c.args.session.now) c.new.result c.requires.stands c.new.ensures.kept)
 
 pub returns-in-Err-clause-fits : goal.returns-in-Err-clause-fits
-returns-in-Err-clause-fits g c = c.in-Err.ensures.fits (fits-stands (held_of c.loop-step.session) c.loop-step.entries.items c.loop-step.invariant.ran.stands)
+returns-in-Err-clause-fits g c = c.in-Err.ensures.says.fits (fits-stands (held_of c.loop-step.session) c.loop-step.entries.items c.loop-step.invariant.ran.stands)
 
 pub returns-clause-fits : goal.returns-clause-fits
 returns-clause-fits g c = fits-stands (held_of c.loop-step.session) c.loop-step.entries.items c.loop-step.invariant.ran.stands
