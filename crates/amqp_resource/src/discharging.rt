@@ -1,15 +1,15 @@
 //! Discharges: a rollback lets its frames go, a commit hands them.
 
 ghost use Rattle.std.specs.Prelude.{◌≡◌, ◌≤◌, ◌<◌, true, Some, IfOk, length};
+ghost use Rattle.std.specs.Option.{option_map};
 ghost use Rattle.amqp_txn_codec.specs.Reading.{message_of};
 ghost use Rattle.amqp_txn_codec.specs.declared.message.ControlMessageBody.TheVariants as messages;
 ghost use Rattle.amqp_txn_types.specs.declared.small.TransactionError.TheVariants as transaction_errors;
 ghost use Rattle.amqp_record.specs.declared.step.Step.TheVariants as steps;
 ghost use Rattle.amqp_record.specs.declared.reply.Reply.TheVariants as replies;
 ghost use Rattle.amqp_record.specs.declared.reply.RejectText.TheVariants as texts;
-ghost use Rattle.amqp_resource.specs.Draws.{is_kept};
 ghost use Rattle.amqp_resource.specs.Held.{SameHeld, is_in};
-ghost use Rattle.amqp_arrivals.specs.Live.{frame_count, frames_kept, kept, owed};
+ghost use Rattle.amqp_arrivals.specs.Live.{frame_count, frames_kept, home_of, kept, owed};
 ghost use Rattle.amqp_resource.specs.Transacting.{CommittedIn, CommittedWith, RolledBackIn, step_error_of};
 ghost use Rattle.amqp_resource.specs.Keeping.{Fits, Keeps};
 ghost use Rattle.amqp_resource.specs.Looking.{Pays, frames_ended};
@@ -44,9 +44,10 @@ fn commit_live<S: LayerBelow, L: Ledger>(
     below: &mut S,
     alloc: Global,
     id: TransactionId,
+    home: Option<u64>,
     looks: &mut Looks<L>,
 ) -> Result<Echoes, CommitFault>
-    requires { is_kept held.old.work id ≡ true }
+    requires { option_map home_of (kept held.old.work id) ≡ Some home }
     ensures answer { CommittedWith held.old held.new (S.told below.old) (S.told below.new) id
         (frames_kept (kept held.old.work id)) (below.new ≡ below.old) result }
     ensures fixed { (S.told below.new).fixed ≡ (S.told below.old).fixed }
@@ -58,7 +59,7 @@ fn commit_live<S: LayerBelow, L: Ledger>(
         return Err(CommitFault::NoMemory);
     };
     let handed = hand_all(below, &mut held.work, id, echoes, looks);
-    drop_work(held, id, looks);
+    drop_work(held, id, home, looks);
     match handed {
         Ok(echoes) => Ok(echoes),
         Err(refusal) => Err(CommitFault::Refused {
@@ -108,10 +109,10 @@ pub fn discharge_step<S: LayerBelow, L: Ledger>(
         return Ok((no_draws(alloc), absent()));
     }
     if rolls_back(discharge.fail) {
-        drop_work(held, discharge.txn_id, looks);
+        drop_work(held, discharge.txn_id, Some(link), looks);
         return Ok((no_draws(alloc), Reply::Accepted(Echoes::new(alloc))));
     }
-    match commit_live(held, below, alloc, discharge.txn_id, looks) {
+    match commit_live(held, below, alloc, discharge.txn_id, Some(link), looks) {
         Ok(echoes) => Ok((no_draws(alloc), Reply::Accepted(echoes))),
         Err(fault) => Err(step_error_of(fault)),
     }
@@ -129,10 +130,10 @@ fn commit_id<S: LayerBelow, L: Ledger>(
         (below.new ≡ below.old) result }
     ensures fixed { (S.told below.new).fixed ≡ (S.told below.old).fixed }
 {
-    if !held.work.is_live(&id) {
+    let Some(home) = held.work.home(&id) else {
         return Ok(Err(TransactionError::UnknownId));
-    }
-    match commit_live(held, below, alloc, id, looks) {
+    };
+    match commit_live(held, below, alloc, id, home, looks) {
         Ok(echoes) => Ok(Ok(echoes)),
         Err(fault) => Err(fault),
     }
@@ -170,10 +171,10 @@ fn roll_back_id<L: Ledger>(
 ) -> Result<Accepted, TransactionError>
     ensures { RolledBackIn held.old held.new id result }
 {
-    if !held.work.is_live(&id) {
+    let Some(home) = held.work.home(&id) else {
         return Err(TransactionError::UnknownId);
-    }
-    drop_work(held, id, looks);
+    };
+    drop_work(held, id, home, looks);
     Ok(Accepted)
 }
 

@@ -5,13 +5,13 @@
 ghost use Rattle.std.specs.Prelude.{◌≡◌, ◌<◌, ◌↔◌, IsTrue, [], ℕ, true, false, ◌&&◌, ◌==◌, nat_eq, OnOk, IfSome, None, Some, cond, length};
 ghost use Rattle.std.specs.List.{list_any};
 ghost use Rattle.std.specs.Map.{lookup};
+ghost use Rattle.std.specs.Option.{option_map};
 ghost use Rattle.std.specs.HashMap.{spare};
 ghost use Rattle.std.specs.HashSet.{spare as spare_ids};
 ghost use Rattle.amqp_txn_types.specs.declared.id.TransactionId.{TransactionId as Id};
 ghost use Rattle.amqp_txn_types.specs.Ids.{same_id};
-ghost use Rattle.amqp_arrivals.specs.Live.{frames_kept, kept};
+ghost use Rattle.amqp_arrivals.specs.Live.{frames_kept, home_of, kept};
 ghost use Rattle.amqp_record.specs.Live.{is_link};
-ghost use Rattle.amqp_resource.specs.Draws.{is_kept};
 ghost use Rattle.amqp_resource.specs.Held.{HasRoom, SameHeld, Stands, Tied, ids_on, is_among, is_in, is_kept_on, kept_without, unless_on};
 ghost use Rattle.amqp_resource.specs.Looking.{Adds, Pays, frames_for, frames_on};
 
@@ -173,9 +173,15 @@ fn drop_on(links: &mut OpenLinks, home: Option<u64>, id: TransactionId)
     }
 }
 
-/// Lets a live id go with what is kept for it: it is live no more, and none of its link's.
-pub fn drop_work<L: Ledger>(held: &mut Held, id: TransactionId, looks: &mut Looks<L>)
-    requires { is_kept held.old.work id ≡ true }
+/// Lets a live id go with what is kept for it: it is live no more, and none of those of the link
+/// that declared it, if one did.
+pub fn drop_work<L: Ledger>(
+    held: &mut Held,
+    id: TransactionId,
+    home: Option<u64>,
+    looks: &mut Looks<L>,
+)
+    requires { option_map home_of (kept held.old.work id) ≡ Some home }
     ensures rest { (t : Id) → kept held.new.work t ≡ kept_without id held.old.work t }
     ensures links { (k : ℕ) → is_in held.new.links.entries k ≡ is_in held.old.links.entries k }
     ensures tied { Tied held.old → Tied held.new }
@@ -183,9 +189,6 @@ pub fn drop_work<L: Ledger>(held: &mut Held, id: TransactionId, looks: &mut Look
     ensures pays { Pays held.old.work held.new.work looks.old looks.new
         (length (frames_kept (kept held.old.work id))) 0 }
 {
-    let Some(home) = held.work.home(&id) else {
-        unreachable!()
-    };
     held.work.drop_all(&id, looks);
     drop_on(&mut held.links, home, id);
 }

@@ -17,13 +17,16 @@
 //! engine can run: frames under a live id are kept, plain ones go below, an attach to a coordinator
 //! opens a control link ([`HandleControlLink`]), and every other call is that of the session below.
 //!
-//! Below stand the types, the codec of control messages, the traits of the outside, the
-//! coordinator, which asks a session by these calls, and the record with its definitions, which
-//! look back over the entries of a session and know nothing of what it keeps. What a user of a
-//! session needs of them is passed on. The promise that this crate carries: a step answers by the
-//! record, and a run is its record. The layer below has taken exactly the work of the record, each
-//! accepted commit's frames whole and in order and nothing of a rollback, followed, only where it
-//! refused, by the first frames of the next step's.
+//! The frames that are kept for all live ids stand in one log of arrivals. [`drive_counted`] and
+//! `step_counted` count the looks into it.
+//!
+//! Below stand the types, the codec of control messages, the log of arrivals, the traits of the
+//! outside, the coordinator, which asks a session by these calls, and the record with its
+//! definitions, which look back over the entries of a session and know nothing of what it keeps.
+//! What a user of a session needs of them is passed on. The promise that this crate carries: a step
+//! answers by the record, and a run is its record. The layer below has taken exactly the work of
+//! the record, each accepted commit's frames whole and in order and nothing of a rollback,
+//! followed, only where it refused, by the first frames of the next step's.
 #![tactic(auto)]
 
 mod acting;

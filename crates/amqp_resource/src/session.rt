@@ -1,21 +1,12 @@
 //! A session: what it keeps, the layer below, and whether it stopped.
 
-ghost use Rattle.std.specs.Prelude.{◌≡◌, ◌≤◌, ◌<◌, ◌+◌, ◌*◌, ◌-◌, ◌^◌, ◌↔◌, ◌∷◌, ◌++◌, [], List, None, Some, Err, IfSome, IfOk, IfErr, OnErr, IsTrue, true};
-ghost use Rattle.amqp_txn_types.specs.declared.id.TransactionId.{TransactionId as Id};
-ghost use Rattle.amqp_layer.specs.declared.inner_error.SessionInnerError.TheVariants as faults;
-ghost use Rattle.amqp_txn_types.specs.Counts.{Rose};
-ghost use Rattle.amqp_ids.specs.Ids.{Drew};
+ghost use Rattle.std.specs.Prelude.{◌≡◌, ◌≤◌, ◌<◌, ◌+◌, ◌*◌, ◌-◌, ◌^◌, ◌↔◌, [], List, None, Some, Err, IsTrue};
 ghost use Rattle.amqp_record.specs.declared.entry.Entry.{Entry};
-ghost use Rattle.amqp_record.specs.declared.stop.StepError.TheVariants as errors;
 ghost use Rattle.amqp_record.specs.Links.{attached_count};
 ghost use Rattle.amqp_record.specs.Live.{is_live};
-ghost use Rattle.amqp_record.specs.Answers.{Answer};
-ghost use Rattle.amqp_resource.specs.Steps.{entry_of, ended_by, takes_memory, AnswersEnd, IfEnded, IfRefused, IfUnknown, IsControlAttach, IsFirstStop, MayFault, OnAttachRefused, OnNoMemory, OnNoCall, OpenedBy, RefusedAdds, RefusedBy, TookFirst, TookHands, UnderDead};
-ghost use Rattle.amqp_resource.specs.Complete.{InOrder, Completed};
-ghost use Rattle.amqp_resource.specs.Keeping.{AnswerKeeps, UnderUnkept};
 ghost use Rattle.amqp_resource.specs.Stepping.{StepSays};
 ghost use Rattle.amqp_resource.specs.Looking.{dues, frames_added, frames_ended};
-ghost use Rattle.amqp_resource.specs.Session.{FitsTogether, ForEachRecord, IsFresh, SameSession, StandsFor, StopAfter, below_of, frame_count_of, held_of, is_live_on, opened_of, owed_of, refusals_of, stop_of, told_of};
+ghost use Rattle.amqp_resource.specs.Session.{FitsTogether, IsFresh, StandsFor, StopAfter, below_of, frame_count_of, held_of, is_live_on, opened_of, owed_of, refusals_of, stop_of};
 
 use crate::acting::take_step;
 use crate::held::{Held, keeps_nothing};
@@ -194,82 +185,8 @@ impl<S: LayerBelow> TxnSession<S> {
         looks: &mut Looks<L>,
     ) -> Result<(Drawn16, Reply), StepError>
         requires room { stop_of self.old ≡ None → opened_of self.old < 2 ^ 64 - 1 }
-        // A stopped session answers with the code of its first stop, and nothing changes.
-        ensures stopped { IfSome (stop_of self.old) (λ code.
-            (result ≡ Err (errors.Stopped code)) × (self.new ≡ self.old) × (ids.new ≡ ids.old)) }
-        ensures runs { stop_of self.old ≡ None → IfErr result IsFirstStop }
-        // The reply is an answer of the record to the step with the ids drawn, and the session then
-        // stands for the record with this entry.
-        ensures answer { ForEachRecord self.old (λ r. IfOk result
-            (λ out. Answer r step.now out.0.ids out.1)) }
-        ensures stands { ForEachRecord self.old (λ r. IfOk result (λ out.
-            StandsFor self.new (r ++ entry_of step.now out.0 out.1 ∷ []))) }
-        // Below took exactly what the step hands, each frame with what the reply says was given
-        // back; where it refused, the first of them.
-        ensures taken { ForEachRecord self.old (λ r. IfOk result (λ out.
-            TookHands (told_of S.told self.old) (told_of S.told self.new) r step.now out.1)) }
-        ensures handed { ForEachRecord self.old (λ r. IfRefused result (λ error handed.
-            TookFirst (told_of S.told self.old) (told_of S.told self.new) r step.now handed)) }
-        // What below opened and refused.
-        ensures opened { ForEachRecord self.old (λ r. IfOk result (λ out.
-            OpenedBy (told_of S.told self.old) (told_of S.told self.new) step.now out.1)) }
-        ensures opened_none { ForEachRecord self.old (λ r. OnErr result
-            ((told_of S.told self.new).opened ≡ (told_of S.told self.old).opened)) }
-        ensures refused { ForEachRecord self.old (λ r. IfOk result (λ out.
-            RefusedBy (told_of S.told self.old) (told_of S.told self.new) step.now out.1)) }
-        ensures refused_last { ForEachRecord self.old (λ r. IfRefused result (λ error handed.
-            RefusedAdds (told_of S.told self.old) (told_of S.told self.new) r step.now error
-            handed)) }
-        // An unknown id is the fault of work under an id that isn't live, and of nothing else.
-        ensures unknown { ForEachRecord self.old (λ r.
-            UnderDead r step.now → result ≡ Err (errors.Fault faults.UnknownTxnId 0)) }
-        ensures unknown_only { ForEachRecord self.old (λ r. IfUnknown result (λ handed.
-            UnderDead r step.now × (handed ≡ 0))) }
-        // Every other fault is a refusal below, of a step that makes a call there.
-        ensures refusal { ForEachRecord self.old (λ r. IfRefused result
-            (λ error handed. MayFault r step.now)) }
-        ensures refusal_rose { IfRefused result (λ error handed.
-            Rose (told_of S.told self.old).refusals (told_of S.told self.new).refusals) }
-        ensures attach_refused { ForEachRecord self.old (λ r. OnAttachRefused result
-            (Rose (told_of S.told self.old).refusals (told_of S.told self.new).refusals
-            × IsControlAttach step.now)) }
-        // An end is answered with its own value; a copy of its error may want memory.
-        ensures ended { stop_of self.old ≡ None → AnswersEnd (ended_by step.now) result }
-        ensures ended_only { IfEnded result (λ reason. ended_by step.now ≡ Some reason) }
-        // Want of memory leaves the session as it was, standing for what it stood for, and comes of
-        // no step that takes none.
-        ensures same { OnNoMemory result (SameSession self.old self.new) }
-        ensures memory { ForEachRecord self.old (λ r. OnNoMemory result
-            (StandsFor self.new r × (takes_memory r step.now ≡ true))) }
-        // An error that isn't a refusal below makes no call there. The count of refusals never
-        // falls.
-        ensures untouched { OnNoCall step.now result (below_of self.new ≡ below_of self.old) }
-        ensures later { (told_of S.told self.old).refusals ≤ (told_of S.told self.new).refusals }
-        ensures fixed { (told_of S.told self.new).fixed ≡ (told_of S.told self.old).fixed }
-        // On every session that runs and whose parts fit together, also one that stands for no
-        // record: the answer by what is kept, what it leaves of each id and of the links, and what
-        // was done below.
-        ensures fits { FitsTogether self.old → FitsTogether self.new }
-        ensures keeps { stop_of self.old ≡ None → FitsTogether self.old
-            → AnswerKeeps (held_of self.old) (held_of self.new)
-            (told_of S.told self.old) (told_of S.told self.new) step.now result }
-        ensures dead { stop_of self.old ≡ None → FitsTogether self.old
-            → UnderUnkept (held_of self.old) step.now →
-            result ≡ Err (errors.Fault faults.UnknownTxnId 0) }
-        ensures attach_rose { OnAttachRefused result
-            (Rose (told_of S.told self.old).refusals (told_of S.told self.new).refusals) }
-        // The count of its own calls, those of its traits, has no part in it.
-        ensures refusals { refusals_of self.new ≡ refusals_of self.old }
-        // The stop that is kept.
-        ensures stops { stop_of self.old ≡ None → StopAfter result (stop_of self.new) }
-        // The ids drawn are the source's next ones, and every error leaves the source.
-        ensures drew { IfOk result (λ out. Drew (G.next ids.old) (G.next ids.new) out.0.ids) }
-        ensures source { OnErr result (ids.new ≡ ids.old) }
-        ensures start { G.start ids.new ≡ G.start ids.old }
-        // A valid step during which no refusal is counted does what was asked, or wants memory.
-        ensures complete { ForEachRecord self.old (λ r. (n : List Id) →
-            InOrder (told_of S.told self.old).refusals (told_of S.told self.new).refusals
-            (G.next ids.old) r step.now n → Completed result) }
+        ensures says { StepSays S.told G.next G.start self.old self.new ids.old ids.new step.now
+            result }
         // The looks of the step and those owed after it are at most those owed before it and two
         // for each frame that it ends. While the session hasn't stopped, no more are owed than
         // frames are kept.

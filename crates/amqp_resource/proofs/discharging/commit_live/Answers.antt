@@ -1,13 +1,11 @@
-use Rattle.std.proofs.Common.{arith, refl, ap, sym, ◌∙◌}
-use Rattle.std.specs.Prelude.{is_some}
+use Rattle.std.proofs.Common.{arith, refl, ◌∙◌}
 use Rattle.amqp_resource.specs.declared.held.Held.{Held}
-use Rattle.amqp_resource.proofs.Kept.{ended_handed, live_home}
+use Rattle.amqp_resource.proofs.Kept.{ended_handed}
 use Rattle.amqp_resource.proofs.Looked.{pays_none}
 use Rattle.amqp_resource.proofs.discharging.commit_live.Goals as goal
 
 pub drop_work-requires : goal.drop_work-requires
-drop_work-requires g c =
-    live_home _ ∙ ap is_some (c.hand_all-handed.ensures.homes c.args.id) ∙ sym (live_home _) ∙ c.requires
+drop_work-requires g c = c.hand_all-handed.ensures.homes c.args.id ∙ c.requires
 
 pub returns-in-Ok-handed-clause-answer : goal.returns-in-Ok-handed-clause-answer
 returns-in-Ok-handed-clause-answer g c =

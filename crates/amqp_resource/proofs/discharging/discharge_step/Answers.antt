@@ -1,5 +1,6 @@
 use Rattle.std.proofs.Common.{◌≡◌, ℕ, true, Ok, ap, sym, subst, ◌∙◌, refl}
-use Rattle.amqp_arrivals.specs.Live.{kept}
+use Rattle.std.specs.Option.{option_map}
+use Rattle.amqp_arrivals.specs.Live.{home_of, kept}
 use Rattle.amqp_ids.specs.Drawn.{DrawnIds}
 use Rattle.amqp_record.specs.declared.reply.Reply.TheVariants as replies
 use Rattle.amqp_record.specs.declared.reply.RejectText.TheVariants as texts
@@ -11,6 +12,12 @@ use Rattle.amqp_resource.specs.Looking.{Pays}
 use Rattle.amqp_resource.proofs.Looked.{ends_discharged, pays_none}
 use Rattle.amqp_resource.proofs.Parts.{commit_calls, no_call_holds}
 use Rattle.amqp_resource.proofs.discharging.discharge_step.Goals as goal
+
+pub drop_work-requires : goal.drop_work-requires
+drop_work-requires g c = ap (option_map home_of) (held_here c.args.held.now c.args.discharge.txn_id c.args.link (sym c.is_declared_on.ensures ∙ c.if-not-is_declared_on.false))
+
+pub commit_live-requires : goal.commit_live-requires
+commit_live-requires g c = ap (option_map home_of) (held_here c.args.held.now c.args.discharge.txn_id c.args.link (sym c.is_declared_on.ensures ∙ c.if-not-is_declared_on.false))
 
 pub returns-then-not-is_declared_on-clause-goes : goal.returns-then-not-is_declared_on-clause-goes
 returns-then-not-is_declared_on-clause-goes g c r s =

@@ -40,7 +40,7 @@ loop-at-preserved g c =
     let more : take (at + 1) (set es at new) ≡ r ++ e ∷ [] = filled_more es at new here ∙ ap (λ (x : Entry). r ++ x ∷ []) filled in
     let runs = c.loop-at.invariant.runs in
     let stands = c.loop-at.invariant.ran.stands in
-    let said = c.in-Ok.ensures in
+    let said = c.in-Ok.ensures.says in
     record {
       runs = said.stops runs;
       ran = rw more (ran-more _ _ _ _ _ _ (held_of c.loop-at.session) (held_of c.step_counted.new.self) r old.step c.in-Ok.drawn c.in-Ok.reply c.loop-at.invariant.ran
@@ -57,7 +57,7 @@ loop-at-preserved g c =
       start = said.start ∙ c.loop-at.invariant.start;
       steps = steps_filled es at new old (ap (λ (x : Entry). x.step) filled) c.index.ensures ∙ c.loop-at.invariant.steps;
       count = length-set es at new ∙ c.loop-at.invariant.count;
-      looks = omega (arith, c.loop-at.invariant.looks, said.dues, ap work_count more ∙ work_more r e);
+      looks = omega (arith, c.loop-at.invariant.looks, c.in-Ok.ensures.dues, ap work_count more ∙ work_more r e);
     }
 
 -- what the step that stopped the run leaves
@@ -66,7 +66,7 @@ broke g c =
     let r : List Entry = take c.loop-at.at c.loop-at.entries.items in
     let runs = c.loop-at.invariant.runs in
     let stands = c.loop-at.invariant.ran.stands in
-    let said = c.in-Err.ensures in
+    let said = c.in-Err.ensures.says in
     record {
       first = said.runs runs;
       handed = said.handed runs r stands;
@@ -123,15 +123,15 @@ returns-in-Err-clause-refused g c =
     rw (c.driven.ensures, c.truncate.ensures.items, by.0, by.1) (broke_refused _ _ _ _ _ _ _ (take c.loop-at.at c.loop-at.entries.items) c.index.result.now.step c.in-Err.error _ c.args.steps (rest g c) (left g c) c.loop-at.invariant.ran (broke g c))
 
 pub returns-in-Err-clause-fits : goal.returns-in-Err-clause-fits
-returns-in-Err-clause-fits g c = c.in-Err.ensures.fits (fits-stands (held_of c.loop-at.session) (take c.loop-at.at c.loop-at.entries.items) c.loop-at.invariant.ran.stands)
+returns-in-Err-clause-fits g c = c.in-Err.ensures.says.fits (fits-stands (held_of c.loop-at.session) (take c.loop-at.at c.loop-at.entries.items) c.loop-at.invariant.ran.stands)
 
 pub returns-clause-fits : goal.returns-clause-fits
 returns-clause-fits g c = fits-stands (held_of c.loop-at.session) (take c.loop-at.at c.loop-at.entries.items) c.loop-at.invariant.ran.stands
 
 pub returns-in-Err-clause-looks : goal.returns-in-Err-clause-looks
 returns-in-Err-clause-looks g c =
-    let said = c.in-Err.ensures in
-    let spent = step_spends (held_of c.loop-at.session) c.index.result.now.step (held_of c.loop-at.session).work (held_of c.step_counted.new.self).work c.loop-at.looks c.step_counted.new.looks (record { ended = said.looks; all = said.dues }) in
+    let said = c.in-Err.ensures.says in
+    let spent = step_spends (held_of c.loop-at.session) c.index.result.now.step (held_of c.loop-at.session).work (held_of c.step_counted.new.self).work c.loop-at.looks c.step_counted.new.looks (record { ended = said.looks; all = c.in-Ok.ensures.dues }) in
     rw (c.driven.ensures, c.truncate.ensures.items) (omega (arith, c.loop-at.invariant.looks, spent))
 
 pub returns-clause-looks : goal.returns-clause-looks
