@@ -1,5 +1,5 @@
 -- Looking for a key among pairs, and taking a new one out again.
-use Rattle.std.proofs.Common.{◌≡◌, ℕ, ◌+◌, ◌<◌, true, false, Some, List, [], ◌∷◌, length, drop, get_or, ◌∙◌, inl, inr, nat_eq, add-one, None, if◌then◌else◌}
+use Rattle.std.proofs.Common.{◌≡◌, ℕ, ◌+◌, ◌<◌, true, false, Some, List, [], ◌∷◌, length, drop, get_or, ◌∙◌, inl, inr, nat_eq, add-one, if◌then◌else◌}
 use Rattle.std.specs.List.{slice_get}
 use Rattle.std.proofs.lemmas.Option.{slice_get_within, get_or_from_slice_get}
 use Rattle.std.proofs.lemmas.Bool.{cases_Bool}

@@ -99,7 +99,8 @@ impl<'r, Txn, R> TxnAcquisition<'r, Txn, R> {
 
 impl<'r, Txn: TransactionDischarge, R> TxnAcquisition<'r, Txn, R> {
     ghost use Rattle.std.specs.Prelude.{IfErr, true, false};
-    ghost use Rattle.amqp_transactions.specs.Begun.{AsksToDischarge, OnPolledErr, PollsDischarge};
+    ghost use Rattle.amqp_transactions.specs.Begun.{AsksToDischarge, IfUndischarged, OnPolledErr, PollsDischarge};
+    ghost use Rattle.amqp_transactions.specs.Locked.{error_of};
     ghost use Rattle.amqp_acquisition.specs.Acquisitions.{lent_to, txn_of};
 
     /// Puts a discharge of the transaction.
@@ -110,6 +111,9 @@ impl<'r, Txn: TransactionDischarge, R> TxnAcquisition<'r, Txn, R> {
     ) -> Result<Txn::Waiting, Txn::Error>
         ensures asks { AsksToDischarge (Txn.begun (txn_of self.old)) (Txn.begun (txn_of self.new))
             result }
+        ensures gives { IfUndischarged (Txn.begun (txn_of self.old))
+            (Txn.discharge_gives (Txn.begun (txn_of self.old)) fail result) }
+        ensures cause { IfErr result (λ error. Txn.of_spend error ≡ false) }
         ensures lent { lent_to self.new ≡ lent_to self.old }
     {
         self.txn.discharge(rt, fail)
@@ -123,6 +127,8 @@ impl<'r, Txn: TransactionDischarge, R> TxnAcquisition<'r, Txn, R> {
     ) -> Progress<Txn::Waiting, Result<(), Txn::Error>>
         ensures polls { PollsDischarge (Txn.begun (txn_of self.old)) (Txn.begun (txn_of self.new))
             waiting result }
+        ensures gives { IfUndischarged (Txn.begun (txn_of self.old))
+            (Txn.poll_gives waiting result) }
         ensures cause { OnPolledErr result (λ error. Txn.of_spend error ≡ false) }
         ensures lent { lent_to self.new ≡ lent_to self.old }
     {
@@ -134,6 +140,7 @@ impl<'r, Txn: TransactionDischarge, R> TxnAcquisition<'r, Txn, R> {
         requires { (Txn.begun (txn_of self)).is_discharged ≡ true }
         ensures back { IfErr result (λ refused. Txn.begun (txn_of refused.0)
             ≡ Txn.begun (txn_of self.entry)) }
+        ensures gives { Txn.spend_gives (error_of result) }
         ensures cause { IfErr result (λ refused. Txn.of_spend refused.1 ≡ true) }
         ensures lent { IfErr result (λ refused. lent_to refused.0 ≡ lent_to self.entry) }
     {

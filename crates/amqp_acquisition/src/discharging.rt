@@ -1,10 +1,11 @@
 //! How an acquisition ends.
 
-ghost use Rattle.std.specs.Prelude.{◌≡◌, false};
-ghost use Rattle.amqp_transactions.specs.Begun.{GivesUp, PollsToEnd};
+ghost use Rattle.std.specs.Prelude.{◌≡◌, true, false};
+ghost use Rattle.amqp_transactions.specs.Begun.{GivesUp, IfTried, IfUndischarged, PollsToEnd};
+ghost use Rattle.amqp_transactions.specs.Discharging.{FindsEnd, SpendsAtEnd, WaitsOn};
 ghost use Rattle.amqp_acquisition.specs.Acquiring.{OneCleanup};
 ghost use Rattle.amqp_acquisition.specs.Acquisitions.{lent_to, recver_of, txn_of};
-ghost use Rattle.amqp_acquisition.specs.Ending.{AsksToEnd, IsCleanedUp, KeepsReceiver, acquisition_of};
+ghost use Rattle.amqp_acquisition.specs.Ending.{AsksToEnd, IsCleanedUp, KeepsReceiver, acquisition_of, waiting_of};
 
 use crate::acquisition::TxnAcquisition;
 use amqp_control_calls::{Abandoned, TransactionBase};
@@ -25,8 +26,9 @@ impl<'r, Txn: TransactionBase + TransactionDischarge, R: ReceiverLink> TxnAcquis
     pub fn commit<W: Wait>(self, rt: &W) -> EndAsked<'r, Txn, R, Txn::Error>
     where
         Txn::Error: From<FlowError>,
-        ensures { AsksToEnd Txn.begun (OneCleanup R.told R.remove_gives R.flow_gives)
-            Txn.Error.from_gives self.entry result }
+        ensures { AsksToEnd Txn.begun
+            (Txn.discharge_gives (Txn.begun (txn_of self.entry)) false) Txn.of_spend
+            (OneCleanup R.told R.remove_gives R.flow_gives) Txn.Error.from_gives self.entry result }
     {
         discharge(self, rt, false)
     }
@@ -36,8 +38,9 @@ impl<'r, Txn: TransactionBase + TransactionDischarge, R: ReceiverLink> TxnAcquis
     pub fn rollback<W: Wait>(self, rt: &W) -> EndAsked<'r, Txn, R, Txn::Error>
     where
         Txn::Error: From<FlowError>,
-        ensures { AsksToEnd Txn.begun (OneCleanup R.told R.remove_gives R.flow_gives)
-            Txn.Error.from_gives self.entry result }
+        ensures { AsksToEnd Txn.begun
+            (Txn.discharge_gives (Txn.begun (txn_of self.entry)) true) Txn.of_spend
+            (OneCleanup R.told R.remove_gives R.flow_gives) Txn.Error.from_gives self.entry result }
     {
         discharge(self, rt, true)
     }
@@ -46,8 +49,10 @@ impl<'r, Txn: TransactionBase + TransactionDischarge, R: ReceiverLink> TxnAcquis
     /// or not: see [`TransactionDischarge::abandon`].
     pub fn abandon<W: Wait>(self, rt: &W) -> Abandoned
         ensures end { GivesUp (Txn.begun (txn_of self.entry)) result }
-        ensures cleaned { (Txn.begun (txn_of self.entry)).is_discharged ≡ false
-            → IsCleanedUp (OneCleanup R.told R.remove_gives R.flow_gives) (recver_of self.entry) }
+        ensures gives { IfTried (Txn.begun (txn_of self.entry))
+            (Txn.abandon_gives (Txn.begun (txn_of self.entry)) result) }
+        ensures cleaned { IfUndischarged (Txn.begun (txn_of self.entry))
+            (IsCleanedUp (OneCleanup R.told R.remove_gives R.flow_gives) (recver_of self.entry)) }
     {
         let mut acquisition = self;
         if acquisition.txn().is_discharged() {
@@ -72,8 +77,10 @@ fn discharge<'r, Txn: TransactionBase + TransactionDischarge, R: ReceiverLink, W
 ) -> EndAsked<'r, Txn, R, Txn::Error>
 where
     Txn::Error: From<FlowError>,
-    ensures { AsksToEnd Txn.begun (OneCleanup R.told R.remove_gives R.flow_gives)
-        Txn.Error.from_gives acquisition.entry result }
+    ensures { AsksToEnd Txn.begun
+        (Txn.discharge_gives (Txn.begun (txn_of acquisition.entry)) fail) Txn.of_spend
+        (OneCleanup R.told R.remove_gives R.flow_gives) Txn.Error.from_gives acquisition.entry
+        result }
 {
     if let Err(fault) = acquisition.cleanup() {
         return Err((acquisition, Txn::Error::from(fault)));
@@ -115,6 +122,10 @@ impl<'r, Txn: TransactionBase + TransactionDischarge, R: ReceiverLink> Acquisiti
     ) -> Progress<Self, Result<(), (TxnAcquisition<'r, Txn, R>, Txn::Error)>>
         ensures polls { PollsToEnd (λ acquisition. Txn.begun (txn_of acquisition)) acquisition_of
             Txn.of_spend (Txn.begun (txn_of (acquisition_of self.entry))) result }
+        ensures waits { WaitsOn waiting_of (waiting_of self.entry) result }
+        ensures finds { IfUndischarged (Txn.begun (txn_of (acquisition_of self.entry)))
+            (FindsEnd waiting_of Txn.of_spend (Txn.poll_gives (waiting_of self.entry)) result) }
+        ensures spends { SpendsAtEnd Txn.of_spend Txn.spend_gives result }
         ensures lent { KeepsReceiver acquisition_of (lent_to (acquisition_of self.entry)) result }
     {
         let AcquisitionDischarging {
