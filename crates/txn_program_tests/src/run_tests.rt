@@ -1,8 +1,8 @@
 //! Whole runs: what the program answers to words and lines, with ample memory.
 
 use amqp_below::{OpenSession, Recorder, SureSink, SureSource};
-use amqp_record::{Entry, is_legal, work};
-use amqp_txn_types::{Binary, Frame, Frames, Items, NoMemory, Text};
+use amqp_record::is_legal;
+use amqp_txn_types::{Binary, Items, NoMemory, Text};
 use std::alloc::{Alloc, Global};
 use std::process::Abort;
 use std::test::Fail;
@@ -242,118 +242,4 @@ fn words_and_lines_outside_the_tables_have_their_texts(rt: HostRuntime) -> Resul
         "not a step: line 1\n",
     )?;
     assert_run(&rt, &["run", A], "\n", 3, "not a step: line 1\n")
-}
-
-/// Two transactions whose posts interleave, each ended by the other's link in vain and then by its
-/// own, the second first.
-fn put_pair(lines: &mut String, pair: u32) -> Result<(), NoMemory> {
-    let end = if pair % 3 == 0 { "02a010" } else { "01a010" };
-    let size = if pair % 3 == 0 { "14" } else { "13" };
-    let fail = if pair % 3 == 0 { "41" } else { "" };
-    for _ in 0..2u32 {
-        lines.push_str("control 0 00537700533145\n")?;
-    }
-    for post in 0..4u32 {
-        let id = if post % 2 == 0 { A } else { B };
-        write!(lines, "post {id} 1 {pair} - - 61\n")?;
-    }
-    for id in [B, A] {
-        for link in [1u32, 0] {
-            write!(
-                lines,
-                "control {link} 005377005332c0{size}{end}{id}{fail}\n"
-            )?;
-        }
-    }
-    Ok(())
-}
-
-/// Some hundred lines: pairs of interleaved transactions, every third rolled back, whose ids come
-/// again.
-fn put_pairs(lines: &mut String) -> Result<(), NoMemory> {
-    lines.push_str("attach c 0\nattach d 1\n")?;
-    for pair in 0..40u32 {
-        put_pair(lines, pair)?;
-    }
-    Ok(())
-}
-
-/// The words of a run that draws two ids 32 times in turn.
-fn words_of_pairs() -> [&'static str; 65] {
-    let mut words = [A; 65];
-    words[0] = "run";
-    for pair in 1..33usize {
-        words[2 * pair] = B;
-    }
-    words
-}
-
-/// Whether these frames were taken, and no others.
-fn are_taken(frames: &[Frame], taken: &[(Frame, Frames)]) -> bool {
-    if frames.len() != taken.len() {
-        return false;
-    }
-    for (frame, exchange) in frames.iter().zip(taken) {
-        if *frame != exchange.0 {
-            return false;
-        }
-    }
-    true
-}
-
-/// Whether the work of a legal record is what was taken.
-fn is_work_taken(
-    alloc: Global,
-    entries: &[Entry],
-    taken: &[(Frame, Frames)],
-) -> Result<bool, NoMemory> {
-    if !is_legal(entries) {
-        return Ok(false);
-    }
-    let frames = work(alloc, entries)?;
-    let same = are_taken(frames.as_slice(), taken);
-    drop(frames);
-    Ok(same)
-}
-
-/// The number of entries of a run's record, and whether its work is what was taken.
-fn count_and_work(alloc: Global, ran: &Ran<OpenSession>) -> Result<(usize, bool), NoMemory> {
-    match &ran.driven {
-        Some(driven) => {
-            let entries = driven.entries.as_slice();
-            let same = is_work_taken(alloc, entries, ran.below.exchanges().as_slice())?;
-            Ok((entries.len(), same))
-        }
-        None => Ok((0, false)),
-    }
-}
-
-/// The status of a run, the number of its entries, and whether its work is what was taken.
-fn work_of_run(
-    alloc: Global,
-    words: &[&str],
-    input: &str,
-) -> Result<(u8, (usize, bool)), NoMemory> {
-    let mut sink = SureSink::new(alloc);
-    let ran = ran(alloc, words, input, &mut sink);
-    drop(sink);
-    let ran = ran?;
-    let status = ran.status;
-    let facts = count_and_work(alloc, &ran);
-    drop(ran);
-    Ok((status, facts?))
-}
-
-#[test]
-fn many_interleaved_transactions_agree_with_the_plain_program(rt: HostRuntime) -> Result<(), Fail> {
-    let mut input = String::new(rt.alloc());
-    let put = put_pairs(&mut input);
-    let facts = work_of_run(rt.alloc(), &words_of_pairs(), input.as_str());
-    drop(input);
-    put?;
-    let (status, (entries, same)) = facts?;
-    assert_eq!(rt; status, 1);
-    assert!(rt; entries > 300);
-    assert!(rt; same);
-    Ok(())
 }

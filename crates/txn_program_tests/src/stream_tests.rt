@@ -1,7 +1,9 @@
 //! Sources and sinks of which calls fail, and those of the standard library.
 
 use crate::run_tests::{A, append_words};
-use amqp_below::{ByteSink, ByteSource, Failed, MemorySink, MemorySource, OpenSession, Recorder};
+use amqp_below::{
+    ByteSink, ByteSource, Failed, MemorySink, MemorySource, OpenSession, Recorder, SureSink,
+};
 use amqp_txn_types::{Binary, CallNumbers, Items, NoMemory};
 use std::alloc::Global;
 use std::test::Fail;
@@ -17,10 +19,10 @@ fn failing(alloc: Global, call: u64) -> Result<CallNumbers, NoMemory> {
 }
 
 /// The status of `run A` over a source and a sink.
-fn status_over(
+fn status_over<O: ByteSink>(
     alloc: Global,
     source: &mut MemorySource,
-    sink: &mut MemorySink,
+    sink: &mut O,
 ) -> Result<u8, NoMemory> {
     let mut texts = Items::new(alloc);
     if let Err(error) = append_words(alloc, &mut texts, &["run", A]) {
@@ -96,6 +98,56 @@ fn each_read_of_a_long_input_may_fail(rt: HostRuntime) -> Result<(), Fail> {
 fn a_sink_that_fails_is_a_write_fault(rt: HostRuntime) -> Result<(), Fail> {
     assert_eq!(rt; ends_so(rt.alloc(), b"", 0, 1, "")?, (5, true));
     assert_eq!(rt; ends_so(rt.alloc(), b"", 0, 2, DONE)?, (0, true));
+    Ok(())
+}
+
+/// A sink in memory that counts how often it was asked for room, and knows for how much at last.
+#[derive(Drop)]
+struct AskedSink {
+    sink: SureSink,
+    asks: u32,
+    room: usize,
+}
+
+impl ByteSink for AskedSink {
+    ghost use Rattle.std.specs.Prelude.{Some};
+
+    ghost written = { λ s. Some s.sink.octets };
+
+    ghost faults = { λ _. 0 };
+
+    ghost spare = { λ s. s.sink.spare };
+
+    fn reserve(&mut self, more: usize) -> Result<(), NoMemory> {
+        self.asks = self.asks.saturating_add(1);
+        self.room = more;
+        self.sink.reserve(more)
+    }
+
+    fn write(&mut self, bytes: &[u8]) -> Result<usize, Failed> {
+        self.sink.write(bytes)
+    }
+}
+
+/// How often an empty run asks its sink for room, and for how much at last.
+fn asked_by_a_run(alloc: Global) -> Result<(u32, usize), NoMemory> {
+    let mut source = MemorySource::new(Binary::from_slice(alloc, b"")?, CallNumbers::new(alloc));
+    let mut sink = AskedSink {
+        sink: SureSink::new(alloc),
+        asks: 0,
+        room: 0,
+    };
+    let status = status_over(alloc, &mut source, &mut sink);
+    drop(source);
+    let asked = (sink.asks, sink.room);
+    drop(sink);
+    status?;
+    Ok(asked)
+}
+
+#[test]
+fn a_sink_is_asked_once_for_the_room_of_the_text(rt: HostRuntime) -> Result<(), Fail> {
+    assert_eq!(rt; asked_by_a_run(rt.alloc())?, (1, DONE.len()));
     Ok(())
 }
 
