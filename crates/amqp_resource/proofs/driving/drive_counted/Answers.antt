@@ -130,8 +130,8 @@ returns-clause-fits g c = fits-stands (held_of c.loop-at.session) (take c.loop-a
 
 pub returns-in-Err-clause-looks : goal.returns-in-Err-clause-looks
 returns-in-Err-clause-looks g c =
-    let said = c.in-Err.ensures.says in
-    let spent = step_spends (held_of c.loop-at.session) c.index.result.now.step (held_of c.loop-at.session).work (held_of c.step_counted.new.self).work c.loop-at.looks c.step_counted.new.looks (record { ended = said.looks; all = c.in-Ok.ensures.dues }) in
+    let said = c.in-Err.ensures in
+    let spent = step_spends (held_of c.loop-at.session) c.index.result.now.step (held_of c.loop-at.session).work (held_of c.step_counted.new.self).work c.loop-at.looks c.step_counted.new.looks (record { ended = said.looks; all = said.dues }) in
     rw (c.driven.ensures, c.truncate.ensures.items) (omega (arith, c.loop-at.invariant.looks, spent))
 
 pub returns-clause-looks : goal.returns-clause-looks
