@@ -77,16 +77,18 @@ fn answers_peer(alloc: Global, acceptor: SessionAcceptor) -> bool {
     };
     let channel = begin.remote_channel;
     drop(begin);
-    channel == Some(3) && is_mapped_on(session, OutgoingChannel(4))
+    channel == Some(3) && is_plain_on(session, OutgoingChannel(4))
+}
+
+/// Whether a session is mapped on this channel.
+fn is_mapped_on<S: Session>(session: &S, channel: OutgoingChannel) -> bool {
+    session.local_state() == SessionState::Mapped && session.outgoing_channel() == channel
 }
 
 /// Whether a session does no transactions, and is mapped on this channel.
-fn is_mapped_on(session: AcceptedSession, channel: OutgoingChannel) -> bool {
+fn is_plain_on(session: AcceptedSession, channel: OutgoingChannel) -> bool {
     let found = match &session {
-        AcceptedSession::Plain(engine) => {
-            engine.session().local_state() == SessionState::Mapped
-                && engine.session().outgoing_channel() == channel
-        }
+        AcceptedSession::Plain(engine) => is_mapped_on(engine.session(), channel),
         AcceptedSession::Transactional(_) => false,
     };
     drop(session);

@@ -3,14 +3,19 @@
 use amqp_acceptors::ControlLinkAcceptor;
 use amqp_endpoints::{IncomingSession, MemoryConnection};
 use amqp_links::Poll;
+use amqp_listener::ListenerSession;
+use amqp_resource::TxnSession;
 use amqp_session_acceptor::*;
-use amqp_sessions::BeginError;
+use amqp_sessions::{BeginError, PlainSession};
 use amqp_txn_types::{
     Attach, Begin, ConnectionStopReason, Coordinator, DeliveryState, Frame, Handle, Payload,
     ReceiverSettleMode, Role, SenderSettleMode, TargetArchetype, Text, TransactionId,
     TransactionalState, Transfer,
 };
 use std::alloc::Global;
+
+/// A session that does transactions, whose peer's attaches wait.
+pub type Listening = TxnSession<ListenerSession<PlainSession>>;
 
 /// The peer's begin.
 fn begin() -> Begin {
