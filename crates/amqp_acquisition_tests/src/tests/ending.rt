@@ -2,14 +2,14 @@
 
 use super::fixtures::{
     WireAcquisition, WireTransaction, a_and_b, acquired, answers, as_of, controller,
-    ends_discharged, flow_is, last_is, puts, receiver, same, skips,
+    ends_discharged, flow_is, is_to_fail, last_is, next_call_is, puts, receiver, same, skips,
 };
 use amqp_acquisition::AcquisitionDischarging;
 use amqp_control_calls::{Abandoned, ControllerSendError};
 use amqp_endpoints::Progress;
 use amqp_links::{FlowError, LinkStateError, WireReceiver, WireSender};
 use amqp_transactions::{Controller, TransactionDischarge};
-use amqp_txn_types::{DeliveryState, Fields, NoMemory};
+use amqp_txn_types::{DeliveryState, Fields, NoMemory, Rejected};
 use std::alloc::Global;
 use std::sync::Wait;
 use std::test::Fail;
@@ -76,21 +76,23 @@ fn is_over<W: Wait>(rt: &W, discharging: WireDischarging<'_, '_>) -> bool {
 }
 
 /// Whether a discharge of the acquisition is put with its octets, and done once it is accepted.
+/// The declare, its look, the discharge and two looks are five calls.
 fn ends<W: Wait>(
     rt: &W,
     alloc: Global,
     controller: &Controller<WireSender>,
     acquisition: WireAcquisition<'_, '_>,
     fail: bool,
-) -> bool {
+) -> Result<bool, NoMemory> {
     let Some(discharging) = pends(rt, acquisition, fail) else {
-        return false;
+        return Ok(false);
     };
     let octets = if fail { ROLLBACK } else { COMMIT };
     let put = last_is(rt, alloc, controller, &octets);
     answers(rt, controller, 1, DeliveryState::Accepted);
     let over = is_over(rt, discharging);
-    put && over && puts(rt, controller) == 2
+    let looks = next_call_is(rt, alloc, controller, 6)?;
+    Ok(put && over && looks && puts(rt, controller) == 2)
 }
 
 fn discharges<W: Wait>(
@@ -101,7 +103,7 @@ fn discharges<W: Wait>(
 ) -> Result<bool, NoMemory> {
     let controller = controller(alloc)?;
     match acquired(rt, alloc, &controller, wire) {
-        Some(acquisition) => Ok(ends(rt, alloc, &controller, acquisition, fail)),
+        Some(acquisition) => ends(rt, alloc, &controller, acquisition, fail),
         None => Ok(false),
     }
 }
@@ -167,6 +169,49 @@ fn a_commit_after_a_failed_cleanup_puts_nothing(rt: HostRuntime) -> Result<(), F
     Ok(())
 }
 
+/// Whether a commit whose discharge the control link refuses hands the acquisition back.
+fn is_unsent<W: Wait>(rt: &W, acquisition: WireAcquisition<'_, '_>) -> bool {
+    match acquisition.commit(rt) {
+        Ok(discharging) => {
+            let _ = skips(rt, discharging.into_value());
+            false
+        }
+        Err((acquisition, error)) => {
+            let want = ControllerSendError::LinkStateError(LinkStateError::IllegalState);
+            let refused = same(error, want);
+            let gone = skips(rt, acquisition);
+            refused && gone
+        }
+    }
+}
+
+fn unsends<W: Wait>(rt: &W, alloc: Global, wire: &mut WireReceiver) -> Result<bool, NoMemory> {
+    let controller = controller(alloc)?;
+    is_to_fail(rt, alloc, &controller, 3)?;
+    match acquired(rt, alloc, &controller, wire) {
+        Some(acquisition) => {
+            let refused = is_unsent(rt, acquisition);
+            Ok(refused && puts(rt, &controller) == 1)
+        }
+        None => Ok(false),
+    }
+}
+
+/// The third call of the control link is the discharge. Giving the acquisition up cleans up again.
+fn unsent_row<W: Wait>(rt: &W, alloc: Global) -> Result<bool, NoMemory> {
+    let mut wire = receiver(alloc, &[])?;
+    let refused = unsends(rt, alloc, &mut wire)?;
+    let cleaned = is_cleaned(&wire, alloc) && wire.put().len() == 3;
+    drop(wire);
+    Ok(refused && cleaned)
+}
+
+#[test]
+fn a_refused_discharge_hands_the_acquisition_back(rt: HostRuntime) -> Result<(), Fail> {
+    assert!(rt; unsent_row(&rt, rt.alloc())?);
+    Ok(())
+}
+
 /// Whether a cleanup fails, and the acquisition is then given up as discharged.
 fn fails_to_clean<W: Wait>(
     rt: &W,
@@ -225,21 +270,24 @@ fn a_cleanup_takes_the_credit_back(rt: HostRuntime) -> Result<(), Fail> {
 /// Whether the poll of a rollback that is refused hands the acquisition back undischarged.
 fn is_handed_back<W: Wait>(
     rt: &W,
-    controller: &Controller<WireSender>,
     discharging: WireDischarging<'_, '_>,
+    want: ControllerSendError,
 ) -> bool {
-    answers(rt, controller, 1, DeliveryState::Released);
     match discharging.poll(rt) {
         Progress::Ready(Err((acquisition, error))) => {
             let undischarged = !acquisition.txn().is_discharged();
             let gone = skips(rt, acquisition);
-            undischarged && gone && same(error, ControllerSendError::IllegalDeliveryState)
+            undischarged && gone && same(error, want)
         }
         Progress::Pending(discharging) => {
+            drop(want);
             let _ = skips(rt, discharging.into_value());
             false
         }
-        Progress::Ready(Ok(())) => false,
+        Progress::Ready(Ok(())) => {
+            drop(want);
+            false
+        }
     }
 }
 
@@ -247,49 +295,86 @@ fn refuses_rollback<W: Wait>(
     rt: &W,
     alloc: Global,
     wire: &mut WireReceiver,
+    state: DeliveryState,
+    want: ControllerSendError,
 ) -> Result<bool, NoMemory> {
     let controller = controller(alloc)?;
-    let Some(acquisition) = acquired(rt, alloc, &controller, wire) else {
-        return Ok(false);
+    let begun = match acquired(rt, alloc, &controller, wire) {
+        Some(acquisition) => pends(rt, acquisition, true),
+        None => None,
     };
-    match pends(rt, acquisition, true) {
-        Some(discharging) => Ok(is_handed_back(rt, &controller, discharging)),
-        None => Ok(false),
+    answers(rt, &controller, 1, state);
+    match begun {
+        Some(discharging) => Ok(is_handed_back(rt, discharging, want)),
+        None => {
+            drop(want);
+            Ok(false)
+        }
     }
 }
 
-fn handed_back_row<W: Wait>(rt: &W, alloc: Global) -> Result<bool, NoMemory> {
+fn handed_back_row<W: Wait>(
+    rt: &W,
+    alloc: Global,
+    state: DeliveryState,
+    want: ControllerSendError,
+) -> Result<bool, NoMemory> {
     let mut wire = receiver(alloc, &[])?;
-    refuses_rollback(rt, alloc, &mut wire)
+    refuses_rollback(rt, alloc, &mut wire, state, want)
 }
 
 #[test]
 fn a_refused_end_hands_the_acquisition_back(rt: HostRuntime) -> Result<(), Fail> {
-    assert!(rt; handed_back_row(&rt, rt.alloc())?);
+    let want = ControllerSendError::IllegalDeliveryState;
+    assert!(rt; handed_back_row(&rt, rt.alloc(), DeliveryState::Released, want)?);
+    let state = DeliveryState::Rejected(Rejected { error: None });
+    let want = ControllerSendError::Rejected(Rejected { error: None });
+    assert!(rt; handed_back_row(&rt, rt.alloc(), state, want)?);
     Ok(())
 }
 
-/// Whether giving an acquisition up with one trial ends so, and puts one rollback.
-fn gives_up<W: Wait>(
+/// What giving an acquisition up with one trial comes to.
+fn given_up<W: Wait>(rt: &W, mut acquisition: WireAcquisition<'_, '_>) -> Abandoned {
+    acquisition.txn_mut().set_rollback_on_drop_trials(1);
+    acquisition.abandon(rt)
+}
+
+/// Whether one rollback is put, and looked for once.
+fn gives_up<W: Wait>(rt: &W, alloc: Global, wire: &mut WireReceiver) -> Result<bool, NoMemory> {
+    let controller = controller(alloc)?;
+    let Some(acquisition) = acquired(rt, alloc, &controller, wire) else {
+        return Ok(false);
+    };
+    let gone = same(given_up(rt, acquisition), Abandoned::Unanswered);
+    let put = last_is(rt, alloc, &controller, &ROLLBACK) && puts(rt, &controller) == 2;
+    let look = next_call_is(rt, alloc, &controller, 5)?;
+    Ok(gone && put && look)
+}
+
+/// Whether a rollback that the control link refuses, which is its third call, isn't looked for.
+fn fails_to_roll_back<W: Wait>(
     rt: &W,
     alloc: Global,
     wire: &mut WireReceiver,
-    want: Abandoned,
 ) -> Result<bool, NoMemory> {
     let controller = controller(alloc)?;
-    let Some(mut acquisition) = acquired(rt, alloc, &controller, wire) else {
-        drop(want);
+    is_to_fail(rt, alloc, &controller, 3)?;
+    let Some(acquisition) = acquired(rt, alloc, &controller, wire) else {
         return Ok(false);
     };
-    acquisition.txn_mut().set_rollback_on_drop_trials(1);
-    let end = acquisition.abandon(rt);
-    let put = last_is(rt, alloc, &controller, &ROLLBACK) && puts(rt, &controller) == 2;
-    Ok(same(end, want) && put)
+    let fault = ControllerSendError::LinkStateError(LinkStateError::IllegalState);
+    let gone = same(given_up(rt, acquisition), Abandoned::Failed(fault));
+    let no_look = next_call_is(rt, alloc, &controller, 4)?;
+    Ok(gone && no_look)
 }
 
-fn abandon_row<W: Wait>(rt: &W, alloc: Global) -> Result<bool, NoMemory> {
+fn abandon_row<W: Wait>(rt: &W, alloc: Global, refused: bool) -> Result<bool, NoMemory> {
     let mut wire = receiver(alloc, &[])?;
-    let gone = gives_up(rt, alloc, &mut wire, Abandoned::Unanswered)?;
+    let gone = if refused {
+        fails_to_roll_back(rt, alloc, &mut wire)?
+    } else {
+        gives_up(rt, alloc, &mut wire)?
+    };
     let cleaned = is_cleaned(&wire, alloc) && wire.put().len() == 2;
     drop(wire);
     Ok(gone && cleaned)
@@ -297,7 +382,8 @@ fn abandon_row<W: Wait>(rt: &W, alloc: Global) -> Result<bool, NoMemory> {
 
 #[test]
 fn an_abandon_cleans_up_and_rolls_back(rt: HostRuntime) -> Result<(), Fail> {
-    assert!(rt; abandon_row(&rt, rt.alloc())?);
+    assert!(rt; abandon_row(&rt, rt.alloc(), false)?);
+    assert!(rt; abandon_row(&rt, rt.alloc(), true)?);
     Ok(())
 }
 

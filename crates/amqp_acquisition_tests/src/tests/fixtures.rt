@@ -3,7 +3,10 @@
 use amqp_acquisition::{TransactionAcquisition, TxnAcquisition};
 use amqp_control_calls::Abandoned;
 use amqp_endpoints::Progress;
-use amqp_links::{ReceiverLink, ReceiverMessage, Sendable, Sent, WireReceiver, WireSender};
+use amqp_links::{
+    LinkStateError, Poll, ReceiverLink, ReceiverMessage, Sendable, SenderLink, Sent, WireReceiver,
+    WireSender,
+};
 use amqp_transactions::{Controller, Transaction, TransactionDischarge};
 use amqp_txn_types::{
     CallNumbers, Declared, DeliveryState, Fields, LinkEnd, NoMemory, OutputHandle, Payload,
@@ -192,6 +195,33 @@ pub fn flow_is(wire: &WireReceiver, credit: u32, drain: Option<bool>, properties
 pub fn puts<W: Wait>(rt: &W, controller: &Controller<WireSender>) -> usize {
     let link = controller.link(rt);
     link.put().len()
+}
+
+/// Lists a call of the control link that is to fail, by its number.
+pub fn is_to_fail<W: Wait>(
+    rt: &W,
+    alloc: Global,
+    controller: &Controller<WireSender>,
+    number: u64,
+) -> Result<(), NoMemory> {
+    let failing = Vec::from_slice(alloc, &[number])?;
+    let mut link = controller.link(rt);
+    link.set_failing(CallNumbers::from_vec(failing));
+    Ok(())
+}
+
+/// Whether the next call of the control link, looks and all, has that number. It is a look that is
+/// to fail.
+pub fn next_call_is<W: Wait>(
+    rt: &W,
+    alloc: Global,
+    controller: &Controller<WireSender>,
+    number: u64,
+) -> Result<bool, NoMemory> {
+    is_to_fail(rt, alloc, controller, number)?;
+    let mut link = controller.link(rt);
+    let found = link.outcome(&Token(9));
+    Ok(same(found, Poll::Ready(Err(LinkStateError::IllegalState))))
 }
 
 /// Whether the last message that was put on the control link is that, unsettled, without a state,
