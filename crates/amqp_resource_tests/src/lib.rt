@@ -5,6 +5,8 @@
 #[cfg(test)]
 mod listener_tests;
 #[cfg(test)]
+mod log_tests;
+#[cfg(test)]
 mod tests;
 #[cfg(test)]
 mod window_tests;
