@@ -11,8 +11,9 @@ use amqp_transactions::{
     Attaching, Controller, OwnedDeclaring, OwnedTransaction, TransactionDischarge,
 };
 use amqp_txn_types::{
-    Attach, Begin, Coordinator, DeliveryState, Handle, NoMemory, OutgoingChannel,
-    ReceiverSettleMode, Role, SenderSettleMode, SessionState, SessionStopReason, Text, Token,
+    Attach, Begin, Coordinator, DeliveryState, Handle, LinkEnd, NoMemory, OutgoingChannel,
+    OutputHandle, ReceiverSettleMode, Role, SenderSettleMode, SessionState, SessionStopReason,
+    Text, Token,
 };
 use std::alloc::Global;
 use std::sync::Wait;
@@ -78,27 +79,106 @@ fn attach(session: &mut PlainSession, alloc: Global) -> Option<Attaching> {
 }
 
 /// Whether a link is pending first, and attached once the peer attached it.
-fn is_attached(session: &mut PlainSession, alloc: Global) -> bool {
-    let Some(attaching) = attach(session, alloc) else {
-        return false;
-    };
+fn is_attached(
+    session: &mut PlainSession,
+    alloc: Global,
+    attaching: Attaching,
+) -> Option<Controller<WireSender>> {
     let Progress::Pending(attaching) = attaching.poll(session) else {
-        return false;
+        return None;
     };
-    let taken = peer_attaches(session, alloc);
-    taken && matches!(attaching.poll(session), Progress::Ready(Ok(_)))
+    if !peer_attaches(session, alloc) {
+        return None;
+    }
+    match attaching.poll(session) {
+        Progress::Ready(Ok(controller)) => Some(controller),
+        Progress::Ready(Err(_)) | Progress::Pending(_) => None,
+    }
 }
 
-fn attaches(alloc: Global) -> bool {
+/// Whether the controller has that end of its link.
+fn has_end<R: Wait>(rt: &R, controller: &Controller<WireSender>, want: LinkEnd) -> bool {
+    let link = controller.link(rt);
+    let equal = *link.end() == want;
+    drop(link);
+    drop(want);
+    equal
+}
+
+/// The first end of a link of that name, which settles so.
+fn end_of(name: Text, mode: SenderSettleMode) -> LinkEnd {
+    LinkEnd {
+        name,
+        role: Role::Sender,
+        output: OutputHandle(0),
+        snd_settle_mode: mode,
+        rcv_settle_mode: ReceiverSettleMode::First,
+    }
+}
+
+/// Whether the link that is waited for gets that end.
+fn gets_end<R: Wait>(
+    rt: &R,
+    alloc: Global,
+    session: &mut PlainSession,
+    attaching: Attaching,
+    want: LinkEnd,
+) -> bool {
+    match is_attached(session, alloc, attaching) {
+        Some(controller) => has_end(rt, &controller, want),
+        None => {
+            drop(want);
+            false
+        }
+    }
+}
+
+fn attaches<R: Wait>(rt: &R, alloc: Global) -> Result<bool, NoMemory> {
+    let want = end_of(name(alloc)?, SenderSettleMode::Unsettled);
     let mut session = session(alloc);
-    let attached = is_attached(&mut session, alloc);
+    let attached = match attach(&mut session, alloc) {
+        Some(attaching) => gets_end(rt, alloc, &mut session, attaching, want),
+        None => false,
+    };
     drop(session);
-    attached
+    Ok(attached)
 }
 
 #[test]
 fn a_control_link_is_attached(rt: HostRuntime) -> Result<(), Fail> {
-    assert!(rt; attaches(rt.alloc()));
+    assert!(rt; attaches(&rt, rt.alloc())?);
+    Ok(())
+}
+
+/// The control link of that name that a builder asks for, which is sent settled.
+fn built(session: &mut PlainSession, alloc: Global) -> Option<Attaching> {
+    let Ok(name) = name(alloc) else {
+        return None;
+    };
+    let builder = Controller::builder(alloc)
+        .name(name)
+        .coordinator(Coordinator::default())
+        .sender_settle_mode(SenderSettleMode::Settled);
+    match builder.attach(session) {
+        Ok((attaching, _)) => Some(attaching),
+        Err(_) => None,
+    }
+}
+
+fn builds<R: Wait>(rt: &R, alloc: Global) -> Result<bool, NoMemory> {
+    let want = end_of(name(alloc)?, SenderSettleMode::Settled);
+    let mut session = session(alloc);
+    let attached = match built(&mut session, alloc) {
+        Some(attaching) => gets_end(rt, alloc, &mut session, attaching, want),
+        None => false,
+    };
+    drop(session);
+    Ok(attached)
+}
+
+#[test]
+fn a_control_link_is_built(rt: HostRuntime) -> Result<(), Fail> {
+    assert!(rt; builds(&rt, rt.alloc())?);
     Ok(())
 }
 

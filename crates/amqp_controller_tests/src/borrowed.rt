@@ -14,7 +14,7 @@ use std::sync::Wait;
 use std::test::Fail;
 
 /// The transaction 010203 over the controller, after one put and two looks.
-fn begun<'t, R: Wait>(
+pub fn begun<'t, R: Wait>(
     rt: &R,
     controller: &'t Controller<CountingLink>,
 ) -> Option<Transaction<'t, CountingLink>> {

@@ -6,6 +6,7 @@
 //! | `control` | calls on a control link that is lent |
 //! | `posting` | posts and retirements |
 //! | `borrowed`, `owned` | which calls are made over a controller's lock |
+//! | `faults` | faults of the link under the lock |
 //! | `orders`, `closing` | two transactions over one controller; controllers that are closed |
 //! | `attaching` | control links that are attached over a session |
 //! | `texts` | printed texts of errors |
@@ -19,6 +20,8 @@ mod borrowed;
 mod closing;
 #[cfg(test)]
 mod control;
+#[cfg(test)]
+mod faults;
 #[cfg(test)]
 mod links;
 #[cfg(test)]

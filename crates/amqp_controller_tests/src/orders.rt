@@ -26,24 +26,27 @@ fn is_declared<R: Wait>(
     }
 }
 
-/// Whether the second of two declares is answered while the first is pending, and then the first.
-fn answers_second<'t, R: Wait>(
+/// Whether the declare of that number is answered with that id, once the link has the answer.
+fn answers<R: Wait>(
+    rt: &R,
+    controller: &Controller<CountingLink>,
+    number: u64,
+    declaring: Declaring<'_, CountingLink>,
+    txn_id: TransactionId,
+) -> bool {
+    let state = DeliveryState::Declared(Declared { txn_id });
+    let filled = fills(rt, controller, number, state);
+    is_declared(rt, declaring, txn_id) && filled
+}
+
+/// Whether the first of two declares is pending, and then answered.
+fn answers_first<'t, R: Wait>(
     rt: &R,
     controller: &'t Controller<CountingLink>,
     first: Declaring<'t, CountingLink>,
-    second: Declaring<'t, CountingLink>,
 ) -> bool {
-    let other = TransactionId::from([9; 16]);
-    let state = DeliveryState::Declared(Declared { txn_id: other });
-    let filled = fills(rt, controller, 1, state);
-    let answered = is_declared(rt, second, other);
     match first.poll(rt) {
-        Progress::Pending(first) => {
-            let state = DeliveryState::Declared(Declared { txn_id: id() });
-            let awaited = fills(rt, controller, 0, state);
-            let then = is_declared(rt, first, id());
-            filled && answered && awaited && then
-        }
+        Progress::Pending(first) => answers(rt, controller, 0, first, id()),
         Progress::Ready(Ok(transaction)) => {
             lets_go(rt, transaction);
             false
@@ -60,8 +63,10 @@ fn in_any_order<R: Wait>(rt: &R, alloc: Global) -> Result<bool, NoMemory> {
     let Ok(second) = Transaction::declare(&controller, rt, None) else {
         return Ok(false);
     };
-    let answered = answers_second(rt, &controller, first, second);
-    Ok(answered && counts(rt, &controller) == (2, 3, 0))
+    let other = TransactionId::from([9; 16]);
+    let answered = answers(rt, &controller, 1, second, other);
+    let then = answers_first(rt, &controller, first);
+    Ok(answered && then && counts(rt, &controller) == (2, 3, 0))
 }
 
 #[test]

@@ -18,7 +18,7 @@ use std::sync::Wait;
 use std::test::Fail;
 
 /// A transaction that owns its controller.
-type Owned = OwnedTransaction<CountingLink>;
+pub type Owned = OwnedTransaction<CountingLink>;
 
 /// Its declare, which was put.
 type Declaring = OwnedDeclaringOn<CountingLink>;
@@ -62,7 +62,7 @@ fn declared<R: Wait>(rt: &R, declaring: Declaring) -> Option<Owned> {
 }
 
 /// The transaction 010203, of whose link the calls of those numbers are to fail.
-fn begun<R: Wait>(rt: &R, alloc: Global, failing: &[u64]) -> Result<Option<Owned>, NoMemory> {
+pub fn begun<R: Wait>(rt: &R, alloc: Global, failing: &[u64]) -> Result<Option<Owned>, NoMemory> {
     let controller = counting(alloc, failing)?;
     match OwnedTransaction::declare_with_controller(controller, rt, None) {
         Ok(declaring) => Ok(declared(rt, declaring)),

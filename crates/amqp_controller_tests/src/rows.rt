@@ -73,10 +73,20 @@ fn is_committed<T: TransactionDischarge + Over, R: Wait>(
     let Progress::Pending(waiting) = value.poll_discharge(rt, waiting) else {
         return false;
     };
+    put && is_marked(rt, value, waiting)
+}
+
+/// The value isn't discharged after the look that found nothing, and is after the one that found
+/// the answer.
+fn is_marked<T: TransactionDischarge + Over, R: Wait>(
+    rt: &R,
+    value: &mut T,
+    waiting: T::Waiting,
+) -> bool {
     let pending = counts(rt, value.over()) == (2, 3, 0) && !value.is_discharged();
     let awaited = fills(rt, value.over(), 1, DeliveryState::Accepted);
     let done = is_done(rt, value, waiting) && value.is_discharged();
-    put && pending && awaited && done && counts(rt, value.over()) == (2, 4, 0)
+    pending && awaited && done && counts(rt, value.over()) == (2, 4, 0)
 }
 
 /// A discharge of a discharged value puts nothing, and its poll is done without a look.
@@ -113,7 +123,18 @@ fn begins<T: TransactionDischarge, R: Wait>(
     }
 }
 
-/// A discharge that was put: pending, one look.
+/// The discharge of a value, begun; a value that is handed back is let go.
+fn begun<T: TransactionDischarge, R: Wait>(rt: &R, value: T, fail: bool) -> Option<Discharging<T>> {
+    match begins(rt, value, fail) {
+        Ok(discharge) => Some(discharge),
+        Err((value, _)) => {
+            lets_go(rt, value);
+            None
+        }
+    }
+}
+
+/// A discharge that was put, pending.
 fn pends<T: TransactionDischarge, R: Wait>(
     rt: &R,
     discharge: Discharging<T>,
@@ -128,7 +149,43 @@ fn pends<T: TransactionDischarge, R: Wait>(
     }
 }
 
-/// A discharge: one put of its octets and no look; pending, one look; then the answer is there.
+/// The discharge, where all went as it must; else its value is let go.
+fn kept<T: TransactionDischarge, R: Wait>(
+    rt: &R,
+    discharge: Discharging<T>,
+    went: bool,
+) -> Option<Discharging<T>> {
+    if went {
+        return Some(discharge);
+    }
+    lets_go(rt, discharge.into_value());
+    None
+}
+
+/// A discharge that is begun: one put of its octets, and no look.
+fn puts<T: TransactionDischarge + Over, R: Wait>(
+    rt: &R,
+    alloc: Global,
+    value: T,
+    fail: bool,
+) -> Option<Discharging<T>> {
+    let discharge = begun(rt, value, fail)?;
+    let octets = if fail { ROLLBACK } else { COMMIT };
+    let over = discharge.value().over();
+    let put = counts(rt, over) == (2, 2, 0) && last_is(rt, alloc, over, &octets);
+    kept(rt, discharge, put)
+}
+
+/// What the coordinator answers to a discharge.
+fn answer(accepts: bool) -> DeliveryState {
+    if accepts {
+        DeliveryState::Accepted
+    } else {
+        DeliveryState::Rejected(unknown_id())
+    }
+}
+
+/// A discharge: put; then pending, one look; then the answer is there.
 pub fn asks<T: TransactionDischarge + Over, R: Wait>(
     rt: &R,
     alloc: Global,
@@ -136,29 +193,11 @@ pub fn asks<T: TransactionDischarge + Over, R: Wait>(
     fail: bool,
     accepts: bool,
 ) -> Option<Discharging<T>> {
-    let discharge = match begins(rt, value, fail) {
-        Ok(discharge) => discharge,
-        Err((value, _)) => {
-            lets_go(rt, value);
-            return None;
-        }
-    };
-    let octets = if fail { ROLLBACK } else { COMMIT };
-    let put = counts(rt, discharge.value().over()) == (2, 2, 0)
-        && last_is(rt, alloc, discharge.value().over(), &octets);
+    let discharge = puts(rt, alloc, value, fail)?;
     let discharge = pends(rt, discharge)?;
-    let pending = counts(rt, discharge.value().over()) == (2, 3, 0);
-    let answer = if accepts {
-        DeliveryState::Accepted
-    } else {
-        DeliveryState::Rejected(unknown_id())
-    };
-    let awaited = fills(rt, discharge.value().over(), 1, answer);
-    if put && pending && awaited {
-        return Some(discharge);
-    }
-    lets_go(rt, discharge.into_value());
-    None
+    let over = discharge.value().over();
+    let awaited = counts(rt, over) == (2, 3, 0) && fills(rt, over, 1, answer(accepts));
+    kept(rt, discharge, awaited)
 }
 
 /// Whether the poll of the discharge is over with an Ok.
@@ -231,4 +270,13 @@ pub fn unsent_row<T: TransactionDischarge + Over, R: Wait>(rt: &R, value: T) -> 
             left.then_some(error)
         }
     }
+}
+
+/// The error of a commit whose first look fails: the value is handed back as it was.
+pub fn unfound_row<T: TransactionDischarge + Over, R: Wait>(rt: &R, value: T) -> Option<T::Error> {
+    let commit = begun(rt, value, false)?;
+    let (value, error) = refused(rt, commit)?;
+    let left = counts(rt, value.over()) == (2, 3, 0) && !value.is_discharged();
+    lets_go(rt, value);
+    left.then_some(error)
 }
