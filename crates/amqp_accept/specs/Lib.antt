@@ -17,3 +17,4 @@ pub use Rattle.amqp_listener.specs.Listening
 pub use Rattle.amqp_listener.specs.Hearing
 pub use Rattle.amqp_listener.specs.Controlling
 pub use Rattle.amqp_listener.specs.ListenerLaws
+pub use Rattle.amqp_accepting.specs.AtOnce

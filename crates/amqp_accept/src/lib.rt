@@ -7,6 +7,7 @@
 //! | [`OnDynamic`], [`RejectDynamic`], [`Ask`] | rules for nodes that the peer wants to be made | `amqp_acceptors` |
 //! | [`LinkEndpoint`], [`AcceptorAttachError`], [`SessionHandle`] | a link that was accepted, why one is not, and the session that is lent for it | `amqp_acceptors` |
 //! | [`ListenerSession`] | a session whose peer's attaches wait to be accepted | `amqp_listener` |
+//! | [`AcceptingListener`] | a listener that accepts each link as it comes | `amqp_accepting` |
 //! | [`ListenerSessionEndpoint`], [`ConnectionEnd`], [`MemoryConnection`] | the ends that acceptors work on | `amqp_endpoints` |
 //!
 //! ```text
@@ -23,6 +24,7 @@
 //! This crate has nothing of its own: it passes these on, and their definitions too.
 #![tactic(auto)]
 
+pub use amqp_accepting::AcceptingListener;
 pub use amqp_acceptors::{
     Acceptor, AcceptorAttachError, Ask, Builder, ControlLinkAcceptor, CreditMode, LinkAcceptor,
     LinkEndpoint, ListenerSessionHandle, LocalEnds, LocalReceiverLinkAcceptor,

@@ -49,7 +49,8 @@ EndRefused discharges of_spend from cleans old new begun error =
     ⊎ (cleans old new (Ok tt) × DischargeRefused discharges of_spend begun error)
 
 -- the acquisition keeps its receiver, and what its owner sees of its transaction
-pub record Keeps {Txn R : Type 0} (begun : Txn → Begun) (old new : TxnAcquisition Txn R) : Type 0 where
+pub record Keeps {Txn R : Type 0} (begun : Txn → Begun)
+    (old new : TxnAcquisition Txn R) : Type 0 where
   pub lent : (lent_to new).ghost_name ≡ (lent_to old).ghost_name
   pub seen : begun (txn_of new) ≡ begun (txn_of old)
 

@@ -118,6 +118,10 @@ impl LiveWork {
     }
 
     /// Adds an id without frames, for which there is room. It takes no memory.
+    ///
+    /// # Requires
+    ///
+    /// There is room, as [`LiveWork::make_room`] makes it, and the id isn't live.
     pub fn add(&mut self, txn_id: TransactionId, home: Option<u64>)
         requires room { HasPlace self.old }
         requires unused { kept self.old txn_id ≡ None }
@@ -138,6 +142,10 @@ impl LiveWork {
 
     /// Keeps work for a live id, as its last. For want of memory, the only error, nothing changes
     /// and the work comes back.
+    ///
+    /// # Requires
+    ///
+    /// The id is live.
     pub fn keep(
         &mut self,
         txn_id: &TransactionId,
@@ -179,6 +187,10 @@ impl LiveWork {
 
     /// Ends an id for which no frame is kept; nothing changes where it isn't live. It takes no
     /// memory.
+    ///
+    /// # Requires
+    ///
+    /// No frame is kept for the id.
     pub fn end(&mut self, txn_id: &TransactionId)
         requires { frames_kept (kept self.old txn_id.now) ≡ [] }
         ensures kept { (t : Id) → kept self.new t ≡ cond (same_id t txn_id.now) None

@@ -129,6 +129,10 @@ impl ArrivalLog {
 
     /// Opens an id, for which there may be room. For want of memory, the only error, nothing
     /// changes.
+    ///
+    /// # Requires
+    ///
+    /// The id isn't opened.
     pub fn open_id(&mut self, txn_id: TransactionId) -> Result<(), NoMemory>
         requires { is_opened self.old txn_id ≡ false }
         ensures fresh { frames_of self.new txn_id ≡ [] }
@@ -145,6 +149,10 @@ impl ArrivalLog {
     }
 
     /// Ends an opened id that has no live cell. It takes no memory.
+    ///
+    /// # Requires
+    ///
+    /// The id is opened and has no live cell.
     pub fn end(&mut self, txn_id: &TransactionId)
         requires opened { is_opened self.old txn_id.now ≡ true }
         requires empty { frames_of self.old txn_id.now ≡ [] }
@@ -158,6 +166,10 @@ impl ArrivalLog {
 
     /// Adds work under an opened id, as the last of the log. For want of memory, the only error,
     /// nothing changes and the work comes back.
+    ///
+    /// # Requires
+    ///
+    /// The id is opened.
     pub fn append(
         &mut self,
         txn_id: &TransactionId,
@@ -178,6 +190,10 @@ impl ArrivalLog {
     }
 
     /// Takes the work of a live cell out, which is dead then: one look. It takes no memory.
+    ///
+    /// # Requires
+    ///
+    /// The cell at the place is live.
     pub fn take<L: Ledger>(&mut self, place: usize, looks: &mut Looks<L>) -> TxnWorkFrame
         requires { is_some (work_at self.old.cells place) ≡ true }
         ensures work { Some result ≡ work_at self.old.cells place }

@@ -27,6 +27,10 @@ impl<L: Ledger> Model for Looks<L> {
 
 impl<L: Ledger> Looks<L> {
     /// No look so far, counted in a blank ledger.
+    ///
+    /// # Requires
+    ///
+    /// The ledger is `L`'s own, and has a part.
     pub fn new(blank: Blank) -> Self
         requires name { blank.name ≡ L.name }
         requires parts { blank.parts ≡ L.parts }

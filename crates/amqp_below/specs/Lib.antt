@@ -3,6 +3,7 @@ pub use Rattle.amqp_layer.specs.Told
 pub use Rattle.amqp_layer.specs.Windows
 pub use Rattle.amqp_layer.specs.Inner
 pub use Rattle.amqp_layer.specs.Taking
+pub use Rattle.amqp_layer.specs.Reviewing
 pub use Rattle.amqp_ids.specs.Ids
 pub use Rattle.amqp_ids.specs.Drawn
 pub use Rattle.amqp_ids.specs.Listed
@@ -22,9 +23,12 @@ pub use Rattle.amqp_sessions.specs.Names
 pub use Rattle.amqp_sessions.specs.LinkMoves
 pub use Rattle.amqp_sessions.specs.PlainFrames
 pub use Rattle.amqp_sessions.specs.PlainCalls
+pub use Rattle.amqp_sessions.specs.TakenWork
+pub use Rattle.amqp_sessions.specs.PlainReviewing
 pub use Rattle.amqp_endpoints.specs.AttachErrors
 pub use Rattle.amqp_endpoints.specs.Queues
 pub use Rattle.amqp_endpoints.specs.Connections
 pub use Rattle.amqp_endpoints.specs.MemoryConnections
 pub use Rattle.amqp_recorder.specs.Recording
+pub use Rattle.amqp_recorder.specs.Vetoing
 pub use Rattle.amqp_recorder.specs.RecordedSessions

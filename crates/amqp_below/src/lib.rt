@@ -18,8 +18,8 @@ pub use amqp_endpoints::{
 };
 pub use amqp_ids::{CountIds, Drawn, IdSource, ListIds, numbered_id};
 pub use amqp_layer::{
-    Answers, Echoes, Exchanges, LayerBelow, OpenSession, Openings, Refusal, Refusals,
-    SessionInnerError, TakeError, Tells, check_given, on_incoming_frame, take_frame,
+    Answers, Echoes, Exchanges, LayerBelow, OpenSession, Openings, Refusal, Refusals, Reviews,
+    SessionInnerError, TakeError, Tells, Verdict, check_given, on_incoming_frame, take_frame,
 };
 pub use amqp_recorder::Recorder;
 pub use amqp_sessions::{

@@ -1,6 +1,7 @@
 //! What no clause says: that the calls succeed where there is memory, and the texts of errors.
 
 use amqp_layer::*;
+use amqp_session_test_values::{judges, takes_work};
 use amqp_test_values::{detach, not_allowed, other_text};
 use amqp_txn_types::{ConnectionStopReason, Frame, TryClone};
 use std::test::Fail;
@@ -12,6 +13,15 @@ fn an_open_session_takes_everything(rt: HostRuntime) -> Result<(), Fail> {
     assert_eq!(rt; answers.given.len(), 0);
     assert!(rt; answers.window.is_none());
     Ok(())
+}
+
+#[test]
+fn an_open_session_accepts_everything(rt: HostRuntime) {
+    let alloc = rt.alloc();
+    let mut below = OpenSession::new(alloc);
+    assert!(rt; judges(alloc, &mut below, 3, Verdict::Accept));
+    assert!(rt; takes_work(alloc, &mut below, 3));
+    drop(below);
 }
 
 #[test]

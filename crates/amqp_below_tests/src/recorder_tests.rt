@@ -1,11 +1,11 @@
 //! What no clause says: that the calls succeed where there is memory.
 
 use amqp_ids::CountIds;
-use amqp_layer::{Exchanges, LayerBelow, OpenSession, SessionInnerError};
+use amqp_layer::{Exchanges, LayerBelow, OpenSession, SessionInnerError, Verdict};
 use amqp_recorder::*;
-use amqp_session_test_values::{plain_session, relay};
+use amqp_session_test_values::{judges, plain_session, relay, takes_work};
 use amqp_sessions::{AllocTxnIdError, HandleDeclare, HandleDischarge, NameState, Session};
-use amqp_test_values::{call_numbers, control_attach, detach, transfer};
+use amqp_test_values::{call_numbers, control_attach, detach, refuses, transfer};
 use amqp_txn_types::{
     Frame, Frames, OutgoingChannel, Payload, Role, SessionState, SessionStopReason, Text,
     TransactionError, TransactionId,
@@ -36,6 +36,111 @@ fn a_plan_refuses_its_calls(rt: HostRuntime) -> Result<(), Fail> {
     below.on_incoming_detach(detach(3))?;
     assert_eq!(rt; below.exchanges().len(), 2);
     assert_eq!(rt; below.refused().len(), 1);
+    Ok(())
+}
+
+/// How many lists a recorder vetoed, and how many frames the last of them has.
+fn vetoed<S: LayerBelow>(below: &Recorder<S>) -> (usize, usize) {
+    let count = below.vetoed().len();
+    match below.vetoed().get(count.saturating_sub(1)) {
+        None => (count, 0),
+        Some(last) => (count, last.len()),
+    }
+}
+
+#[test]
+fn a_plan_vetoes_its_calls(rt: HostRuntime) -> Result<(), Fail> {
+    let alloc = rt.alloc();
+    let mut below = Recorder::new(alloc, OpenSession::new(alloc));
+    below.set_plan(call_numbers(alloc, &[2])?);
+    assert!(rt; judges(alloc, &mut below, 3, Verdict::Veto));
+    assert!(rt; vetoed(&below) == (1, 2));
+    assert!(rt; !below.is_fresh());
+    assert_eq!(rt; below.exchanges().len(), 0);
+    Ok(())
+}
+
+#[test]
+fn a_veto_uses_up_no_number(rt: HostRuntime) -> Result<(), Fail> {
+    let alloc = rt.alloc();
+    let mut below = Recorder::new(alloc, OpenSession::new(alloc));
+    below.set_plan(call_numbers(alloc, &[2])?);
+    assert!(rt; judges(alloc, &mut below, 3, Verdict::Veto));
+    below.on_incoming_detach(detach(1))?;
+    assert!(rt;
+        refuses(
+            below.on_incoming_detach(detach(2)),
+            SessionInnerError::IllegalState
+        )
+    );
+    assert!(rt; judges(alloc, &mut below, 3, Verdict::Accept));
+    Ok(())
+}
+
+#[test]
+fn a_recorder_takes_what_it_accepted(rt: HostRuntime) {
+    let alloc = rt.alloc();
+    let mut below = Recorder::new(alloc, OpenSession::new(alloc));
+    assert!(rt; judges(alloc, &mut below, 3, Verdict::Accept));
+    assert!(rt; vetoed(&below) == (0, 0));
+    assert!(rt; below.is_fresh());
+    assert!(rt; takes_work(alloc, &mut below, 3));
+    assert_eq!(rt; below.exchanges().len(), 2);
+    drop(below);
+}
+
+#[test]
+fn a_recorder_keeps_what_its_session_vetoed(rt: HostRuntime) {
+    let alloc = rt.alloc();
+    let mut below = Recorder::new(alloc, plain_session(alloc, SessionState::Mapped, 9));
+    assert!(rt; judges(alloc, &mut below, 4, Verdict::Veto));
+    assert!(rt; judges(alloc, &mut below, 4, Verdict::Veto));
+    assert!(rt; vetoed(&below) == (2, 2));
+    drop(below);
+}
+
+#[test]
+fn a_starved_call_wants_memory(rt: HostRuntime) -> Result<(), Fail> {
+    let alloc = rt.alloc();
+    let mut below = Recorder::new(alloc, OpenSession::new(alloc));
+    below.set_starved(call_numbers(alloc, &[1])?);
+    assert!(rt; judges(alloc, &mut below, 3, Verdict::Accept));
+    assert!(rt;
+        refuses(
+            below.on_incoming_detach(detach(1)),
+            SessionInnerError::NoMemory
+        )
+    );
+    below.on_incoming_detach(detach(2))?;
+    assert_eq!(rt; below.exchanges().len(), 1);
+    assert_eq!(rt; below.refused().len(), 0);
+    assert_eq!(rt; below.starved().len(), 1);
+    Ok(())
+}
+
+#[test]
+fn a_review_vetoes_a_call_of_both_plans(rt: HostRuntime) -> Result<(), Fail> {
+    let alloc = rt.alloc();
+    let mut below = Recorder::new(alloc, OpenSession::new(alloc));
+    below.set_plan(call_numbers(alloc, &[1])?);
+    below.set_starved(call_numbers(alloc, &[1])?);
+    assert!(rt; judges(alloc, &mut below, 3, Verdict::Veto));
+    Ok(())
+}
+
+#[test]
+fn a_call_of_both_plans_is_starved(rt: HostRuntime) -> Result<(), Fail> {
+    let alloc = rt.alloc();
+    let mut below = Recorder::new(alloc, OpenSession::new(alloc));
+    below.set_plan(call_numbers(alloc, &[1])?);
+    below.set_starved(call_numbers(alloc, &[1])?);
+    assert!(rt;
+        refuses(
+            below.on_incoming_detach(detach(1)),
+            SessionInnerError::NoMemory
+        )
+    );
+    assert_eq!(rt; below.refused().len(), 0);
     Ok(())
 }
 

@@ -24,8 +24,8 @@ use std::marker::Model;
 /// A coordinator: the ids that were declared to it and that it didn't discharge since.
 ///
 /// Sections 4.2 (declaring) and 4.3 (discharging) of the standard. It keeps no frames: the session
-/// does. An id stays held until a discharge of it is Ok, so also where the session has ended it by
-/// itself; a later discharge is then answered by the session.
+/// does. An id stays held until a discharge of it is Ok or answered with `Rollback`, so also where
+/// the session has ended it by itself; a later discharge is then answered by the session.
 #[derive(Drop)]
 pub struct TxnCoordinator {
     held: IndexSet<TransactionId>,
@@ -95,8 +95,8 @@ impl TxnCoordinator {
     /// whose answers it gives. Section 4.5.3 (discharge) of the standard.
     ///
     /// Errors: `TransactionError` with `UnknownId` where the id isn't held, and the session isn't
-    /// asked then; else what the session answers. An error leaves the ids that are held, this one
-    /// too.
+    /// asked then; else what the session answers, `Rollback` where it vetoed the commit. That
+    /// error takes the id out, and every other one leaves the ids that are held, this one too.
     pub fn on_discharge<H: HandleDischarge>(
         &mut self,
         discharge: &Discharge,
@@ -111,9 +111,9 @@ impl TxnCoordinator {
         if !self.holds(&discharge.txn_id) {
             return Err(CoordinatorError::TransactionError(TransactionError::UnknownId));
         }
-        let echoes = asked_to_discharge(self.alloc, discharge, session)?;
-        let _held = self.held.swap_remove(&discharge.txn_id);
-        Ok(echoes)
+        let answer = asked_to_discharge(self.alloc, discharge, session);
+        let_go(&mut self.held, &discharge.txn_id, &answer);
+        Ok(answer?)
     }
 
     /// Hears a control message: a declare or a discharge.
@@ -164,6 +164,22 @@ fn keep(held: &mut IndexSet<TransactionId>, txn_id: TransactionId)
     match held.insert(txn_id) {
         Ok(_) => {}
         Err(_) => unreachable!(),
+    }
+}
+
+/// Lets an id go, where the answer to its discharge says that it has ended.
+fn let_go(
+    held: &mut IndexSet<TransactionId>,
+    txn_id: &TransactionId,
+    answer: &Result<Echoes, DischargeError>,
+)
+    ensures { AfterDischarge held.old.keys held.new.keys txn_id.now (discharged_by answer.now) }
+{
+    match answer {
+        Ok(_) | Err(DischargeError::TransactionError(TransactionError::Rollback)) => {
+            let _held = held.swap_remove(txn_id);
+        }
+        Err(_) => {}
     }
 }
 

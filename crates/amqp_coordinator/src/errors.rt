@@ -20,7 +20,7 @@ pub enum CoordinatorError {
     /// All of the 16 ids drawn, which it carries, are live.
     #[error("no unused transaction id was drawn")]
     IdsRepeat(Drawn),
-    /// The transaction can't be discharged.
+    /// The transaction is unknown, or its commit was vetoed and it was rolled back.
     #[error("the transaction is not discharged: {0}")]
     TransactionError(TransactionError),
     /// The commit failed.

@@ -41,6 +41,10 @@ impl TransactionManager {
     }
 
     /// Adds a transaction without work. The only error is want of memory, which changes nothing.
+    ///
+    /// # Requires
+    ///
+    /// The id isn't held.
     pub fn insert(&mut self, txn_id: TransactionId) -> Result<(), NoMemory>
         requires absent { work_under self.old txn_id ≡ None }
         ensures ok { OnOk result ((t : Id) → work_under self.new t ≡ cond (same_id txn_id t)

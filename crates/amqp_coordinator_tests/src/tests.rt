@@ -14,24 +14,36 @@ use std::alloc::Global;
 use std::test::Fail;
 
 /// A session that allocates whatever is drawn first, and accepts each discharge: a commit with one
-/// answer, so that it shows which of the two was asked.
+/// answer, so that it shows which of the two was asked; or it rolls each commit back instead.
 #[derive(Drop)]
 struct Willing {
     alloc: Global,
     refusals: u64,
+    vetoes: bool,
+}
+
+/// Such a session, which accepts each commit.
+fn accepting_all(alloc: Global) -> Willing {
+    Willing {
+        alloc,
+        refusals: 0,
+        vetoes: false,
+    }
+}
+
+/// Such a session, which accepts no commit.
+fn accepting_none(alloc: Global) -> Willing {
+    Willing {
+        alloc,
+        refusals: 0,
+        vetoes: true,
+    }
 }
 
 impl Tells for Willing {
-    ghost use Rattle.std.specs.Prelude.{None, []};
-    ghost use Rattle.amqp_txn_types.specs.declared.small.SessionState.TheVariants.{Mapped};
+    ghost use Rattle.amqp_layer.specs.Told.{open_told};
 
-    ghost told = { λ session. record {
-      taken = None;
-      opened = None;
-      refused = None;
-      refusals = session.refusals;
-      fixed = record { state = Mapped; plan = [] };
-    } };
+    ghost told = { λ session. record open_told { refusals = session.refusals } };
 }
 
 impl HandleDeclare for Willing {
@@ -60,6 +72,10 @@ impl HandleDischarge for Willing {
         &mut self,
         txn_id: &TransactionId,
     ) -> Result<Result<Echoes, TransactionError>, CommitFault> {
+        if self.vetoes {
+            self.refusals = self.refusals.saturating_add(1);
+            return Ok(Err(TransactionError::Rollback));
+        }
         let mut echoes = Echoes::new(self.alloc);
         let answers = Answers {
             given: Frames::new(self.alloc),
@@ -105,7 +121,7 @@ fn a_coordinator_holds_what_it_declared(rt: HostRuntime) -> Result<(), Fail> {
     let alloc = rt.alloc();
     let id = TransactionId::new(b"\x01")?;
     let mut ids = ListIds::new(alloc, &[id])?;
-    let mut session = Willing { alloc, refusals: 0 };
+    let mut session = accepting_all(alloc);
     let mut coordinator = TxnCoordinator::new(alloc);
     let unheld = size(coordinator.on_delivery(&discharge(id, None), &mut session, &mut ids));
     assert_eq!(rt; unheld, 100);
@@ -122,11 +138,26 @@ fn a_coordinator_holds_what_it_declared(rt: HostRuntime) -> Result<(), Fail> {
 }
 
 #[test]
+fn a_vetoed_id_is_held_no_more(rt: HostRuntime) -> Result<(), Fail> {
+    let alloc = rt.alloc();
+    let id = TransactionId::new(b"\x01")?;
+    let mut ids = ListIds::new(alloc, &[id])?;
+    let mut session = accepting_none(alloc);
+    let mut coordinator = TxnCoordinator::new(alloc);
+    let declared = size(coordinator.on_delivery(&declare(None), &mut session, &mut ids));
+    assert_eq!(rt; declared, 1);
+    let committed = size(coordinator.on_delivery(&discharge(id, None), &mut session, &mut ids));
+    assert_eq!(rt; committed, 100);
+    assert!(rt; !coordinator.holds(&id));
+    Ok(())
+}
+
+#[test]
 fn a_rollback_has_no_echoes(rt: HostRuntime) -> Result<(), Fail> {
     let alloc = rt.alloc();
     let id = TransactionId::new(b"\x01")?;
     let mut ids = ListIds::new(alloc, &[id])?;
-    let mut session = Willing { alloc, refusals: 0 };
+    let mut session = accepting_all(alloc);
     let mut coordinator = TxnCoordinator::new(alloc);
     let declared = size(coordinator.on_delivery(&declare(None), &mut session, &mut ids));
     assert_eq!(rt; declared, 1);
@@ -243,7 +274,7 @@ fn a_second_id_is_held_beside_the_first(rt: HostRuntime) -> Result<(), Fail> {
     let first = TransactionId::new(b"\x01")?;
     let second = TransactionId::new(b"\x02")?;
     let mut ids = ListIds::new(alloc, &[first, second])?;
-    let mut session = Willing { alloc, refusals: 0 };
+    let mut session = accepting_all(alloc);
     let mut coordinator = TxnCoordinator::new(alloc);
     let one = size(coordinator.on_delivery(&declare(None), &mut session, &mut ids));
     let two = size(coordinator.on_delivery(&declare(None), &mut session, &mut ids));

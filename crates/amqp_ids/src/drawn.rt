@@ -68,6 +68,10 @@ impl Drawn {
     }
 
     /// Appends an id. It takes one of the room that was made, and no memory.
+    ///
+    /// # Requires
+    ///
+    /// There is room, as [`Drawn::make_room`] makes it, and there are fewer than 16 ids.
     pub fn push(&mut self, id: TransactionId)
         requires spare { 1 ≤ self.old.spare }
         requires short { length self.old.ids < 16 }

@@ -17,10 +17,16 @@ pub struct ListIds {
 
 impl ListIds {
     /// A copy of the list, at its first id. The only error is want of memory.
+    ///
+    /// # Requires
+    ///
+    /// The list has an id.
     pub fn new(alloc: Global, ids: &[TransactionId]) -> Result<ListIds, NoMemory>
         requires { 0 < length ids.now }
-        ensures next { IfOk result (λ source. (n : ℕ) → ⟦<ListIds as IdSource>⟧.next source n ≡ listed ids.now n) }
-        ensures start { IfOk result (λ source. ⟦<ListIds as IdSource>⟧.start source ≡ Some (listed ids.now)) }
+        ensures next { IfOk result (λ source. (n : ℕ)
+            → ⟦<ListIds as IdSource>⟧.next source n ≡ listed ids.now n) }
+        ensures start { IfOk result (λ source. ⟦<ListIds as IdSource>⟧.start source
+            ≡ Some (listed ids.now)) }
     {
         Ok(ListIds {
             ids: Vec::from_slice(alloc, ids)?,

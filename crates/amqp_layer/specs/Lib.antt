@@ -1,5 +1,6 @@
 pub mod Faults
 pub mod Told
+pub mod Reviewing
 pub mod Inner
 pub mod Windows
 pub mod Taking

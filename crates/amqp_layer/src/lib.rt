@@ -2,14 +2,16 @@
 //!
 //! | type | is |
 //! |---|---|
-//! | [`Tells`] | what contracts see of a session or of a layer: what it took, opened and refused |
+//! | [`Tells`] | what contracts see of a session or of a layer: what it took, opened, refused and vetoed |
 //! | [`LayerBelow`] | the calls that a transactional session makes below |
+//! | [`Verdict`] | what a layer answers that is asked about frames before they are handed |
 //! | [`OpenSession`] | a layer that takes everything |
 //! | [`take_frame`] | one frame through a layer, with the checks and the window that go with it |
 //!
-//! A layer says, in contracts, what each call adds to its three lists and to its count of refusals
-//! (`told`), and what it answers and leaves (`incoming_gives`, `opening_gives`, `check_gives`,
-//! `window_gives`). What stands above is proved over every such layer:
+//! A layer says, in contracts, what each call adds to its lists and counts (`told`), and what it
+//! answers and leaves (`incoming_gives`, `opening_gives`, `check_gives`, `window_gives`,
+//! `review_gives`). Where it accepted a list of frames in a review, it takes them one after another,
+//! if memory allows. What stands above is proved over every such layer:
 //!
 //! ```text
 //! let mut below = OpenSession::new(alloc);
@@ -30,12 +32,14 @@ mod open;
 mod refusal;
 mod taking;
 mod tells;
+mod verdict;
 
 pub use answers::{Answers, Echoes};
 pub use incoming::on_incoming_frame;
 pub use inner_error::SessionInnerError;
 pub use layer::LayerBelow;
 pub use open::OpenSession;
-pub use refusal::{Exchanges, Openings, Refusal, Refusals};
+pub use refusal::{Exchanges, Openings, Refusal, Refusals, Reviews};
 pub use taking::{TakeError, check_given, take_frame};
 pub use tells::Tells;
+pub use verdict::Verdict;

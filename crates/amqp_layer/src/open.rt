@@ -3,10 +3,13 @@
 use crate::inner_error::SessionInnerError;
 use crate::layer::LayerBelow;
 use crate::tells::Tells;
-use amqp_txn_types::{Attach, Detach, Disposition, Flow, Frames, Payload, SessionState, Transfer};
+use crate::verdict::Verdict;
+use amqp_txn_types::{
+    Attach, Detach, Disposition, Flow, Frames, NoMemory, Payload, SessionState, Transfer,
+};
 use std::alloc::Global;
 
-/// A layer that is Mapped, takes every frame, gives none back and refuses nothing.
+/// A layer that is Mapped, takes every frame, gives none back, and refuses and vetoes nothing.
 ///
 /// It keeps nothing, so it tells none of its lists: a `Recorder` over it does.
 #[derive(Drop)]
@@ -28,7 +31,9 @@ impl Tells for OpenSession {
 }
 
 impl LayerBelow for OpenSession {
-    ghost use Rattle.std.specs.Prelude.{◌≡◌, None, Ok, []};
+    ghost use Rattle.std.specs.Prelude.{◌≡◌, true, None, Ok, []};
+    ghost use Rattle.amqp_layer.specs.Reviewing.{always-goes-on, always-stays-on};
+    ghost use Rattle.amqp_layer.specs.declared.verdict.Verdict.TheVariants as verdicts;
 
     ghost incoming_gives = { λ old new _ answer. (answer ≡ Ok []) × (new ≡ old) };
 
@@ -37,6 +42,18 @@ impl LayerBelow for OpenSession {
     ghost check_gives = { λ old new _ answer. (answer ≡ Ok tt) × (new ≡ old) };
 
     ghost window_gives = { λ old new flow. (flow ≡ None) × (new ≡ old) };
+
+    ghost review_gives = { λ old new _ answer. (answer ≡ Ok verdicts.Accept) × (new ≡ old) };
+
+    ghost takes = { λ _ _. Unit {0} };
+
+    ghost sure = { true };
+
+    ghost goes_on = { λ old new frame answer gives. always-goes-on old new frame answer gives.0 };
+
+    ghost stays_on = { λ old new _ answer gives. always-stays-on old new answer gives.0 };
+
+    ghost window_stays_on = { λ _ _ _ _ _ takes. takes };
 
     fn local_state(&self) -> SessionState {
         SessionState::Mapped
@@ -82,5 +99,9 @@ impl LayerBelow for OpenSession {
 
     fn maybe_outgoing_session_flow(&mut self) -> Option<Flow> {
         None
+    }
+
+    fn review(&mut self, frames: &Frames) -> Result<Verdict, NoMemory> {
+        Ok(Verdict::Accept)
     }
 }

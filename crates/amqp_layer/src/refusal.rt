@@ -1,4 +1,4 @@
-//! What a layer below refused.
+//! What a layer below refused, took and vetoed.
 
 use crate::inner_error::SessionInnerError;
 use amqp_txn_types::{Attach, Frame, Frames, Items, NoMemory, TryClone};
@@ -26,6 +26,9 @@ pub type Refusals = Items<Refusal>;
 
 /// Frames that were taken, each with the frames given back for it, in order.
 pub type Exchanges = Items<(Frame, Frames)>;
+
+/// Frames that were vetoed, each list as it was reviewed, in order.
+pub type Reviews = Items<Frames>;
 
 /// Control links that were opened: each attach with the frames given back for it, in order.
 pub type Openings = Items<(Attach, Frames)>;

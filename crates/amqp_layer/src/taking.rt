@@ -3,6 +3,7 @@
 ghost use Rattle.std.specs.Prelude.{◌≡◌, ◌≤◌, length, OnErr};
 ghost use Rattle.amqp_txn_types.specs.Frames.{is_transfer};
 ghost use Rattle.amqp_layer.specs.Told.{Checks};
+ghost use Rattle.amqp_layer.specs.Reviewing.{TakesOn};
 ghost use Rattle.amqp_layer.specs.Taking.{ChecksFrame, ChecksGiven, GivesWindow, TakesFrame, TakesThrough};
 
 use crate::answers::Answers;
@@ -66,7 +67,9 @@ fn window_after<S: LayerBelow>(below: &mut S, after_transfer: bool) -> Option<Fl
 /// the session's window. It takes no memory of its own.
 pub fn take_frame<S: LayerBelow>(below: &mut S, frame: Frame) -> Result<Answers, TakeError>
     ensures told { TakesFrame (S.told below.old) (S.told below.new) frame result }
-    ensures through { TakesThrough S.incoming_gives S.check_gives S.window_gives below.old below.new frame result }
+    ensures through { TakesThrough S.incoming_gives S.check_gives S.window_gives below.old below.new
+        frame result }
+    ensures on { TakesOn S.takes S.sure below.old below.new frame result }
 {
     let with_window = is_transfer(&frame);
     let given = match on_incoming_frame(below, frame) {

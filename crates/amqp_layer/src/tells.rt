@@ -1,7 +1,8 @@
 //! What contracts see of a session or of a layer below one.
 
-/// What it tells of itself: what it took, opened and refused, where it tells these lists, how often
-/// it refused, and what no call of a layer changes. One count of refusals serves all its traits.
+/// What it tells of itself: what it took, opened, refused and vetoed, where it tells these lists,
+/// how often it refused and vetoed, and what no call of a layer changes. One count of refusals
+/// serves all its traits.
 pub trait Tells {
     ghost use Rattle.amqp_layer.specs.Told.{Told};
 

@@ -3,3 +3,4 @@ pub mod Listening
 pub mod Hearing
 pub mod Controlling
 pub mod ListenerLaws
+pub mod ListenerReviews

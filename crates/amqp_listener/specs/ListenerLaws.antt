@@ -1,16 +1,15 @@
 -- What the calls of a listener leave of the session in it: the laws of `Session` for a listener.
-use Rattle.std.specs.Prelude.{◌≡◌, Bool, true, false, Result, Ok, Err, List}
+use Rattle.std.specs.Prelude.{◌≡◌, Result, Ok, Err, List}
 use Rattle.std.proofs.Common.{refl, ap, inl, inr, sym, ◌∙◌, subst}
 use Rattle.amqp_txn_types.specs.declared.performatives.Attach.{Attach}
 use Rattle.amqp_txn_types.specs.declared.performatives.Frame.{Frame}
 use Rattle.amqp_txn_types.specs.declared.performatives.Frame.TheVariants as frames
 use Rattle.amqp_txn_types.specs.declared.text.Text.{Text}
-use Rattle.amqp_txn_types.specs.Frames.{is_coordinator_attach}
 use Rattle.amqp_layer.specs.declared.inner_error.SessionInnerError.{SessionInnerError}
 use Rattle.amqp_layer.specs.declared.inner_error.SessionInnerError.TheVariants as faults
 use Rattle.amqp_layer.specs.Inner.{Took}
 use Rattle.amqp_layer.specs.Told.{Told}
-use Rattle.amqp_sessions.specs.Names.{Attaches, AttachLeaves, LeftBy, Names, SameNames, state_attached}
+use Rattle.amqp_sessions.specs.Names.{Attaches, LeftBy, Names, SameNames, state_attached}
 use Rattle.amqp_sessions.specs.Sessions.{Kept, LeavesFrame}
 use Rattle.amqp_sessions.specs.declared.relay.NameState.{NameState}
 use Rattle.amqp_sessions.specs.declared.relay.NameState.TheVariants.{Unknown, Waiting, Taken}
@@ -20,7 +19,8 @@ use Rattle.amqp_listener.specs.Hearing.{HearsAttach, HearsFrame, Queues, let_pas
 use Rattle.amqp_listener.specs.Listening.{inner_of}
 
 -- a refusal that leaves all
-left-same : (Done Same : Type 0) (error : SessionInnerError) → Same → LeftBy Done Same (Err error)
+pub left-same : (Done Same : Type 0) (error : SessionInnerError) → Same
+    → LeftBy Done Same (Err error)
 left-same Done Same faults.NoMemory same = inr same
 left-same Done Same faults.UnattachedHandle same = same
 left-same Done Same faults.RemoteAttachingLinkNameNotFound same = same
@@ -47,15 +47,9 @@ left-let_pass Same (Err faults.RemoteEnded) left = left
 left-let_pass Same (Err (faults.RemoteEndedWithError cause)) left = left
 left-let_pass Same (Err faults.UnknownTxnId) left = left
 
--- an attach that attaches nothing may be one to a coordinator
-attaches-leaves : (coordinator : Bool) (old new : Names) (name : Text) → Attaches old new name
-    → AttachLeaves coordinator old new name
-attaches-leaves false old new name attaches = attaches
-attaches-leaves true old new name attaches = inl attaches
-
 module _ {S : Type 0} (told : S → Told) (kept : S → Kept) (names : S → Names) where
   -- a session that is the same has the same names
-  names-same : (old new : S) → new ≡ old → SameNames (names old) (names new)
+  pub names-same : (old new : S) → new ≡ old → SameNames (names old) (names new)
   names-same old new same = record {
     known = λ name. ap (λ s. (names s).known name) same;
     at = λ output. ap (λ s. (names s).at output) same;
@@ -83,8 +77,7 @@ module _ {S : Type 0} (told : S → Told) (kept : S → Kept) (names : S → Nam
         → LeavesFrame (kept old) (kept new) (names old) (names new) (frames.Attach attach) answer
     queued-leaves old new state before after attach (Ok given) same stays queues = record {
       kept = ap kept same;
-      names = attaches-leaves (is_coordinator_attach (frames.Attach attach)) (names old) (names new)
-          attach.name (attaches-same old new attach.name same stays);
+      names = inl (attaches-same old new attach.name same stays);
     }
     queued-leaves old new state before after attach (Err error) same stays queues =
         record { kept = ap kept same; names = left-same _ _ error (names-same old new same) }

@@ -1,15 +1,16 @@
 -- What a listener keeps beside the session in it, and what its calls do to both.
-use Rattle.std.specs.Prelude.{ℕ, ◌≡◌, ◌⊎◌, [], Result, Ok, Err, List}
+use Rattle.std.specs.Prelude.{ℕ, ◌≡◌, ◌⊎◌, [], Option, Some, None, Result, Ok, Err, List}
 use Rattle.amqp_txn_types.specs.Counts.{one_more}
 use Rattle.amqp_txn_types.specs.declared.small.InputHandle.{InputHandle}
 use Rattle.amqp_txn_types.specs.declared.small.OutputHandle.{OutputHandle}
+use Rattle.amqp_txn_types.specs.declared.performatives.Attach.{Attach}
 use Rattle.amqp_txn_types.specs.declared.performatives.LinkFlow.{LinkFlow}
 use Rattle.amqp_txn_types.specs.declared.text.Text.{Text}
 use Rattle.amqp_layer.specs.Told.{Checks, Told}
 use Rattle.amqp_sessions.specs.declared.relay.Relay.{Relay}
 use Rattle.amqp_sessions.specs.declared.session_errors.AllocLinkError.{AllocLinkError}
 use Rattle.amqp_sessions.specs.declared.session_errors.AllocLinkError.TheVariants as refusals
-use Rattle.amqp_endpoints.specs.Queues.{Queue}
+use Rattle.amqp_endpoints.specs.Queues.{Queue, with_last}
 use Rattle.amqp_acceptors.specs.declared.control.ControlLinkAcceptor.{ControlLinkAcceptor}
 use Rattle.amqp_listener.specs.declared.listener.ListenerSession.{ListenerSession}
 use Rattle.amqp_listener.specs.Held.{SameHeld, flows_for, replaying, with_flows}
@@ -74,6 +75,11 @@ pub record ChangesQueue {S : Type 0} (old new : ListenerSession S) (queue : Queu
   pub held : SameHeld (held_of old) (held_of new)
   pub control : control_of new ≡ control_of old
   pub own : own_of new ≡ own_of old
+
+-- the attach that came last is taken out of a queue, where one waits
+abbrev pub TakesNewest : Queue → Queue → Option Attach → Type 0
+TakesNewest old new (Some attach) = old ≡ with_last new attach
+TakesNewest old new None = (old.waiting ≡ []) × (new ≡ old)
 
 -- what is held once an allocation was answered: nothing for the handle, where it was allocated
 abbrev pub held_after : Result OutputHandle AllocLinkError → InputHandle

@@ -2,6 +2,7 @@
 
 ghost use Rattle.std.specs.Prelude.{◌≡◌, [], true, false, OnOk, OnErr};
 ghost use Rattle.amqp_endpoints.specs.Queues.{first_waiting, with_last, without_first};
+ghost use Rattle.amqp_listener.specs.Listening.{TakesNewest};
 
 use amqp_txn_types::{Attach, NoMemory};
 use std::alloc::Global;
@@ -69,5 +70,12 @@ impl AttachQueue {
         ensures rest { self.new ≡ without_first self.old }
     {
         self.waiting.pop_front()
+    }
+
+    /// Takes the attach that came last; `None` where none waits. It takes no memory.
+    pub fn take_newest(&mut self) -> Option<Attach>
+        ensures { TakesNewest self.old self.new result }
+    {
+        self.waiting.pop_back()
     }
 }

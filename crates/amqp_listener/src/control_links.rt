@@ -2,7 +2,6 @@
 
 ghost use Rattle.std.specs.Prelude.{◌≡◌, IfErr};
 ghost use Rattle.amqp_layer.specs.Told.{Steady};
-ghost use Rattle.amqp_sessions.specs.Plain.{control_error};
 ghost use Rattle.amqp_sessions.specs.Sessions.{LeavesOpening};
 ghost use Rattle.amqp_acceptors.specs.Opening.{OpenLeaves};
 ghost use Rattle.amqp_acceptors.specs.Receivers.{control_opening};
@@ -13,25 +12,9 @@ use crate::hearing::allocate_held;
 use crate::held_flows::HeldFlows;
 use amqp_acceptors::{ControlLinkAcceptor, OpenError, Opening};
 use amqp_layer::SessionInnerError;
-use amqp_sessions::{AllocLinkError, Session};
+use amqp_sessions::{Session, control_error};
 use amqp_txn_types::{Attach, Frames, OutputHandle};
 use std::alloc::Global;
-
-/// A refused allocation as the answer to the attach of a control link.
-fn control_error(error: AllocLinkError) -> SessionInnerError
-    ensures { result ≡ control_error error }
-{
-    match error {
-        AllocLinkError::NoMemory => SessionInnerError::NoMemory,
-        AllocLinkError::SessionStopped(reason) => {
-            drop(reason);
-            SessionInnerError::IllegalState
-        }
-        AllocLinkError::DuplicatedLinkName
-        | AllocLinkError::HandleInUse
-        | AllocLinkError::HandleMaxReached => SessionInnerError::HandleInUse,
-    }
-}
 
 /// Why a control link isn't opened.
 fn control_refusal(error: OpenError) -> SessionInnerError

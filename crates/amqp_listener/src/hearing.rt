@@ -86,6 +86,7 @@ pub fn hear_attach<S: Session>(
     attach: Attach,
 ) -> Result<Frames, SessionInnerError>
     ensures fixed { (S.told session.new).fixed ≡ (S.told session.old).fixed }
+    ensures reviews { (S.told session.new).reviews ≡ (S.told session.old).reviews }
     ensures hears { HearsAttach
         (Took S.told S.incoming_gives session.old session.new (frames.Attach attach))
         ((S.names session.old).known attach.name) session.old session.new queue.old queue.new attach
@@ -116,6 +117,7 @@ pub fn hear_flow<S: LayerBelow>(
     flow: Flow,
 ) -> Result<Frames, SessionInnerError>
     ensures fixed { (S.told session.new).fixed ≡ (S.told session.old).fixed }
+    ensures reviews { (S.told session.new).reviews ≡ (S.told session.old).reviews }
     ensures hears { HearsFlow
         (Took S.told S.incoming_gives session.old session.new (frames.Flow flow))
         session.old session.new (flows_for held.old) (flows_for held.new) flow result }
@@ -142,6 +144,7 @@ pub fn hear_transfer<S: LayerBelow>(
     payload: Payload,
 ) -> Result<Frames, SessionInnerError>
     ensures fixed { (S.told session.new).fixed ≡ (S.told session.old).fixed }
+    ensures reviews { (S.told session.new).reviews ≡ (S.told session.old).reviews }
     ensures hears { HearsTransfer
         (Took S.told S.incoming_gives session.old session.new (frames.Transfer transfer payload))
         result }

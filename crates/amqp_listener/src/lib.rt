@@ -31,8 +31,9 @@
 //!
 //! Below stand the sessions of `amqp_sessions`, the endpoints of `amqp_endpoints` and the acceptor
 //! of control links of `amqp_acceptors`. The promise that this crate carries: the queue gives
-//! attaches in the order in which they came; held flows are replayed in that order where their
-//! handle is allocated, and stay held where that is refused. 'The standard' is OASIS AMQP 1.0.
+//! attaches in the order in which they came, and its owner may take back the last; held flows are
+//! replayed in that order where their handle is allocated, and stay held where that is refused.
+//! 'The standard' is OASIS AMQP 1.0.
 #![tactic(auto)]
 
 mod attach_queue;
@@ -41,4 +42,5 @@ mod hearing;
 mod held_flows;
 mod listener;
 
+pub use hearing::count_answer;
 pub use listener::ListenerSession;

@@ -2,7 +2,7 @@
 
 ghost use Rattle.std.specs.Prelude.{◌≡◌, [], true, false};
 ghost use Rattle.amqp_txn_types.specs.declared.small.InputHandle.{InputHandle as Input};
-ghost use Rattle.amqp_listener.specs.Listening.{ChangesQueue, control_of, held_of, inner_of, own_of, queue_of};
+ghost use Rattle.amqp_listener.specs.Listening.{ChangesQueue, TakesNewest, control_of, held_of, inner_of, own_of, queue_of};
 
 mod endpoint_calls;
 mod session_calls;
@@ -15,16 +15,20 @@ use crate::control_links::open_control;
 use crate::hearing::{count_answer, hear_attach, hear_flow, hear_transfer};
 use crate::held_flows::HeldFlows;
 use amqp_acceptors::ControlLinkAcceptor;
-use amqp_layer::{LayerBelow, SessionInnerError, Tells};
+use amqp_layer::{LayerBelow, SessionInnerError, Tells, Verdict};
 use amqp_sessions::Session;
-use amqp_txn_types::{Attach, Detach, Disposition, Flow, Frames, Payload, SessionState, Transfer};
+use amqp_txn_types::{
+    Attach, Detach, Disposition, Flow, Frames, NoMemory, Payload, SessionState, Transfer,
+};
 use std::alloc::Global;
 
 /// A session with a queue of the peer's attaches and the flows that came before their handle was
 /// allocated.
 ///
-/// It counts its own calls that are answered with an Err, and tells none of the lists of a layer:
-/// put it into a `Recorder`. What the session in it refuses and it answers Ok isn't counted.
+/// It counts its own calls that are answered with an Err, and tells none of what it took, opened and
+/// refused: put it into a `Recorder`. What the session in it refuses and it answers Ok isn't counted.
+/// A review is the session's: so a transfer whose handle isn't attached, which is dropped where it
+/// comes by itself, is vetoed where it is to be handed in a commit.
 #[derive(Drop)]
 pub struct ListenerSession<S> {
     session: S,
@@ -61,6 +65,15 @@ impl<S: Session> ListenerSession<S> {
     {
         self.queue.close();
     }
+
+    /// Takes the attach that came last out of the queue: what an owner that accepts each attach as
+    /// it comes takes back. `None` where none waits. It takes no memory.
+    pub fn take_newest_attach(&mut self) -> Option<Attach>
+        ensures rest { ChangesQueue self.old self.new (queue_of self.new) }
+        ensures newest { TakesNewest (queue_of self.old) (queue_of self.new) result }
+    {
+        self.queue.take_newest()
+    }
 }
 
 impl<S: Session> Tells for ListenerSession<S> {
@@ -71,16 +84,18 @@ impl<S: Session> Tells for ListenerSession<S> {
       opened = None;
       refused = None;
       refusals = l.refusals;
+      reviews = (S.told l.session).reviews;
       fixed = (S.told l.session).fixed;
     } };
 }
 
 impl<S: Session> LayerBelow for ListenerSession<S> {
-    ghost use Rattle.std.specs.Prelude.{◌≡◌};
-    ghost use Rattle.amqp_layer.specs.Told.{Checks};
+    ghost use Rattle.std.specs.Prelude.{◌≡◌, false};
+    ghost use Rattle.amqp_layer.specs.Told.{Checks, Reviews};
     ghost use Rattle.amqp_listener.specs.Controlling.{HearsControl};
     ghost use Rattle.amqp_listener.specs.Hearing.{HearsFrame};
-    ghost use Rattle.amqp_listener.specs.Listening.{Passes, PassesOn};
+    ghost use Rattle.amqp_listener.specs.ListenerReviews.{TakesBare, heard-goes-on, passed-stays-on};
+    ghost use Rattle.amqp_listener.specs.Listening.{Passes, PassesOn, inner_of};
 
     ghost incoming_gives = { HearsFrame S.told S.incoming_gives S.names };
 
@@ -94,6 +109,27 @@ impl<S: Session> LayerBelow for ListenerSession<S> {
 
     ghost window_gives = { λ old new flow.
         PassesOn (λ a b. S.told b ≡ S.told a) (λ a b. S.window_gives a b flow) old new };
+
+    ghost review_gives = { λ old new list answer.
+        Passes (λ a b. Reviews (S.told a) (S.told b) list answer)
+        (λ a b. S.review_gives a b list answer) old new answer };
+
+    ghost takes = { λ l list. TakesBare S.takes l list };
+
+    ghost sure = { false };
+
+    ghost goes_on = { λ old new frame answer gives.
+        heard-goes-on S.told S.takes S.sure S.incoming_gives S.names S.goes_on
+        old new frame answer gives };
+
+    ghost stays_on = { λ old new disposition answer gives.
+        passed-stays-on S.takes S.sure old new answer
+        (S.stays_on (inner_of old) (inner_of new) disposition answer gives.gave) };
+
+    ghost window_stays_on = { λ old new flow gives list takes. record {
+      bare = takes.bare;
+      inner = S.window_stays_on (inner_of old) (inner_of new) flow gives.gave list takes.inner;
+    } };
 
     fn local_state(&self) -> SessionState {
         self.session.local_state()
@@ -147,5 +183,10 @@ impl<S: Session> LayerBelow for ListenerSession<S> {
 
     fn maybe_outgoing_session_flow(&mut self) -> Option<Flow> {
         self.session.maybe_outgoing_session_flow()
+    }
+
+    fn review(&mut self, frames: &Frames) -> Result<Verdict, NoMemory> {
+        let answer = self.session.review(frames);
+        count_answer(&mut self.refusals, answer)
     }
 }

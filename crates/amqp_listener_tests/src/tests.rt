@@ -4,10 +4,11 @@ use amqp_acceptors::{
     AcceptorAttachError, ControlLinkAcceptor, LinkAcceptor, LinkEndpoint, SessionHandle,
 };
 use amqp_endpoints::ListenerSessionEndpoint;
-use amqp_layer::LayerBelow;
+use amqp_layer::{LayerBelow, Verdict};
 use amqp_links::Poll;
 use amqp_listener::ListenerSession;
 use amqp_recorder::Recorder;
+use amqp_session_test_values::{judges, takes_work};
 use amqp_sessions::{PlainSession, Session};
 use amqp_txn_types::{
     Attach, Begin, ConnectionStopReason, Frames, Handle, OutgoingChannel, ReceiverSettleMode, Role,
@@ -18,7 +19,7 @@ use std::alloc::Global;
 /// What accepting the next link answers.
 type Accepted = Poll<Result<(LinkEndpoint, Frames), AcceptorAttachError>>;
 
-fn listener(alloc: Global) -> ListenerSession<PlainSession> {
+pub(crate) fn listener(alloc: Global) -> ListenerSession<PlainSession> {
     let begin = Begin {
         remote_channel: None,
         next_outgoing_id: 0,
@@ -173,5 +174,34 @@ fn a_recorder_tells_that_its_listener_is_closed(rt: HostRuntime) {
     listener.close_listener();
     let recorder = Recorder::new(alloc, listener);
     assert!(rt; recorder.listener_closed());
+    drop(recorder);
+}
+
+#[test]
+fn a_transfer_that_is_dropped_by_itself_is_vetoed(rt: HostRuntime) {
+    let alloc = rt.alloc();
+    let mut listener = listener(alloc);
+    assert!(rt; takes_work(alloc, &mut listener, 5));
+    assert!(rt; judges(alloc, &mut listener, 5, Verdict::Veto));
+    drop(listener);
+}
+
+#[test]
+fn a_listener_takes_what_it_accepted(rt: HostRuntime) {
+    let alloc = rt.alloc();
+    let mut listener = listener(alloc);
+    assert!(rt; hears_attach(alloc, &mut listener));
+    assert!(rt; is_receiver(accept(alloc, &mut listener), 2));
+    assert!(rt; judges(alloc, &mut listener, 5, Verdict::Accept));
+    assert!(rt; takes_work(alloc, &mut listener, 5));
+    drop(listener);
+}
+
+#[test]
+fn a_recorder_keeps_what_its_listener_vetoed(rt: HostRuntime) {
+    let alloc = rt.alloc();
+    let mut recorder = Recorder::new(alloc, listener(alloc));
+    assert!(rt; judges(alloc, &mut recorder, 5, Verdict::Veto));
+    assert_eq!(rt; recorder.vetoed().len(), 1);
     drop(recorder);
 }

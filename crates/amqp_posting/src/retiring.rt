@@ -87,7 +87,8 @@ pub trait TransactionRetirement: TransactionBase {
         modified: Modified,
     ) -> Result<(), Self::RetireError>
         ensures { Retires Self.RetireError.from_gives (OneDisposition R.dispose_gives R.told)
-            recver.old recver.new (Self.id self.now) delivery.now (outcomes.Modified modified) result }
+            recver.old recver.new (Self.id self.now) delivery.now (outcomes.Modified modified)
+            result }
     {
         self.retire(recver, delivery, Outcome::Modified(modified))
     }

@@ -1,5 +1,5 @@
 -- The echoes of a commit, entry by entry.
-use Rattle.std.proofs.Common.{◌≡◌, ℕ, suc, ◌+◌, ◌<◌, ◌≤◌, Bool, true, false, List, [], ◌∷◌, ◌++◌, length, drop, get_or, refl, sym, ◌∙◌, ap, subst, add-one}
+use Rattle.std.proofs.Common.{◌≡◌, ℕ, suc, ◌+◌, ◌<◌, ◌≤◌, Bool, true, false, List, [], ◌∷◌, ◌++◌, length, drop, get_or, refl, sym, ◌∙◌, ap, arith, subst, add-one}
 use Rattle.std.specs.Prelude.{IsTrue, ◌↔◌}
 use Rattle.std.proofs.Math.Seq.{drop-cons}
 use Rattle.std.proofs.lemmas.List.{drop_all}
@@ -9,7 +9,7 @@ use Rattle.amqp_layer.specs.declared.answers.Answers.{Answers}
 use Rattle.amqp_record.specs.declared.entry.Entry.{Entry}
 use Rattle.amqp_record.specs.Live.{entries_since}
 use Rattle.amqp_record.specs.Hands.{frames_under, own_frame}
-use Rattle.amqp_record.specs.Answers.{Echoed}
+use Rattle.amqp_record.specs.Answers.{Echoed, MayBeVetoed}
 use Rattle.amqp_layer.specs.Windows.{AllWindowsFit}
 use Rattle.amqp_record.proofs.Lives.{frames_of-since}
 
@@ -58,3 +58,25 @@ echoed-commit r t true echoes b h w = cc h
 echoed-commit r t false echoes b h w =
     let P : List Frame → Type 0 = λ fs. AllWindowsFit fs echoes in
     let frames = frames_of-since r t in (λ f. subst P (sym frames) (w.0 f), λ a. w.1 (subst P frames a))
+
+-- ---- whether there is a frame under the id
+
+-- an entry without one leaves it open
+pub under-passed : (t : TransactionId) (r : List Entry) (i : ℕ) (e : Entry) → i < length r → e ≡ get_or r i e → own_frame t e ≡ [] → frames_under t (drop i r) ≡ frames_under t r → frames_under t (drop (i + 1) r) ≡ frames_under t r
+under-passed t r i e h is none so = ap (λ own. own ++ frames_under t (drop (i + 1) r)) (sym none) ∙ sym (frames_under-drop t r i e h is) ∙ so
+
+-- an entry with one decides it
+pub under-found : (t : TransactionId) (r : List Entry) (i : ℕ) (e : Entry) (f : Frame) → i < length r → e ≡ get_or r i e → own_frame t e ≡ f ∷ [] → frames_under t (drop i r) ≡ frames_under t r → 1 ≤ length (frames_under t r)
+under-found t r i e f h is one so =
+    let all : frames_under t r ≡ f ∷ frames_under t (drop (i + 1) r) = sym so ∙ frames_under-drop t r i e h is ∙ ap (λ own. own ++ frames_under t (drop (i + 1) r)) one in
+    let P : List Frame → Type 0 = λ fs. 1 ≤ length fs in subst P (sym all) (omega arith)
+
+-- after the last entry there is none
+pub under-end : (t : TransactionId) (r : List Entry) (i : ℕ) → length r ≤ i → frames_under t (drop i r) ≡ frames_under t r → length (frames_under t r) ≡ 0
+under-end t r i h so = ap length (sym so) ∙ ap (λ l. length (frames_under t l)) (drop_all i r h)
+
+-- a commit may be vetoed where there is a frame under its id since the last declare
+pub vetoed-commit : (r : List Entry) (t : TransactionId) (rollback b : Bool) → rollback ≡ false → (IsTrue b ↔ (1 ≤ length (frames_under t (entries_since r t)))) → (IsTrue b ↔ MayBeVetoed r t rollback)
+vetoed-commit r t rollback b n h =
+    let P : List Frame → Type 0 = λ fs. 1 ≤ length fs in
+    let frames = frames_of-since r t in (λ f. (n, subst P (sym frames) (h.0 f)), λ m. h.1 (subst P frames m.1))

@@ -154,7 +154,14 @@ alone_frame r t frame (Some id) _ l u a = absurd a
 alone_discharge : (r : List Entry) (t : TransactionId) (k : ℕ) (payload : List ℕ) (b : Bool) (discharge : Discharge) (d : List TransactionId) (reply : Reply) → message_of payload ≡ Some (messages.Discharge discharge) → same_id t discharge.txn_id ≡ false → AnswerControl r k b (Some (messages.Discharge discharge)) d reply → LeavesAlone r t (steps.Control k payload) reply
 alone_discharge r t k payload false discharge d replies.NoLink m n a = record { under = refl; declares = refl; discharges = refl; attaches = λ _ _ _. refl; closes = λ _. refl }
 alone_discharge r t k payload false discharge d _ m n a = absurd a
-alone_discharge r t k payload true discharge d (replies.Rejected error text) m n a = record { under = refl; declares = refl; discharges = refl; attaches = λ _ _ _. refl; closes = λ _. refl }
+alone_discharge r t k payload true discharge d (replies.Rejected transaction_errors.UnknownId text) m n a = record { under = refl; declares = refl; discharges = refl; attaches = λ _ _ _. refl; closes = λ _. refl }
+alone_discharge r t k payload true discharge d (replies.Rejected transaction_errors.Rollback text) m n a = record {
+  under = refl;
+  declares = refl;
+  discharges = ap (message_discharges t) m ∙ n;
+  attaches = λ _ _ _. refl;
+  closes = λ _. refl;
+}
 alone_discharge r t k payload true discharge d (replies.Accepted echoes) m n a = record {
   under = refl;
   declares = refl;
@@ -204,6 +211,7 @@ dead_held r k t h = ap (λ b. b && is_link k (home r t)) h
 
 rejected_discharge : (r : List Entry) (k : ℕ) (t : TransactionId) (fail : Option Bool) (d : List TransactionId) (reply : Reply) → is_live r t ≡ false → AnswerDischarge r k t fail d reply → reply ≡ replies.Rejected transaction_errors.UnknownId texts.Absent
 rejected_discharge r k t fail d (replies.Rejected transaction_errors.UnknownId texts.Absent) l a = refl
+rejected_discharge r k t fail d (replies.Rejected transaction_errors.Rollback texts.Absent) l a = let held : is_held_on r k t ≡ false = dead_held r k t l in cc (held, a.0)
 rejected_discharge r k t fail d (replies.Accepted echoes) l a = let held : is_held_on r k t ≡ false = dead_held r k t l in cc (held, a.0)
 rejected_discharge r k t fail d _ l a = absurd a
 

@@ -62,6 +62,7 @@ places-same r e t d u = ap (frame_places_from (r ++ e ∷ []) t) (since-other r 
 
 ends_not_declares : (t : TransactionId) (s : Step) (reply : Reply) → step_discharges t s reply ≡ true → reply_declares t reply ≡ false
 ends_not_declares t (steps.Control k payload) (replies.Accepted echoes) h = refl
+ends_not_declares t (steps.Control k payload) (replies.Rejected error text) h = refl
 ends_not_declares t _ _ h = cc
 
 -- an entry that discharges the id ends it

@@ -6,8 +6,7 @@ use Rattle.std.proofs.lemmas.List.{take_more, take_more_set}
 use Rattle.amqp_txn_types.specs.declared.id.TransactionId.{TransactionId}
 use Rattle.amqp_txn_types.specs.declared.performatives.Frame.{Frame}
 use Rattle.amqp_record.specs.declared.entry.Entry.{Entry}
-use Rattle.amqp_record.specs.Hands.{hands}
-use Rattle.amqp_record.specs.Work.{work}
+use Rattle.amqp_record.specs.Work.{handed_by, work}
 use Rattle.amqp_record.specs.Answers.{Answer}
 use Rattle.amqp_record.specs.Legal.{LegalAfter, IsLegal}
 use Rattle.amqp_record.proofs.Whole.{IsLegal-snoc, work-snoc}
@@ -41,7 +40,7 @@ illegal-at r i e b h is a f = (
 )
 
 -- what the record handed, with one entry more
-pub work-more : (r : List Entry) (i : ℕ) (e : Entry) (all new handed : List Frame) → i < length r → e ≡ get_or r i e → all ≡ work (take i r) → handed ≡ hands (take i r) e.step → new ≡ all ++ handed → new ≡ work (take (i + 1) r)
+pub work-more : (r : List Entry) (i : ℕ) (e : Entry) (all new handed : List Frame) → i < length r → e ≡ get_or r i e → all ≡ work (take i r) → handed ≡ handed_by (take i r) e.step e.reply → new ≡ all ++ handed → new ≡ work (take (i + 1) r)
 work-more r i e all new handed h is so by_hands more =
     more ∙ ap (λ l. l ++ handed) so ∙ ap (λ l. work (take i r) ++ l) by_hands
     ∙ sym (work-snoc (take i r) e) ∙ ap work (sym (next_front r i e h is))

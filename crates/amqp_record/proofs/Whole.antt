@@ -32,7 +32,7 @@ use Rattle.amqp_record.specs.Links.{is_open, attached_count}
 use Rattle.amqp_record.specs.Live.{home, is_open_at, undischarged, is_held_on, since, frame_places}
 use Rattle.amqp_record.specs.Hands.{frames_at, frame_of_step, frames_of, commits_message, if_open, commits, sources_of, hands}
 use Rattle.amqp_txn_codec.specs.Discharges.{is_rollback}
-use Rattle.amqp_record.specs.Work.{joined_after, work, given_back, given_by, pairs}
+use Rattle.amqp_record.specs.Work.{joined_after, work, given_back, given_by, handed_by, is_rejected, pairs}
 use Rattle.amqp_record.specs.Answers.{AnswerFrame, AnswerLinkEnd, AnswerDeclare, AnswerDischarge, AnswerMessage, AnswerControl, Answer, Echoed}
 use Rattle.amqp_layer.specs.Windows.{AllWindowsFit}
 use Rattle.amqp_record.specs.Legal.{LegalAfter, IsLegal}
@@ -48,9 +48,9 @@ joined_after-snoc f before (x ∷ r) e =
     ∙ sym (append_assoc (f before x) (joined_after f (before ++ x ∷ []) r) (f ((before ++ x ∷ []) ++ r) e))
     ∙ ap (λ b. f before x ++ joined_after f (before ++ x ∷ []) r ++ f b e) (append_assoc before (x ∷ []) r)
 
-pub work-snoc : (r : List Entry) (e : Entry) → work (r ++ e ∷ []) ≡ work r ++ hands r e.step
+pub work-snoc : (r : List Entry) (e : Entry) → work (r ++ e ∷ []) ≡ work r ++ handed_by r e.step e.reply
 unfolding work
-work-snoc r e = joined_after-snoc (λ before x. hands before x.step) [] r e
+work-snoc r e = joined_after-snoc (λ before x. handed_by before x.step x.reply) [] r e
 
 pub given-snoc : (r : List Entry) (e : Entry) → given_back (r ++ e ∷ []) ≡ given_back r ++ given_by e.step e.reply
 unfolding given_back
@@ -196,36 +196,52 @@ accepted_lengths r k payload discharge echoes false o e f h a =
     ∙ length-map (frames_of r t) stripped ∙ sym (length-AllWindowsFit (frames_of r t) echoes a) ∙ sym (length-map echoes (λ (y : Answers). y.given))
 
 -- a reply that gives nothing back, to a message that commits nothing
-declare_lengths : (r : List Entry) (k : ℕ) (payload : List ℕ) (declare : Declare) (g : Option TransactionId) (d : List TransactionId) (reply : Reply) → is_open r k ≡ true → message_of payload ≡ Some (messages.Declare declare) → AnswerDeclare r g d reply → length (hands r (steps.Control k payload)) ≡ length (given_by (steps.Control k payload) reply)
-declare_lengths r k payload declare g d (replies.Rejected error text) o e a = no_commit_lengths r k payload (replies.Rejected error text) (commits-at r k payload true (Some (messages.Declare declare)) o e) refl
-declare_lengths r k payload declare g d (replies.Declared t) o e a = no_commit_lengths r k payload (replies.Declared t) (commits-at r k payload true (Some (messages.Declare declare)) o e) refl
-declare_lengths r k payload declare None d _ o e a = absurd a
-declare_lengths r k payload declare (Some global) d _ o e a = absurd a
+declare_lengths : (r : List Entry) (k : ℕ) (payload : List ℕ) (declare : Declare) (g : Option TransactionId) (d : List TransactionId) (reply : Reply) → is_rejected reply ≡ false → is_open r k ≡ true → message_of payload ≡ Some (messages.Declare declare) → AnswerDeclare r g d reply → length (hands r (steps.Control k payload)) ≡ length (given_by (steps.Control k payload) reply)
+declare_lengths r k payload declare g d (replies.Rejected error text) n o e a = cc n
+declare_lengths r k payload declare g d (replies.Declared t) n o e a = no_commit_lengths r k payload (replies.Declared t) (commits-at r k payload true (Some (messages.Declare declare)) o e) refl
+declare_lengths r k payload declare None d _ n o e a = absurd a
+declare_lengths r k payload declare (Some global) d _ n o e a = absurd a
 
-discharge_lengths : (r : List Entry) (k : ℕ) (payload : List ℕ) (discharge : Discharge) (d : List TransactionId) (reply : Reply) → is_open r k ≡ true → message_of payload ≡ Some (messages.Discharge discharge) → AnswerDischarge r k discharge.txn_id discharge.fail d reply → length (hands r (steps.Control k payload)) ≡ length (given_by (steps.Control k payload) reply)
-discharge_lengths r k payload discharge d (replies.Accepted echoes) o e a = accepted_lengths r k payload discharge echoes (is_rollback discharge.fail) o e refl a.0 a.2
-discharge_lengths r k payload discharge d (replies.Rejected transaction_errors.UnknownId texts.Absent) o e a = no_commit_lengths r k payload (replies.Rejected transaction_errors.UnknownId texts.Absent) (not_held_no_commit r k payload discharge o e a.0) refl
-discharge_lengths r k payload discharge d _ o e a = absurd a
+discharge_lengths : (r : List Entry) (k : ℕ) (payload : List ℕ) (discharge : Discharge) (d : List TransactionId) (reply : Reply) → is_rejected reply ≡ false → is_open r k ≡ true → message_of payload ≡ Some (messages.Discharge discharge) → AnswerDischarge r k discharge.txn_id discharge.fail d reply → length (hands r (steps.Control k payload)) ≡ length (given_by (steps.Control k payload) reply)
+discharge_lengths r k payload discharge d (replies.Accepted echoes) n o e a = accepted_lengths r k payload discharge echoes (is_rollback discharge.fail) o e refl a.0 a.2
+discharge_lengths r k payload discharge d (replies.Rejected error text) n o e a = cc n
+discharge_lengths r k payload discharge d _ n o e a = absurd a
 
-message_lengths : (r : List Entry) (k : ℕ) (payload : List ℕ) (d : List TransactionId) (reply : Reply) (m : Option ControlMessageBody) → is_open r k ≡ true → message_of payload ≡ m → AnswerMessage r k m d reply → length (hands r (steps.Control k payload)) ≡ length (given_by (steps.Control k payload) reply)
-message_lengths r k payload d (replies.LinkClosed error) None o e a = no_commit_lengths r k payload (replies.LinkClosed error) (commits-at r k payload true None o e) refl
-message_lengths r k payload d _ None o e a = absurd a
-message_lengths r k payload d reply (Some (messages.Declare declare)) o e a = declare_lengths r k payload declare declare.global_id d reply o e a
-message_lengths r k payload d reply (Some (messages.Discharge discharge)) o e a = discharge_lengths r k payload discharge d reply o e a
+message_lengths : (r : List Entry) (k : ℕ) (payload : List ℕ) (d : List TransactionId) (reply : Reply) (m : Option ControlMessageBody) → is_rejected reply ≡ false → is_open r k ≡ true → message_of payload ≡ m → AnswerMessage r k m d reply → length (hands r (steps.Control k payload)) ≡ length (given_by (steps.Control k payload) reply)
+message_lengths r k payload d (replies.LinkClosed error) None n o e a = no_commit_lengths r k payload (replies.LinkClosed error) (commits-at r k payload true None o e) refl
+message_lengths r k payload d _ None n o e a = absurd a
+message_lengths r k payload d reply (Some (messages.Declare declare)) n o e a = declare_lengths r k payload declare declare.global_id d reply n o e a
+message_lengths r k payload d reply (Some (messages.Discharge discharge)) n o e a = discharge_lengths r k payload discharge d reply n o e a
 
-given_lengths_open : (r : List Entry) (k : ℕ) (payload : List ℕ) (d : List TransactionId) (reply : Reply) (b : Bool) → is_open r k ≡ b → AnswerControl r k b (message_of payload) d reply → length (hands r (steps.Control k payload)) ≡ length (given_by (steps.Control k payload) reply)
-given_lengths_open r k payload d reply true o a = message_lengths r k payload d reply (message_of payload) o refl a
-given_lengths_open r k payload d replies.NoLink false o a = no_commit_lengths r k payload replies.NoLink (commits-at r k payload false (message_of payload) o refl) refl
-given_lengths_open r k payload d _ false o a = absurd a
+given_lengths_open : (r : List Entry) (k : ℕ) (payload : List ℕ) (d : List TransactionId) (reply : Reply) (b : Bool) → is_rejected reply ≡ false → is_open r k ≡ b → AnswerControl r k b (message_of payload) d reply → length (hands r (steps.Control k payload)) ≡ length (given_by (steps.Control k payload) reply)
+given_lengths_open r k payload d reply true n o a = message_lengths r k payload d reply (message_of payload) n o refl a
+given_lengths_open r k payload d replies.NoLink false n o a = no_commit_lengths r k payload replies.NoLink (commits-at r k payload false (message_of payload) o refl) refl
+given_lengths_open r k payload d _ false n o a = absurd a
 
-given_lengths_control : (r : List Entry) (k : ℕ) (payload : List ℕ) (d : List TransactionId) (reply : Reply) → Answer r (steps.Control k payload) d reply → length (hands r (steps.Control k payload)) ≡ length (given_by (steps.Control k payload) reply)
-given_lengths_control r k payload d reply a = given_lengths_open r k payload d reply (is_open r k) refl a
+not_rejected_lengths : (r : List Entry) (s : Step) (d : List TransactionId) (reply : Reply) → is_rejected reply ≡ false → Answer r s d reply → length (hands r s) ≡ length (given_by s reply)
+not_rejected_lengths r (steps.Frame frame) d reply n a = given_lengths_frame r frame d reply (is_plain_frame frame) refl a
+not_rejected_lengths r (steps.Control k payload) d reply n a = given_lengths_open r k payload d reply (is_open r k) n refl a
+not_rejected_lengths r (steps.LinkEnd k) d reply n a = refl
+not_rejected_lengths r _ d reply n a = refl
 
-pub given_lengths : (r : List Entry) (s : Step) (d : List TransactionId) (reply : Reply) → Answer r s d reply → length (hands r s) ≡ length (given_by s reply)
-given_lengths r (steps.Frame frame) d reply a = given_lengths_frame r frame d reply (is_plain_frame frame) refl a
-given_lengths r (steps.Control k payload) d reply a = given_lengths_control r k payload d reply a
-given_lengths r (steps.LinkEnd k) d reply a = refl
-given_lengths r _ d reply a = refl
+-- what is rejected gives nothing back
+pub given-rejected : (s : Step) (reply : Reply) → is_rejected reply ≡ true → given_by s reply ≡ []
+given-rejected (steps.Frame frame) (replies.Frames answers) h = cc h
+given-rejected (steps.Control k payload) (replies.Accepted echoes) h = cc h
+given-rejected _ _ h = refl
+
+pub handed-rejected : (r : List Entry) (s : Step) (reply : Reply) → is_rejected reply ≡ true → handed_by r s reply ≡ []
+handed-rejected r s reply h = ap (λ b. cond b [] (hands r s)) h
+
+pub handed-answered : (r : List Entry) (s : Step) (reply : Reply) → is_rejected reply ≡ false → handed_by r s reply ≡ hands r s
+handed-answered r s reply h = ap (λ b. cond b [] (hands r s)) h
+
+pub given_lengths : (r : List Entry) (s : Step) (d : List TransactionId) (reply : Reply) → Answer r s d reply → length (handed_by r s reply) ≡ length (given_by s reply)
+given_lengths r s d reply a = by_case (is_rejected reply) refl
+  where
+    by_case : (b : Bool) → is_rejected reply ≡ b → length (handed_by r s reply) ≡ length (given_by s reply)
+    by_case true h = ap length (handed-rejected r s reply h) ∙ sym (ap length (given-rejected s reply h))
+    by_case false h = ap length (handed-answered r s reply h) ∙ not_rejected_lengths r s d reply h a
 
 none_handed : length (work []) ≡ length (given_back [])
 unfolding work given_back
@@ -233,20 +249,20 @@ none_handed = refl
 
 more_handed : (r : List Entry) (e : Entry) → length (work r) ≡ length (given_back r) → Answer r e.step e.drawn.ids e.reply → length (work (r ++ e ∷ [])) ≡ length (given_back (r ++ e ∷ []))
 more_handed r e h a =
-    ap length (work-snoc r e) ∙ length-append (work r) (hands r e.step)
-    ∙ ap (λ n. n + length (hands r e.step)) h ∙ ap (λ n. length (given_back r) + n) (given_lengths r e.step e.drawn.ids e.reply a)
+    ap length (work-snoc r e) ∙ length-append (work r) (handed_by r e.step e.reply)
+    ∙ ap (λ n. n + length (handed_by r e.step e.reply)) h ∙ ap (λ n. length (given_back r) + n) (given_lengths r e.step e.drawn.ids e.reply a)
     ∙ sym (length-append (given_back r) (given_by e.step e.reply)) ∙ sym (ap length (given-snoc r e))
 
 pub work_given : (r : List Entry) → IsLegal r → length (work r) ≡ length (given_back r)
 work_given r l = legal_induction (λ x. length (work x) ≡ length (given_back x)) none_handed more_handed r l
 
 -- the pairs, with one entry more
-pub pairs-snoc : (r : List Entry) (e : Entry) → IsLegal r → pairs (r ++ e ∷ []) ≡ pairs r ++ zip (hands r e.step) (given_by e.step e.reply)
+pub pairs-snoc : (r : List Entry) (e : Entry) → IsLegal r → pairs (r ++ e ∷ []) ≡ pairs r ++ zip (handed_by r e.step e.reply) (given_by e.step e.reply)
 unfolding pairs
 pairs-snoc r e l =
     ap (λ ws. zip ws (given_back (r ++ e ∷ []))) (work-snoc r e)
-    ∙ ap (zip (work r ++ hands r e.step)) (given-snoc r e)
-    ∙ zip-append (work r) (hands r e.step) (given_back r) (given_by e.step e.reply) (work_given r l)
+    ∙ ap (zip (work r ++ handed_by r e.step e.reply)) (given-snoc r e)
+    ∙ zip-append (work r) (handed_by r e.step e.reply) (given_back r) (given_by e.step e.reply) (work_given r l)
 
 -- ---- links of a legal record
 

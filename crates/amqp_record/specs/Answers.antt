@@ -67,13 +67,20 @@ abbrev pub Echoed : List Entry → TransactionId → Bool → List Answers → T
 Echoed r t true echoes = echoes ≡ []
 Echoed r t false echoes = AllWindowsFit (frames_of r t) echoes
 
+-- a commit may be vetoed where the transaction has a frame
+abbrev pub MayBeVetoed : List Entry → TransactionId → Bool → Type 0
+MayBeVetoed r t rollback = (rollback ≡ false) × (1 ≤ length (frames_of r t))
+
 -- the replies to a discharge (4.3, Discharging a Transaction; 4.5.8, Transaction Error):
 --   of an id that isn't live, or has another home          rejected as unknown
 --   of any other                                           accepted
+--   or, where it is a commit with a frame                  rejected, and rolled back
 abbrev pub AnswerDischarge : List Entry → ℕ → TransactionId → Option Bool → List TransactionId
     → Reply → Type 0
 AnswerDischarge r k t fail d (replies.Rejected transaction_errors.UnknownId texts.Absent) =
     (is_held_on r k t ≡ false) × (d ≡ [])
+AnswerDischarge r k t fail d (replies.Rejected transaction_errors.Rollback texts.Absent) =
+    (is_held_on r k t ≡ true) × (d ≡ []) × MayBeVetoed r t (is_rollback fail)
 AnswerDischarge r k t fail d (replies.Accepted echoes) =
     (is_held_on r k t ≡ true) × (d ≡ []) × Echoed r t (is_rollback fail) echoes
 AnswerDischarge _ _ _ _ _ _ = ⊥

@@ -5,6 +5,7 @@ use Rattle.std.specs.Prelude.{ℕ, ◌==◌, Bool, true, false, Option, Some, No
 use Rattle.std.specs.List.{flat_map}
 use Rattle.amqp_txn_types.specs.Ids.{same_id, is_some_id}
 use Rattle.amqp_txn_types.specs.declared.id.TransactionId.{TransactionId}
+use Rattle.amqp_txn_types.specs.declared.small.TransactionError.TheVariants as transaction_errors
 use Rattle.amqp_txn_types.specs.Frames.{txn}
 use Rattle.amqp_txn_codec.specs.declared.message.ControlMessageBody.{ControlMessageBody}
 use Rattle.amqp_txn_codec.specs.declared.message.ControlMessageBody.TheVariants as messages
@@ -53,13 +54,21 @@ abbrev pub message_discharges : TransactionId → Option ControlMessageBody → 
 message_discharges t (Some (messages.Discharge discharge)) = same_id t discharge.txn_id
 message_discharges t _ = false
 
--- the payload spells a discharge of the id, and it was accepted (4.3, Discharging a Transaction)
+-- the reply is a veto: the commit was rolled back instead (4.5.8, Transaction Error)
+abbrev pub is_veto : Reply → Bool
+is_veto (replies.Rejected transaction_errors.Rollback text) = true
+is_veto _ = false
+
+-- the payload spells a discharge of the id, and it was accepted or vetoed (4.3, Discharging a
+-- Transaction)
 abbrev pub step_discharges : TransactionId → Step → Reply → Bool
 step_discharges t (steps.Control link payload) (replies.Accepted echoes) =
     message_discharges t (message_of payload)
+step_discharges t (steps.Control link payload) (replies.Rejected transaction_errors.Rollback text) =
+    message_discharges t (message_of payload)
 step_discharges t _ _ = false
 
--- the entry discharged the id
+-- the entry discharged the id, be it that it committed it or rolled it back
 abbrev pub discharges : TransactionId → Entry → Bool
 discharges t e = step_discharges t e.step e.reply
 

@@ -68,7 +68,7 @@ sources r (steps.Frame frame) = cond (is_plain_frame frame) (length r ∷ []) []
 sources r (steps.Control k payload) = sources_of r (commits r (steps.Control k payload))
 sources r _ = []
 
--- hands: the frames that a step hands, in order, each stripped of its transactional state (4.4.1,
--- Transactional Posting; 4.4.2, Transactional Retirement)
+-- hands: the frames that a step hands where it isn't vetoed, in order, each stripped of its
+-- transactional state (4.4.1, Transactional Posting; 4.4.2, Transactional Retirement)
 abbrev pub hands : List Entry → Step → List Frame
 hands r s = map stripped (frames_at (steps_of r ++ s ∷ []) (sources r s))

@@ -9,6 +9,7 @@ pub mod Legal
 pub mod Valid
 pub mod Stops
 pub mod Opened
+pub mod Vetoed
 pub mod Others
 pub mod Texts
 pub mod Waiting

@@ -1,5 +1,5 @@
 -- What a whole record handed, where it came from, and what was given back for it.
-use Rattle.std.specs.Prelude.{ℕ, cond, List, [], ◌∷◌, ◌++◌, map}
+use Rattle.std.specs.Prelude.{ℕ, Bool, true, false, cond, List, [], ◌∷◌, ◌++◌, map}
 use Rattle.std.specs.List.{flat_map, zip}
 use Rattle.amqp_txn_types.specs.declared.performatives.Frame.{Frame}
 use Rattle.amqp_txn_types.specs.Frames.{is_plain_frame}
@@ -17,13 +17,26 @@ abbrev pub joined_after : {A : Type 0} → (List Entry → Entry → List A) →
 joined_after f before [] = []
 joined_after f before (e ∷ r) = f before e ++ joined_after f (before ++ e ∷ []) r
 
+-- the reply rejects the step, which then hands nothing
+abbrev pub is_rejected : Reply → Bool
+is_rejected (replies.Rejected error text) = true
+is_rejected _ = false
+
+-- the frames that a step with this reply handed
+abbrev pub handed_by : List Entry → Step → Reply → List Frame
+handed_by r s reply = cond (is_rejected reply) [] (hands r s)
+
+-- the places that these frames come from
+abbrev pub sources_by : List Entry → Step → Reply → List ℕ
+sources_by r s reply = cond (is_rejected reply) [] (sources r s)
+
 -- work: the frames that the record handed, in order (4.4, Transactional Work)
 unfoldable pub work : List Entry → List Frame
-work r = joined_after (λ before e. hands before e.step) [] r
+work r = joined_after (λ before e. handed_by before e.step e.reply) [] r
 
 -- origins: the places that these frames come from, in the same order (4.4, Transactional Work)
 unfoldable pub origins : List Entry → List ℕ
-origins r = joined_after (λ before e. sources before e.step) [] r
+origins r = joined_after (λ before e. sources_by before e.step e.reply) [] r
 
 -- what a reply says was given back: one list for a plain frame, one for each echo of a commit; an
 -- accepted rollback has no echoes

@@ -1,6 +1,6 @@
 //! Whether a reply is an answer of a record, by looking at every entry.
 
-ghost use Rattle.std.specs.Prelude.{◌≡◌, ◌↔◌, List, ◌++◌, ◌∷◌, [], true, false, None, Some, IsTrue, MatchOption};
+ghost use Rattle.std.specs.Prelude.{◌≡◌, ◌≤◌, ◌↔◌, List, ◌++◌, ◌∷◌, [], true, false, None, Some, IsTrue, MatchOption, length};
 ghost use Rattle.std.specs.List.{list_all};
 ghost use Rattle.amqp_txn_types.specs.Frames.{txn};
 ghost use Rattle.amqp_txn_types.specs.declared.performatives.Frame.{Frame};
@@ -15,7 +15,7 @@ ghost use Rattle.amqp_record.specs.Live.{is_live};
 ghost use Rattle.amqp_record.specs.Links.{is_open};
 ghost use Rattle.amqp_record.specs.Hands.{frames_under, own_frame};
 ghost use Rattle.amqp_txn_codec.specs.Discharges.{is_rollback};
-ghost use Rattle.amqp_record.specs.Answers.{Answer, AnswerControl, AnswerDeclare, AnswerDischarge, AnswerFrame, AnswerLinkEnd, AnswerMessage, Draws, Echoed};
+ghost use Rattle.amqp_record.specs.Answers.{Answer, AnswerControl, AnswerDeclare, AnswerDischarge, AnswerFrame, AnswerLinkEnd, AnswerMessage, Draws, Echoed, MayBeVetoed};
 ghost use Rattle.amqp_layer.specs.Windows.{WindowFits, AllWindowsFit};
 ghost use Rattle.amqp_txn_types.specs.Presumptive.{answered_under, presumptive};
 
@@ -240,8 +240,31 @@ fn answers_discharge(
         Reply::Accepted(echoes) => {
             held && is_none_drawn(drawn) && has_its_echoes(entries, discharge, echoes)
         }
+        Reply::Rejected {
+            error: TransactionError::Rollback,
+            text: RejectText::Absent,
+        } => held && is_none_drawn(drawn) && may_be_vetoed(entries, discharge),
         _ => !held && is_none_drawn(drawn) && is_rejected(reply, RejectText::Absent),
     }
+}
+
+fn may_be_vetoed(entries: &[Entry], discharge: Discharge) -> bool
+    ensures { IsTrue result ↔ MayBeVetoed entries.now discharge.txn_id
+        (is_rollback discharge.fail) }
+{
+    let txn_id = discharge.txn_id;
+    !rolls_back(discharge.fail) && has_frame_under(entries_since(entries, &txn_id), &txn_id)
+}
+
+fn has_frame_under(entries: &[Entry], txn_id: &TransactionId) -> bool
+    ensures { IsTrue result ↔ (1 ≤ length (frames_under txn_id.now entries.now)) }
+{
+    for entry in entries {
+        if frame_under(entry, txn_id).is_some() {
+            return true;
+        }
+    }
+    false
 }
 
 fn has_its_echoes(entries: &[Entry], discharge: Discharge, echoes: &Echoes) -> bool

@@ -6,11 +6,13 @@ ghost use Rattle.amqp_txn_codec.specs.Reading.{message_of};
 ghost use Rattle.amqp_record.specs.Entries.{step_is_under};
 ghost use Rattle.amqp_txn_types.specs.Ids.{is_some_id};
 ghost use Rattle.amqp_record.specs.Hands.{commits, commits_message, frame_of_step, frames_under, hands};
+ghost use Rattle.amqp_record.specs.Work.{handed_by};
 ghost use Rattle.amqp_txn_codec.specs.Discharges.{is_rollback};
 
 use crate::entry::Entry;
 use crate::live_ids::{entries_since, is_held_on};
 use crate::open_links::is_open;
+use crate::reply::Reply;
 use crate::step::Step;
 use amqp_txn_codec::{ControlMessageBody, decode, rolls_back};
 use amqp_txn_types::{
@@ -37,9 +39,9 @@ pub fn commits(entries: &[Entry], step: &Step) -> Option<TransactionId>
     }
 }
 
-/// The frames that the step hands to the layer below after these entries: a plain frame itself, and
-/// the frames of the transaction that the step commits, in order, each stripped of its
-/// transactional state.
+/// The frames that the step hands to the layer below after these entries, where they aren't vetoed:
+/// a plain frame itself, and the frames of the transaction that the step commits, in order, each
+/// stripped of its transactional state.
 ///
 /// Part 4 of the standard, section 4.4 (transactional work). It looks at every entry a few times,
 /// so it serves small records. The only error is want of memory.
@@ -53,6 +55,18 @@ pub fn hands(alloc: Global, entries: &[Entry], step: &Step) -> Result<Frames, No
             None => Ok(Frames::new(alloc)),
         },
         _ => Ok(Frames::new(alloc)),
+    }
+}
+
+/// The frames that the entry handed after these entries: those that its step hands, and none where
+/// it was rejected.
+pub(crate) fn handed_by(alloc: Global, entries: &[Entry], entry: &Entry) -> Result<Frames, NoMemory>
+    ensures { IfOk result (λ frames. frames ≡ handed_by entries.now entry.now.step
+        entry.now.reply) }
+{
+    match &entry.reply {
+        Reply::Rejected { .. } => Ok(Frames::new(alloc)),
+        _ => hands(alloc, entries, &entry.step),
     }
 }
 

@@ -18,7 +18,7 @@ ghost use Rattle.amqp_record.specs.Links.{is_open};
 ghost use Rattle.amqp_record.specs.Homes.{DeclaredAtHome, HasOpenHome};
 ghost use Rattle.amqp_record.specs.Live.{home, is_live, is_held_on, frame_places, entries_since};
 ghost use Rattle.amqp_record.specs.Hands.{commits, frames_at, frames_under, hands};
-ghost use Rattle.amqp_record.specs.Work.{work, origins, given_back, pairs};
+ghost use Rattle.amqp_record.specs.Work.{work, origins, given_back, is_rejected, pairs};
 ghost use Rattle.amqp_record.specs.Answers.{Answer};
 ghost use Rattle.amqp_record.specs.Legal.{IsLegal};
 ghost use Rattle.amqp_record.specs.Others.{is_of_others};
@@ -45,12 +45,14 @@ pub fn a_live_id_has_one_open_home()
 
 /// What a commit hands are the frames under its own id since the last declare of that id, in order,
 /// each stripped: no frame of another id, and none of an earlier life of this one. They are as many
-/// as the places of the id.
+/// as the places of the id. An entry that was rejected, as a vetoed commit is, hands nothing.
 pub fn a_commit_hands_the_frames_of_its_own_id()
     ensures own { (r : List Entry) (s : Step) (t : TransactionId) → commits r s ≡ Some t
         → hands r s ≡ map stripped (frames_under t (entries_since r t)) }
     ensures places { (r : List Entry) (t : TransactionId)
         → length (frames_under t (entries_since r t)) ≡ length (frame_places r t) }
+    ensures rejected { (r : List Entry) (e : Entry) → is_rejected e.reply ≡ true
+        → (work (r ++ e ∷ []) ≡ work r) × (origins (r ++ e ∷ []) ≡ origins r) }
 {}
 
 /// A frame under another id or under none, and a commit or rollback of another id, change neither
@@ -62,8 +64,8 @@ pub fn others_leave_an_id_alone()
         → is_of_others t e.step ≡ true → is_live (r ++ e ∷ []) t ≡ is_live r t }
 {}
 
-/// After an accepted discharge of an id, and until it is declared anew, the id isn't live, and the
-/// one answer to a discharge of it on an open link is that it is unknown.
+/// After a discharge of an id that was accepted or vetoed, and until it is declared anew, the id
+/// isn't live, and the one answer to a discharge of it on an open link is that it is unknown.
 pub fn a_discharged_id_is_unknown_until_declared_anew()
     ensures dead { (before later : List Entry) (e : Entry) (t : TransactionId)
         → discharges t e ≡ true → list_any (declares t) later ≡ false

@@ -7,7 +7,7 @@ ghost use Rattle.amqp_record.specs.Work.{work};
 
 use crate::answering::is_answer;
 use crate::entry::Entry;
-use crate::handing::{add, hands};
+use crate::handing::{add, handed_by};
 use amqp_ids::Drawn;
 use amqp_txn_types::{Frames, NoMemory, TransactionId};
 use std::alloc::Global;
@@ -47,7 +47,7 @@ pub fn work(alloc: Global, entries: &[Entry]) -> Result<Frames, NoMemory>
 {
     let mut all = Frames::new(alloc);
     for (place, entry) in entries.iter().enumerate() {
-        add_all(&mut all, hands(alloc, &entries[..place], &entry.step)?)?;
+        add_all(&mut all, handed_by(alloc, &entries[..place], entry)?)?;
     }
     Ok(all)
 }

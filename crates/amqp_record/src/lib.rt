@@ -18,7 +18,7 @@
 //!                                   |            |            |
 //!             discharge of t on     |            |            |   its home ends, or is
 //!             its home, to commit   |            |            |   closed by a payload that
-//!                                   |            |            |   is no control message
+//!                                   |---- veto ->|            |   is no control message
 //!                                   v            v            v
 //!                              committed    rolled back    aborted
 //!                                   |            |            |
@@ -27,6 +27,9 @@
 //!              stripped of t        v            v            v
 //!                                  not live, until t is declared anew
 //! ```
+//!
+//! A commit with a frame may be vetoed by the layer below, before anything is handed: it is rejected
+//! with `Rollback`, and t is rolled back.
 //!
 //! While t isn't live, a frame under it has no answer (the session stops), and a discharge of it on
 //! an open link is rejected as unknown. A discharge on another link than its home is rejected too,

@@ -11,7 +11,7 @@ use crate::open_links::is_open;
 use crate::reply::Reply;
 use crate::step::Step;
 use amqp_txn_codec::{ControlMessageBody, decode};
-use amqp_txn_types::TransactionId;
+use amqp_txn_types::{TransactionError, TransactionId};
 
 /// The place of the last entry that declared the id, counted from 0; `None` where none did.
 ///
@@ -43,8 +43,8 @@ pub fn home(entries: &[Entry], txn_id: &TransactionId) -> Option<u64>
     }
 }
 
-/// Whether the id is live after these entries: it was declared, it was not discharged since, and
-/// the link that declared it is open.
+/// Whether the id is live after these entries: it was declared, no discharge of it was accepted or
+/// vetoed since, and the link that declared it is open.
 ///
 /// Part 4 of the standard, sections 4.1 to 4.3. It looks at every entry a few times.
 #[tactic(auto, unfolding(crate::specs::Live::is_live))]
@@ -55,7 +55,7 @@ pub fn is_live(entries: &[Entry], txn_id: &TransactionId) -> bool
 }
 
 /// Whether the id is live and the link is its home, so that a discharge of it on this link is
-/// accepted.
+/// accepted, or a commit vetoed.
 pub fn is_held_on(entries: &[Entry], link: u64, txn_id: &TransactionId) -> bool
     ensures { result ≡ is_held_on entries.now link txn_id.now }
 {
@@ -120,6 +120,13 @@ fn is_discharge_of(entry: &Entry, txn_id: &TransactionId) -> bool
         (Step::Control { payload, .. }, Reply::Accepted(_)) => {
             spells_discharge(payload.as_slice(), txn_id)
         }
+        (
+            Step::Control { payload, .. },
+            Reply::Rejected {
+                error: TransactionError::Rollback,
+                ..
+            },
+        ) => spells_discharge(payload.as_slice(), txn_id),
         _ => false,
     }
 }

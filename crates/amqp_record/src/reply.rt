@@ -9,7 +9,8 @@ use amqp_txn_types::{AmqpError, Frames, NoMemory, TransactionError, TransactionI
 /// The text beside a rejected control message.
 #[derive(Clone, Copy, Debug, PartialEq, Eq)]
 pub enum RejectText {
-    /// No text: the id of a discharge isn't live, or was declared on another link.
+    /// No text: the id of a discharge isn't live or was declared on another link, or the commit was
+    /// vetoed.
     Absent,
     /// A declare has a global id, which isn't supported.
     GlobalId,
@@ -58,7 +59,8 @@ pub enum Reply {
     /// To a discharge: for a commit what the layer below gave back for each of its frames, in
     /// order; for a rollback nothing.
     Accepted(Echoes),
-    /// To a declare or a discharge that is refused (section 4.5.8, transaction error).
+    /// To a declare or a discharge that is refused (section 4.5.8, transaction error). With
+    /// `Rollback` the layer below vetoed a commit: its id has ended, and nothing was handed.
     Rejected {
         /// The condition.
         error: TransactionError,

@@ -5,15 +5,19 @@ use Rattle.amqp_txn_types.specs.declared.performatives.Attach.{Attach}
 use Rattle.amqp_txn_types.specs.declared.performatives.Frame.{Frame}
 use Rattle.amqp_layer.specs.declared.inner_error.SessionInnerError.{SessionInnerError}
 use Rattle.amqp_layer.specs.declared.inner_error.SessionInnerError.TheVariants as faults
+use Rattle.amqp_recorder.specs.declared.call_numbers.Planned.{Planned}
 use Rattle.amqp_recorder.specs.declared.recorder.Recorder.{Recorder}
-use Rattle.amqp_layer.specs.Inner.{Opened, Took}
-use Rattle.amqp_recorder.specs.Recording.{RecordsCall, RecordsOpen, WhyErr, error_uncopied, given_uncopied, inner_of, no_room, passed, vetoed}
+use Rattle.amqp_recorder.specs.Recording.{RecordsCall, RecordsOpen, WhyErr, error_uncopied, given_uncopied, inner_of, no_room, passed, planned_so}
 use Rattle.amqp_layer.specs.Told.{Told}
 use Rattle.amqp_sessions.specs.Names.{LeftBy, Names, SameNames}
-use Rattle.amqp_sessions.specs.Sessions.{Kept, LeavesFrame, LeavesOpening}
+use Rattle.amqp_sessions.specs.Sessions.{Kept, Leaves, LeavesFrame, LeavesOpening}
+use Rattle.amqp_txn_types.specs.declared.items.NoMemory.{NoMemory}
+use Rattle.amqp_layer.specs.declared.verdict.Verdict.{Verdict}
+use Rattle.amqp_recorder.specs.Vetoing.{RecordsReview}
 
 -- what a refusal leaves is what want of memory may leave
-left-weakened : {Done Same : Type 0} (error : SessionInnerError) → LeftBy Done Same (Err error) → Done ⊎ Same
+left-weakened : {Done Same : Type 0} (error : SessionInnerError) → LeftBy Done Same (Err error)
+    → Done ⊎ Same
 left-weakened faults.UnattachedHandle same = inr same
 left-weakened faults.RemoteAttachingLinkNameNotFound same = inr same
 left-weakened faults.HandleInUse same = inr same
@@ -39,10 +43,10 @@ module _ {S : Type 0} (told : S → Told) (kept : S → Kept) (names : S → Nam
       (Inner : Result (List Frame) SessionInnerError → Type 0)
       → ((answer : Result (List Frame) SessionInnerError) → Inner answer
       → (kept new ≡ kept old) × LeftBy Done (SameNames (names old) (names new)) answer)
-      → (planned : Bool) (error : SessionInnerError) (rose : Bool)
+      → (planned : Planned) (error : SessionInnerError) (rose : Bool)
       → WhyErr Inner (new ≡ old) planned error rose
       → (kept new ≡ kept old) × LeftBy Done (SameNames (names old) (names new)) (Err error)
-  refused-left old new Done Inner law planned _ _ (vetoed is_planned same) =
+  refused-left old new Done Inner law planned _ _ (planned_so is_planned same) =
       (ap kept same, names-same old new same)
   refused-left old new Done Inner law planned _ _ (no_room same) =
       (ap kept same, inr (names-same old new same))
@@ -92,3 +96,20 @@ module _ {S : Type 0} (told : S → Told) (kept : S → Kept) (names : S → Nam
       (leaves.kept, leaves.names))
       _ error records.recorded.0 records.recorded.1 in
       record { kept = left.0; names = left.1 }
+
+  -- a review
+  pub recorded_review-leaves :
+      (gives : S → S → List Frame → Result Verdict NoMemory → Type 0)
+      → ((old new : S) (list : List Frame) (answer : Result Verdict NoMemory)
+      → gives old new list answer → Leaves (kept old) (kept new) (names old) (names new))
+      → (old new : Recorder S) (list : List Frame) (answer : Result Verdict NoMemory)
+      → RecordsReview told gives old new list answer
+      → Leaves (kept (inner_of old)) (kept (inner_of new)) (names (inner_of old))
+      (names (inner_of new))
+  recorded_review-leaves gives law old new list answer records = elim records.recorded [
+    | inl alone ↦ record {
+      kept = ap kept alone.untouched;
+      names = names-same (inner_of old) (inner_of new) alone.untouched;
+    }
+    | inr asked ↦ law (inner_of old) (inner_of new) list answer asked.inner.gave
+  ]

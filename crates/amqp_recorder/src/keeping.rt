@@ -1,8 +1,10 @@
 //! What a recorder keeps of a call, over lists that have room for it.
 
-ghost use Rattle.std.specs.Prelude.{◌≡◌, ◌≢◌, ◌<◌, ◌++◌, ◌∷◌, [], false, IfErr, IfOk, OnOk, OnErr, vec_len, vec_capacity};
+ghost use Rattle.std.specs.Prelude.{◌≡◌, ◌≢◌, ◌<◌, ◌++◌, ◌∷◌, [], IfErr, IfOk, OnOk, OnErr, vec_len, vec_capacity};
 ghost use Rattle.amqp_recorder.specs.Recording.{KeepsAnswer, KeepsRefusal, RefusedBefore};
+ghost use Rattle.amqp_recorder.specs.declared.call_numbers.Planned.TheVariants as fates;
 
+use crate::call_numbers::Planned;
 use amqp_layer::{Refusal, SessionInnerError};
 use amqp_txn_types::{Frame, Frames, NoMemory, TryClone, refuse};
 use std::alloc::Global;
@@ -24,32 +26,46 @@ pub(crate) fn prepare<F: TryClone>(
     item.try_clone()
 }
 
-/// What comes before a call of the layer: room for what is kept of it, and that no plan refuses it. A
+/// A copy of the frames that are reviewed, and room for one more such list. The only error is want of
+/// memory.
+pub(crate) fn prepare_review(frames: &Frames, vetoed: &mut Vec<Frames>) -> Result<Frames, NoMemory>
+    ensures copy { IfOk result (λ copy. copy ≡ frames.now) }
+    ensures vetoed { vetoed.new.items ≡ vetoed.old.items }
+    ensures room { OnOk result (vec_len vetoed.new < vec_capacity vetoed.new) }
+{
+    vetoed.reserve(1)?;
+    frames.try_clone()
+}
+
+/// What comes before a call of the layer: that no plan refuses it, and room for what is kept of it. A
 /// planned refusal is kept. It gives a copy of the frame, to be kept.
 pub(crate) fn before_call(
-    is_planned: bool,
+    planned: Planned,
     frame: &Frame,
     kept: &mut Vec<(Frame, Frames)>,
     refused: &mut Vec<Refusal>,
 ) -> Result<Frame, SessionInnerError>
     ensures copy { IfOk result (λ copy. copy ≡ frame.now) }
-    ensures passes { OnOk result (is_planned ≡ false) }
+    ensures made { OnOk result (planned ≡ fates.Made) }
     ensures kept { kept.new.items ≡ kept.old.items }
     ensures unrefused { OnOk result (refused.new.items ≡ refused.old.items) }
     ensures room { OnOk result (vec_len kept.new < vec_capacity kept.new) }
     ensures refusal_room { OnOk result (vec_len refused.new < vec_capacity refused.new) }
     ensures err { IfErr result
-        (RefusedBefore is_planned refused.old.items refused.new.items frame.now) }
+        (RefusedBefore planned refused.old.items refused.new.items frame.now) }
 {
-    let copy = prepare(frame, kept, refused)?;
-    if is_planned {
-        refused.push_reserved(Refusal {
-            frame: copy,
-            error: SessionInnerError::IllegalState,
-        });
-        return Err(SessionInnerError::IllegalState);
+    match planned {
+        Planned::Made => Ok(prepare(frame, kept, refused)?),
+        Planned::Refused => {
+            let copy = prepare(frame, kept, refused)?;
+            refused.push_reserved(Refusal {
+                frame: copy,
+                error: SessionInnerError::IllegalState,
+            });
+            Err(SessionInnerError::IllegalState)
+        }
+        Planned::Starved => Err(SessionInnerError::NoMemory),
     }
-    Ok(copy)
 }
 
 /// Keeps what the layer answered to a frame, and gives what is answered for it. A refusal of its own,

@@ -2,7 +2,7 @@
 //!
 //! | type | is |
 //! |---|---|
-//! | [`Recorder`] | a layer with the lists of what it took, opened and refused |
+//! | [`Recorder`] | a layer with the lists of what it took, opened, refused and vetoed |
 //!
 //! A recorder stands over any layer below and passes on what that answers, so what it tells is what
 //! the layer in it did. Over a session it is a session too, with every call of that one:
@@ -19,6 +19,9 @@
 //! below.set_plan(plan); // the number 2
 //! below.on_incoming_detach(detach)?; // the second call: IllegalState
 //! ```
+//!
+//! A review of frames that would make such a call is vetoed. Calls of another plan, the starved ones,
+//! are answered with want of memory, which no review foresees.
 //!
 //! Below stand the layer of `amqp_layer`, the sessions of `amqp_sessions` and the ids of `amqp_ids`.
 //! The promise that this crate carries: a recorder's exchanges are the pairs of the calls of the layer

@@ -1,61 +1,74 @@
 //! A layer below that keeps what the layer in it took.
 
 ghost use Rattle.std.specs.Prelude.{◌≡◌, ◌↔◌, [], Some, IsTrue};
-ghost use Rattle.amqp_layer.specs.Told.{Told, Takes, planned};
-ghost use Rattle.amqp_recorder.specs.Recording.{IsFresh, RecordsCall, StartsOver, calls_of, inner_of, is_unused, own_of, plan_of};
+ghost use Rattle.amqp_layer.specs.Told.{Told, Takes, planned, starving};
+ghost use Rattle.amqp_recorder.specs.Recording.{IsFresh, RecordsCall, StartsOver, calls_of, inner_of, is_unused, own_of, own_vetoes_of, plan_of, starved_of};
 
 mod listener_calls;
 mod session_calls;
 mod transactional_calls;
 
-use crate::call_numbers::is_among;
-use crate::keeping::{after_call, before_call, keep_refusal, keep_taken, prepare};
+use crate::call_numbers::{any_refused, planned_for};
+use crate::keeping::{after_call, before_call, keep_refusal, keep_taken, prepare, prepare_review};
 use amqp_layer::{
-    Exchanges, LayerBelow, Openings, Refusals, SessionInnerError, Tells, on_incoming_frame,
+    Exchanges, LayerBelow, Openings, Refusals, Reviews, SessionInnerError, Tells, Verdict,
+    on_incoming_frame,
 };
 use amqp_txn_types::{
-    Attach, CallNumbers, Detach, Disposition, Flow, Frame, Frames, Payload, SessionState, Transfer,
-    count_refusal, refuse,
+    Attach, CallNumbers, Detach, Disposition, Flow, Frame, Frames, NoMemory, Payload, SessionState,
+    Transfer, count_refusal, refuse,
 };
 use std::alloc::Global;
 
-/// A layer, with what it took, opened and refused. It tells all three lists.
+/// A layer, with what it took, opened, refused and vetoed. It tells all four lists.
 ///
 /// Its incoming frame calls are numbered from 1. A call whose number stands in its plan is refused
-/// with `IllegalState` and doesn't reach the layer in it. Room for what is kept is made before the
-/// call; where there is none the answer is `NoMemory`.
+/// with `IllegalState`, one whose number is starved is answered `NoMemory`, and neither reaches the
+/// layer in it; a number in both is starved. Room for what is kept is made before the call; where
+/// there is none the answer is `NoMemory`.
+///
+/// A review is vetoed where the plan refuses one of the calls that its frames would make, and else
+/// where the layer in it vetoes it. It counts as no call, and the starved numbers don't matter to it.
 #[derive(Drop)]
 pub struct Recorder<S> {
     session: S,
     plan: CallNumbers,
+    starved: CallNumbers,
     calls: u64,
     unused: bool,
     exchanges: Exchanges,
     opened: Openings,
     refused: Refusals,
     refusals: u64,
+    vetoed: Reviews,
+    vetoes: u64,
     alloc: Global,
 }
 
 impl<S: LayerBelow> Recorder<S> {
-    /// A recorder over a layer, with an empty plan.
+    /// A recorder over a layer, with empty plans.
     pub fn new(alloc: Global, session: S) -> Self
         ensures inner { inner_of result ≡ session }
         ensures plan { plan_of result ≡ [] }
+        ensures starved { starved_of result ≡ [] }
         ensures calls { calls_of result ≡ 0 }
         ensures own { own_of result ≡ 0 }
+        ensures own_vetoes { own_vetoes_of result ≡ 0 }
         ensures unused { IsTrue (is_unused result) }
         ensures told { StartsOver (S.told session) (⟦<Recorder<S> as Tells>⟧.told result) }
     {
         Recorder {
             session,
             plan: CallNumbers::new(alloc),
+            starved: CallNumbers::new(alloc),
             calls: 0,
             unused: true,
             exchanges: Exchanges::new(alloc),
             opened: Openings::new(alloc),
             refused: Refusals::new(alloc),
             refusals: 0,
+            vetoed: Reviews::new(alloc),
+            vetoes: 0,
             alloc,
         }
     }
@@ -76,14 +89,44 @@ impl<S: LayerBelow> Recorder<S> {
     pub fn set_plan(&mut self, plan: CallNumbers)
         requires { IsFresh (is_unused self.old) (⟦<Recorder<S> as Tells>⟧.told self.old) }
         ensures plan { plan_of self.new ≡ plan }
+        ensures starved { starved_of self.new ≡ starved_of self.old }
         ensures inner { inner_of self.new ≡ inner_of self.old }
         ensures calls { calls_of self.new ≡ calls_of self.old }
         ensures own { own_of self.new ≡ own_of self.old }
+        ensures own_vetoes { own_vetoes_of self.new ≡ own_vetoes_of self.old }
         ensures unused { is_unused self.new ≡ is_unused self.old }
         ensures told { ⟦<Recorder<S> as Tells>⟧.told self.new
             ≡ planned plan (⟦<Recorder<S> as Tells>⟧.told self.old) }
     {
         self.plan = plan;
+    }
+
+    /// The numbers of the incoming frame calls that are answered with want of memory.
+    pub fn starved(&self) -> &CallNumbers
+        ensures kept { result.now ≡ starved_of self.now }
+        ensures told { result.now ≡ (⟦<Recorder<S> as Tells>⟧.told self.now).fixed.starved }
+    {
+        &self.starved
+    }
+
+    /// Sets the numbers of the incoming frame calls that are answered with want of memory.
+    ///
+    /// # Requires
+    ///
+    /// That the recorder [`is_fresh`](Recorder::is_fresh).
+    pub fn set_starved(&mut self, plan: CallNumbers)
+        requires { IsFresh (is_unused self.old) (⟦<Recorder<S> as Tells>⟧.told self.old) }
+        ensures starved { starved_of self.new ≡ plan }
+        ensures plan { plan_of self.new ≡ plan_of self.old }
+        ensures inner { inner_of self.new ≡ inner_of self.old }
+        ensures calls { calls_of self.new ≡ calls_of self.old }
+        ensures own { own_of self.new ≡ own_of self.old }
+        ensures own_vetoes { own_vetoes_of self.new ≡ own_vetoes_of self.old }
+        ensures unused { is_unused self.new ≡ is_unused self.old }
+        ensures told { ⟦<Recorder<S> as Tells>⟧.told self.new
+            ≡ starving plan (⟦<Recorder<S> as Tells>⟧.told self.old) }
+    {
+        self.starved = plan;
     }
 
     /// What was taken: each frame with the frames given back for it, in order.
@@ -107,7 +150,15 @@ impl<S: LayerBelow> Recorder<S> {
         &self.refused
     }
 
-    /// Whether the layer is Mapped and had no incoming frame call and no attach of a control link.
+    /// The lists of frames that were vetoed, in order.
+    pub fn vetoed(&self) -> &Reviews
+        ensures { Some result.now ≡ (⟦<Recorder<S> as Tells>⟧.told self.now).reviews.vetoed }
+    {
+        &self.vetoed
+    }
+
+    /// Whether the layer is Mapped, had no incoming frame call and no attach of a control link, and
+    /// vetoed nothing.
     pub fn is_fresh(&self) -> bool
         ensures { IsTrue result ↔ IsFresh (is_unused self.now) (⟦<Recorder<S> as Tells>⟧.told self.now) }
     {
@@ -116,6 +167,7 @@ impl<S: LayerBelow> Recorder<S> {
             && self.exchanges.len() == 0
             && self.opened.len() == 0
             && self.refused.len() == 0
+            && self.vetoed.len() == 0
     }
 
     /// The frame through the layer in it. Room for what is kept is made first.
@@ -126,10 +178,10 @@ impl<S: LayerBelow> Recorder<S> {
     {
         self.unused = false;
         self.calls = self.calls.saturating_add(1);
-        let is_planned = is_among(&self.plan, self.calls);
+        let planned = planned_for(&self.plan, &self.starved, self.calls);
         let exchanges = &mut self.exchanges.items;
         let refused = &mut self.refused.items;
-        let copy = match before_call(is_planned, &frame, exchanges, refused) {
+        let copy = match before_call(planned, &frame, exchanges, refused) {
             Ok(copy) => copy,
             Err(error) => {
                 drop(frame);
@@ -156,14 +208,23 @@ impl<S: LayerBelow> Tells for Recorder<S> {
       opened = Some r.opened;
       refused = Some r.refused;
       refusals = (S.told r.session).refusals + r.refusals;
-      fixed = record { state = (S.told r.session).fixed.state; plan = r.plan };
+      reviews = record {
+        vetoes = (S.told r.session).reviews.vetoes + r.vetoes;
+        vetoed = Some r.vetoed;
+      };
+      fixed = record {
+        state = (S.told r.session).fixed.state;
+        plan = r.plan;
+        starved = r.starved;
+      };
     } };
 }
 
 impl<S: LayerBelow> LayerBelow for Recorder<S> {
-    ghost use Rattle.std.specs.Prelude.{◌≡◌};
+    ghost use Rattle.std.specs.Prelude.{◌≡◌, false};
     ghost use Rattle.amqp_layer.specs.Told.{Checks};
-    ghost use Rattle.amqp_recorder.specs.Recording.{Passes, RecordsCall, RecordsOpen};
+    ghost use Rattle.amqp_recorder.specs.Recording.{Passes, RecordsCall, RecordsOpen, inner_of};
+    ghost use Rattle.amqp_recorder.specs.Vetoing.{RecordsReview, TakesEach, recorded-goes-on, recorded-stays-on, recorded-window-stays-on};
 
     ghost incoming_gives = { λ old new frame answer.
         RecordsCall S.told S.incoming_gives old new frame answer };
@@ -177,6 +238,25 @@ impl<S: LayerBelow> LayerBelow for Recorder<S> {
 
     ghost window_gives = { λ old new flow.
         Passes (λ a b. S.told b ≡ S.told a) (λ a b. S.window_gives a b flow) old new };
+
+    ghost review_gives = { λ old new list answer.
+        RecordsReview S.told S.review_gives old new list answer };
+
+    ghost takes = { λ r list. TakesEach S.takes r list };
+
+    ghost sure = { false };
+
+    ghost goes_on = { λ old new frame answer gives.
+        recorded-goes-on S.told S.takes S.sure S.incoming_gives S.goes_on old new frame answer
+        gives };
+
+    ghost stays_on = { λ old new disposition answer gives.
+        recorded-stays-on S.takes S.sure old new answer gives.kept
+        (S.stays_on (inner_of old) (inner_of new) disposition answer gives.gave) };
+
+    ghost window_stays_on = { λ old new flow gives.
+        recorded-window-stays-on S.takes old new gives.kept
+        (S.window_stays_on (inner_of old) (inner_of new) flow gives.gave) };
 
     fn local_state(&self) -> SessionState {
         self.session.local_state()
@@ -239,5 +319,24 @@ impl<S: LayerBelow> LayerBelow for Recorder<S> {
 
     fn maybe_outgoing_session_flow(&mut self) -> Option<Flow> {
         self.session.maybe_outgoing_session_flow()
+    }
+
+    fn review(&mut self, frames: &Frames) -> Result<Verdict, NoMemory> {
+        let Ok(copy) = prepare_review(frames, &mut self.vetoed.items) else {
+            return refuse(&mut self.refusals, NoMemory);
+        };
+        if any_refused(&self.plan, self.calls, frames.as_slice()) {
+            self.vetoes = self.vetoes.saturating_add(1);
+            self.vetoed.items.push_reserved(copy);
+            return Ok(Verdict::Veto);
+        }
+        match self.session.review(frames) {
+            Ok(Verdict::Veto) => {
+                self.vetoed.items.push_reserved(copy);
+                Ok(Verdict::Veto)
+            }
+            Ok(Verdict::Accept) => Ok(Verdict::Accept),
+            Err(error) => Err(error),
+        }
     }
 }

@@ -27,7 +27,7 @@ use Rattle.amqp_record.specs.Live.{is_live, is_held_on}
 use Rattle.amqp_record.specs.Answers.{Answer, AnswerFrame, AnswerControl, AnswerDeclare, AnswerDischarge, AnswerMessage, AnswerLinkEnd}
 use Rattle.amqp_record.specs.Valid.{Valid, ValidFrame, ValidDeclare, ValidMessage}
 use Rattle.amqp_resource.specs.declared.held.Held.{Held}
-use Rattle.amqp_resource.specs.Steps.{IfAttachRefused, IsDead, Refused, StepGave, StepCause, UnderDead, is_unknown}
+use Rattle.amqp_resource.specs.Steps.{IfAttachRefused, IfVeto, IsDead, Refused, StepGave, StepCause, UnderDead, is_unknown}
 use Rattle.amqp_resource.specs.Complete.{DoesIt, Completed, InOrder}
 
 -- ids of one stream from one place are the same, if they are as many
@@ -58,27 +58,36 @@ declare_does ids r n None d (replies.Rejected transaction_errors.UnknownId texts
     let all : list_all (is_live r) n ≡ true = ap (list_all (is_live r)) (sym same) ∙ x.1 in cc (all, v)
 declare_does ids r n None d _ a c e v x = absurd x
 
-discharge_does : (r : List Entry) (k : ℕ) (discharge : Discharge) (d : List TransactionId) (reply : Reply) → is_held_on r k discharge.txn_id ≡ true → AnswerDischarge r k discharge.txn_id discharge.fail d reply → DoesIt reply
-discharge_does r k discharge d (replies.Accepted echoes) v x = tt
-discharge_does r k discharge d (replies.Rejected transaction_errors.UnknownId texts.Absent) v x = let h = x.0 in cc (v, h)
-discharge_does r k discharge d _ v x = absurd x
+-- no veto was counted
+abbrev NoVeto : Reply → Type 0
+NoVeto reply = IfVeto reply ⊥
 
-message_does : (ids : ℕ → TransactionId) (r : List Entry) (k : ℕ) (n : List TransactionId) (m : Option ControlMessageBody) (d : List TransactionId) (reply : Reply) → AreNext ids 0 n → length n ≡ 16 → AreNext ids 0 d → ValidMessage r k n m → AnswerMessage r k m d reply → DoesIt reply
-message_does ids r k n None d reply a c e v x = absurd v
-message_does ids r k n (Some (messages.Declare declare)) d reply a c e v x = declare_does ids r n declare.global_id d reply a c e v x
-message_does ids r k n (Some (messages.Discharge discharge)) d reply a c e v x = discharge_does r k discharge d reply v x
+discharge_does : (r : List Entry) (k : ℕ) (discharge : Discharge) (d : List TransactionId) (reply : Reply) → is_held_on r k discharge.txn_id ≡ true → NoVeto reply → AnswerDischarge r k discharge.txn_id discharge.fail d reply → DoesIt reply
+discharge_does r k discharge d (replies.Accepted echoes) v q x = tt
+discharge_does r k discharge d (replies.Rejected transaction_errors.UnknownId texts.Absent) v q x = let h = x.0 in cc (v, h)
+discharge_does r k discharge d (replies.Rejected transaction_errors.Rollback texts.Absent) v q x = absurd q
+discharge_does r k discharge d _ v q x = absurd x
 
-control_does : (ids : ℕ → TransactionId) (r : List Entry) (k : ℕ) (n : List TransactionId) (b : Bool) (m : Option ControlMessageBody) (d : List TransactionId) (reply : Reply) → AreNext ids 0 n → length n ≡ 16 → AreNext ids 0 d → b ≡ true → ValidMessage r k n m → AnswerControl r k b m d reply → DoesIt reply
-control_does ids r k n true m d reply a c e h v x = message_does ids r k n m d reply a c e v x
-control_does ids r k n false m d reply a c e h v x = cc h
+message_does : (ids : ℕ → TransactionId) (r : List Entry) (k : ℕ) (n : List TransactionId) (m : Option ControlMessageBody) (d : List TransactionId) (reply : Reply) → AreNext ids 0 n → length n ≡ 16 → AreNext ids 0 d → ValidMessage r k n m → NoVeto reply → AnswerMessage r k m d reply → DoesIt reply
+message_does ids r k n None d reply a c e v q x = absurd v
+message_does ids r k n (Some (messages.Declare declare)) d reply a c e v q x = declare_does ids r n declare.global_id d reply a c e v x
+message_does ids r k n (Some (messages.Discharge discharge)) d reply a c e v q x = discharge_does r k discharge d reply v q x
 
-reply_does : (before now : ℕ) (ids : ℕ → TransactionId) (r : List Entry) (s : Step) (n d : List TransactionId) (reply : Reply) → InOrder before now ids r s n → AreNext ids 0 d → Answer r s d reply → IfAttachRefused reply (Rose before now) → DoesIt reply
-reply_does before now ids r (steps.Frame frame) n d reply i e a c = frame_does before now r frame (txn frame) reply a.1 c i.quiet
-reply_does before now ids r (steps.Control k payload) n d reply i e a c = control_does ids r k n (is_open r k) (message_of payload) d reply i.next i.count e i.valid.0 i.valid.1 a
-reply_does before now ids r (steps.LinkEnd k) n d reply i e a c = link_end_does (is_open r k) reply i.valid a.1
-reply_does before now ids r (steps.LocalEnd error) n d reply i e a c = absurd i.valid
-reply_does before now ids r (steps.RemoteEnd error) n d reply i e a c = absurd i.valid
-reply_does before now ids r (steps.ConnectionStop reason) n d reply i e a c = absurd i.valid
+control_does : (ids : ℕ → TransactionId) (r : List Entry) (k : ℕ) (n : List TransactionId) (b : Bool) (m : Option ControlMessageBody) (d : List TransactionId) (reply : Reply) → AreNext ids 0 n → length n ≡ 16 → AreNext ids 0 d → b ≡ true → ValidMessage r k n m → NoVeto reply → AnswerControl r k b m d reply → DoesIt reply
+control_does ids r k n true m d reply a c e h v q x = message_does ids r k n m d reply a c e v q x
+control_does ids r k n false m d reply a c e h v q x = cc h
+
+no_veto : (P : Type 0) (reply : Reply) → IfVeto reply P → (P → ⊥) → NoVeto reply
+no_veto P (replies.Rejected transaction_errors.Rollback text) c q = q c
+no_veto P _ c q = tt
+
+reply_does : (old new : Told) (ids : ℕ → TransactionId) (r : List Entry) (s : Step) (n d : List TransactionId) (reply : Reply) → InOrder old new ids r s n → AreNext ids 0 d → Answer r s d reply → IfAttachRefused reply (Rose old.refusals new.refusals) → IfVeto reply (Rose old.reviews.vetoes new.reviews.vetoes) → DoesIt reply
+reply_does old new ids r (steps.Frame frame) n d reply i e a c v = frame_does old.refusals new.refusals r frame (txn frame) reply a.1 c i.quiet
+reply_does old new ids r (steps.Control k payload) n d reply i e a c v = control_does ids r k n (is_open r k) (message_of payload) d reply i.next i.count e i.valid.0 i.valid.1 (no_veto _ reply v i.calm) a
+reply_does old new ids r (steps.LinkEnd k) n d reply i e a c v = link_end_does (is_open r k) reply i.valid a.1
+reply_does old new ids r (steps.LocalEnd error) n d reply i e a c v = absurd i.valid
+reply_does old new ids r (steps.RemoteEnd error) n d reply i e a c v = absurd i.valid
+reply_does old new ids r (steps.ConnectionStop reason) n d reply i e a c v = absurd i.valid
 
 valid_not_dead : (r : List Entry) (s : Step) (n : List TransactionId) → Valid r s n → UnderDead r s → ⊥
 valid_not_dead r (steps.Frame frame) n v u = by_id (txn frame) v u
@@ -96,18 +105,18 @@ fault_rose : (b : Bool) (A B : Type 0) → MatchBool b A B → b ≡ false → B
 fault_rose true A B x h = cc h
 fault_rose false A B x h = x
 
-pub complete : (before now : ℕ) (ids : ℕ → TransactionId) (h : Held) (old new : Told) (r : List Entry) (s : Step) (n : List TransactionId) (result : Result (DrawnIds × Reply) StepError) → StepGave h old new r s result → StepCause before now s result → IfOk result (λ out. AreNext ids 0 out.0.ids) → InOrder before now ids r s n → Completed result
-complete before now ids h old new r s n (Ok out) g c d i = reply_does before now ids r s n out.0.ids out.1 i d g.answer c
-complete before now ids h old new r s n (Err errors.NoMemory) g c d i = tt
-complete before now ids h old new r (steps.Frame frame) n (Err (errors.Ended reason)) g c d i = cc g
-complete before now ids h old new r (steps.Control k payload) n (Err (errors.Ended reason)) g c d i = cc g
-complete before now ids h old new r (steps.LinkEnd k) n (Err (errors.Ended reason)) g c d i = cc g
-complete before now ids h old new r (steps.LocalEnd error) n (Err (errors.Ended reason)) g c d i = absurd i.valid
-complete before now ids h old new r (steps.RemoteEnd error) n (Err (errors.Ended reason)) g c d i = absurd i.valid
-complete before now ids h old new r (steps.ConnectionStop stop) n (Err (errors.Ended reason)) g c d i = absurd i.valid
-complete before now ids h old new r s n (Err (errors.Stopped code)) g c d i = absurd c
-complete before now ids h old new r s n (Err (errors.Fault error handed)) g c d i =
-    absurd (no_fault (is_unknown error) (UnderDead r s × (handed ≡ 0)) (Refused old new r s error handed) (Rose before now) (λ x. valid_not_dead r s n i.valid x.0) i.quiet g (fault_rose (is_unknown error) _ (Rose before now) c))
+pub complete : (ids : ℕ → TransactionId) (h : Held) (old new : Told) (r : List Entry) (s : Step) (n : List TransactionId) (result : Result (DrawnIds × Reply) StepError) → StepGave h old new r s result → StepCause old new s result → IfOk result (λ out. AreNext ids 0 out.0.ids) → InOrder old new ids r s n → Completed result
+complete ids h old new r s n (Ok out) g c d i = reply_does old new ids r s n out.0.ids out.1 i d g.answer c.0 c.1
+complete ids h old new r s n (Err errors.NoMemory) g c d i = tt
+complete ids h old new r (steps.Frame frame) n (Err (errors.Ended reason)) g c d i = cc g
+complete ids h old new r (steps.Control k payload) n (Err (errors.Ended reason)) g c d i = cc g
+complete ids h old new r (steps.LinkEnd k) n (Err (errors.Ended reason)) g c d i = cc g
+complete ids h old new r (steps.LocalEnd error) n (Err (errors.Ended reason)) g c d i = absurd i.valid
+complete ids h old new r (steps.RemoteEnd error) n (Err (errors.Ended reason)) g c d i = absurd i.valid
+complete ids h old new r (steps.ConnectionStop stop) n (Err (errors.Ended reason)) g c d i = absurd i.valid
+complete ids h old new r s n (Err (errors.Stopped code)) g c d i = absurd c
+complete ids h old new r s n (Err (errors.Fault error handed)) g c d i =
+    absurd (no_fault (is_unknown error) (UnderDead r s × (handed ≡ 0)) (Refused old new r s error handed) (Rose old.refusals new.refusals) (λ x. valid_not_dead r s n i.valid x.0) i.quiet g (fault_rose (is_unknown error) _ (Rose old.refusals new.refusals) c))
 
 pub drew_next : (before after : ℕ → TransactionId) (result : Result (DrawnIds × Reply) StepError) → IfOk result (λ out. Drew before after out.0.ids) → IfOk result (λ out. AreNext before 0 out.0.ids)
 drew_next before after (Ok out) d = d.these

@@ -1,5 +1,5 @@
 -- What each kind of step leaves, from what the calls that it makes leave.
-use Rattle.std.proofs.Common.{◌≡◌, ℕ, ◌+◌, ◌≤◌, Bool, true, false, cond, not, ◌&&◌, Option, Some, None, Ok, Err, List, [], ◌∷◌, ◌++◌, length, map, take, refl, sym, ◌∙◌, ap, arith, subst, inl, inr}
+use Rattle.std.proofs.Common.{◌≡◌, ℕ, zero, suc, ◌+◌, ◌≤◌, Bool, true, false, cond, not, ◌&&◌, Option, Some, None, Ok, Err, List, [], ◌∷◌, ◌++◌, length, map, take, refl, sym, ◌∙◌, ap, arith, subst, inl, inr}
 use Rattle.std.specs.Prelude.{◌==◌, slice_get, is_some, MatchBool}
 use Rattle.std.specs.List.{list_all, zip}
 use Rattle.std.proofs.lemmas.List.{length-map}
@@ -20,7 +20,6 @@ use Rattle.amqp_txn_codec.specs.Reading.{message_of}
 use Rattle.amqp_layer.specs.declared.answers.Answers.{Answers}
 use Rattle.amqp_layer.specs.declared.inner_error.SessionInnerError.{SessionInnerError}
 use Rattle.amqp_layer.specs.declared.inner_error.SessionInnerError.TheVariants as faults
-use Rattle.amqp_layer.specs.declared.refusal.Refusal.{Refusal}
 use Rattle.amqp_ids.specs.Drawn.{DrawnIds}
 use Rattle.amqp_layer.specs.Told.{Told, Steady, Opens, refusal_of}
 use Rattle.amqp_txn_types.specs.Growing.{grown}
@@ -33,13 +32,15 @@ use Rattle.amqp_record.specs.declared.reply.RejectText.{RejectText}
 use Rattle.amqp_record.specs.declared.reply.RejectText.TheVariants as texts
 use Rattle.amqp_record.specs.declared.stop.StepError.{StepError}
 use Rattle.amqp_record.specs.declared.stop.StepError.TheVariants as errors
-use Rattle.amqp_record.specs.Entries.{message_discharges, step_discharges}
+use Rattle.amqp_record.specs.Entries.{message_discharges}
 use Rattle.amqp_txn_types.specs.Ids.{same_id, is_some_id}
 use Rattle.amqp_record.specs.Links.{is_open}
 use Rattle.amqp_record.specs.Live.{is_link, is_live, home, is_held_on}
 use Rattle.amqp_record.specs.Hands.{frames_of, hands}
 use Rattle.amqp_txn_codec.specs.Discharges.{is_rollback}
-use Rattle.amqp_record.specs.Work.{given_by}
+use Rattle.amqp_record.specs.Work.{given_by, handed_by, is_rejected}
+use Rattle.amqp_record.specs.Vetoed.{vetoed_by}
+use Rattle.amqp_record.specs.Entries.{is_veto}
 use Rattle.amqp_record.specs.Answers.{Answer, AnswerFrame, AnswerControl, AnswerMessage, AnswerLinkEnd, Draws, Echoed}
 use Rattle.amqp_txn_types.specs.Presumptive.{answered_under}
 use Rattle.amqp_layer.specs.Windows.{WindowFits, AllWindowsFit}
@@ -48,38 +49,47 @@ use Rattle.amqp_record.proofs.Whole.{plain_none, hands-plain, hands-other_frame,
 use Rattle.amqp_resource.specs.declared.held.Held.{Held}
 use Rattle.amqp_layer.specs.declared.taking.TakeError.{TakeError}
 use Rattle.amqp_arrivals.specs.Live.{Kept, Live, frames_kept, kept, with_frame}
-use Rattle.amqp_resource.specs.Held.{SameHeld, Stands, Tied, ids_on, is_among, is_in, is_kept_on, kept_by, unless_on}
+use Rattle.amqp_resource.specs.Held.{SameHeld, Stands, Tied, ids_on, is_among, is_in, is_kept_on, unless_on}
 use Rattle.amqp_resource.specs.Draws.{is_kept, DrewLive, DrewUnused}
 use Rattle.amqp_layer.specs.Taking.{TookFrames, TakesFrame, taken_frames}
-use Rattle.amqp_resource.specs.Committing.{HandedSome, HandedPart, RefusedAt, given_of}
+use Rattle.amqp_resource.specs.Committing.{HandsAll, given_of}
 use Rattle.amqp_sessions.specs.declared.transacting.CommitFault.{CommitFault}
 use Rattle.amqp_sessions.specs.declared.transacting.CommitFault.TheVariants as commit_faults
 use Rattle.amqp_resource.specs.Transacting.{CommittedWith, Ended, step_error_of}
 use Rattle.amqp_resource.specs.Steps.{StepAnswered, Refused, NothingDone, StepGave, AddsRefusal, FrameMayFault, IsDead, IsPost, IsUnder, UnderDead, EndGave, ended_by, entry_of, fault_of, is_live_under, is_unknown, message_takes_memory, nothing_drawn, takes_memory}
 use Rattle.amqp_resource.proofs.Kept.{tied_same}
-use Rattle.amqp_resource.proofs.Handing.{refused_after-err}
+use Rattle.amqp_resource.proofs.Handing.{refused_after-err, windows-stripped}
 use Rattle.amqp_txn_types.proofs.Growing.{grown-nil}
 use Rattle.amqp_resource.proofs.Standing.{Quiet, new-live, stands-quiet, stands-post, stands-attached, stands-discharged, stands-closed, stands-declared}
 
 -- ---- nothing more below
 
 pub steady-same : (told : Told) → Steady told told
-steady-same told = record { taken = refl; opened = refl; refused = refl; fixed = refl; later = omega arith }
+steady-same told = record { taken = refl; opened = refl; refused = refl; reviews = refl; fixed = refl; later = omega arith }
 
 adds_nothing : {A : Type 0} (old new : Option (List A)) (more : List A) → more ≡ [] → new ≡ old → new ≡ grown old more
 adds_nothing old new more m t = t ∙ sym (ap (grown old) m ∙ grown-nil old)
 
-hands_nothing : (old new : Option (List (Frame × List Frame))) (r : List Entry) (s : Step) (reply : Reply) → hands r s ≡ [] → new ≡ old → new ≡ grown old (zip (hands r s) (given_by s reply))
-hands_nothing old new r s reply h t = t ∙ sym (ap (λ fs. grown old (zip fs (given_by s reply))) h ∙ grown-nil old)
+either_nothing : {A : Type 0} (b : Bool) (xs : List A) → xs ≡ [] → cond b [] xs ≡ []
+either_nothing true xs h = refl
+either_nothing false xs h = h
+
+hands_nothing : (old new : Option (List (Frame × List Frame))) (r : List Entry) (s : Step) (reply : Reply) → hands r s ≡ [] → new ≡ old → new ≡ grown old (zip (handed_by r s reply) (given_by s reply))
+hands_nothing old new r s reply h t = t ∙ sym (ap (λ fs. grown old (zip fs (given_by s reply))) (either_nothing (is_rejected reply) (hands r s) h) ∙ grown-nil old)
+
+-- a reply that is no veto vetoes nothing
+vetoes_nothing : (old new : Told) (r : List Entry) (s : Step) (reply : Reply) → is_veto reply ≡ false → new.reviews.vetoed ≡ old.reviews.vetoed → new.reviews.vetoed ≡ grown old.reviews.vetoed (vetoed_by r s reply)
+vetoes_nothing old new r s reply v t = t ∙ sym (ap (λ b. grown old.reviews.vetoed (cond b (hands r s ∷ []) [])) v ∙ grown-nil old.reviews.vetoed)
 
 -- a reply to a step that hands nothing
-answered-steady : (g : Held) (old new : Told) (r : List Entry) (s : Step) (d : DrawnIds) (reply : Reply) → Answer r s d.ids reply → Stands g (r ++ entry_of s d reply ∷ []) → hands r s ≡ [] → opened_by s reply ≡ [] → refused_by s reply ≡ [] → Steady old new → StepAnswered g old new r s d reply
-answered-steady g old new r s d reply a st h o f t = record {
+answered-steady : (g : Held) (old new : Told) (r : List Entry) (s : Step) (d : DrawnIds) (reply : Reply) → Answer r s d.ids reply → Stands g (r ++ entry_of s d reply ∷ []) → hands r s ≡ [] → opened_by s reply ≡ [] → refused_by s reply ≡ [] → is_veto reply ≡ false → Steady old new → StepAnswered g old new r s d reply
+answered-steady g old new r s d reply a st h o f v t = record {
   answer = a;
   stands = st;
   taken = hands_nothing old.taken new.taken r s reply h t.taken;
   opened = adds_nothing old.opened new.opened (opened_by s reply) o t.opened;
   refused = adds_nothing old.refused new.refused (refused_by s reply) f t.refused;
+  vetoed = vetoes_nothing old new r s reply v (ap (λ x. x.vetoed) t.reviews);
 }
 
 -- what is kept may stand in other memory
@@ -144,6 +154,7 @@ answered-plain h r frame a old new p s t = record {
   taken = t.taken.0 ∙ ap (grown old.taken) (sym (ap (λ fs. zip fs (given_by (steps.Frame frame) (replies.Frames a))) (hands-plain r frame p) ∙ ap (λ b. zip (frame ∷ []) (cond b (a.given ∷ []) [])) p));
   opened = adds_nothing old.opened new.opened [] refl t.opened;
   refused = t.refused;
+  vetoed = vetoes_nothing old new r (steps.Frame frame) (replies.Frames a) refl (ap (λ x. x.vetoed) t.reviews);
 }
 
 plain_adds : (r : List Entry) (frame : Frame) (own : SessionInnerError) (b : Bool) → is_plain_frame frame ≡ true → AddsRefusal (steps.Frame frame) (hands r (steps.Frame frame)) (cond b 1 0) (fault_of own) (cond b [] (refusal_of frame own))
@@ -166,6 +177,7 @@ refused-plain r frame e old new p t =
       took = part;
       opened = t.opened;
       refused = (cond e.taken [] (refusal_of frame e.error), plain_adds r frame e.error e.taken p, t.refused);
+      vetoed = ap (λ x. x.vetoed) t.reviews;
     }
 
 pub undone-plain : (h : Held) (r : List Entry) (frame : Frame) → is_plain_frame frame ≡ true → Stands h r → NothingDone h r (steps.Frame frame)
@@ -209,7 +221,7 @@ answered-post h g r frame u old new e s at lg kg og t =
     let a = answer-post r frame u e (stands_live h r u s at) in
     answered-steady g old new r (steps.Frame frame) nothing_drawn (post_reply u frame) a
     (stands-post h g r (entry_of (steps.Frame frame) nothing_drawn (post_reply u frame)) frame u s a (quiet-frames frame (record { given = answered_under u frame; window = None })) refl (λ v. ap (is_some_id v) e) (tied-post h g u frame s.tied lg kg) lg (λ k. ap is_some (kg k)) og)
-    (hands-other_frame r frame (not_plain frame u e)) refl refl t
+    (hands-other_frame r frame (not_plain frame u e)) refl refl refl t
 
 pub unknown-post : (h : Held) (r : List Entry) (frame : Frame) (u : TransactionId) → txn frame ≡ Some u → Stands h r → is_kept h.work u ≡ false → UnderDead r (steps.Frame frame) × (◌≡◌ {A = ℕ} 0 0)
 unknown-post h r frame u e s n = (subst (IsDead r) (sym e) (sym (kept_live h r u s) ∙ n), refl)
@@ -223,6 +235,7 @@ refused-post h r frame u own old new e s at some t =
       took = (omega arith, ([], refl, t.taken ∙ sym (grown-nil old.taken)));
       opened = t.opened;
       refused = ([], (own, refl, inr (refl, inl is_under)), t.refused ∙ sym (grown-nil old.refused));
+      vetoed = ap (λ x. x.vetoed) t.reviews;
     }
 
 pub undone-post : (h g : Held) (r : List Entry) (frame : Frame) (u : TransactionId) → txn frame ≡ Some u → Stands h r → is_kept h.work u ≡ true → Stands g r → NothingDone g r (steps.Frame frame)
@@ -253,6 +266,7 @@ answered-attached h g r attach given old new c s lg kg og t =
       taken = hands_nothing old.taken new.taken r (steps.Frame (frames.Attach attach)) (replies.Attached h.opened given) (hands-other_frame r (frames.Attach attach) (coordinator_not_plain attach c)) t.taken;
       opened = t.opened;
       refused = adds_nothing old.refused new.refused [] refl t.refused;
+      vetoed = vetoes_nothing old new r (steps.Frame (frames.Attach attach)) (replies.Attached h.opened given) refl (ap (λ x. x.vetoed) t.reviews);
     }
 
 pub answered-attach_refused : (h g : Held) (r : List Entry) (attach : Attach) (error : SessionInnerError) (old new : Told) → attaches_coordinator attach ≡ true → Stands h r → SameHeld h g → Opens old new attach (Err error) → StepAnswered g old new r (steps.Frame (frames.Attach attach)) nothing_drawn (replies.AttachRefused error)
@@ -265,6 +279,7 @@ answered-attach_refused h g r attach error old new c s same t =
       taken = hands_nothing old.taken new.taken r (steps.Frame (frames.Attach attach)) (replies.AttachRefused error) (hands-other_frame r (frames.Attach attach) (coordinator_not_plain attach c)) t.taken;
       opened = adds_nothing old.opened new.opened [] refl t.opened;
       refused = t.refused ∙ refused_after-err old.refused (frames.Attach attach) error;
+      vetoed = vetoes_nothing old new r (steps.Frame (frames.Attach attach)) (replies.AttachRefused error) refl (ap (λ x. x.vetoed) t.reviews);
     }
 
 pub undone-attach : (g : Held) (r : List Entry) (attach : Attach) → Stands g r → NothingDone g r (steps.Frame (frames.Attach attach))
@@ -291,7 +306,7 @@ answered-absent h r k payload discharge told m o s n =
     let a = control_answer r k payload (Some (messages.Discharge discharge)) [] (replies.Rejected transaction_errors.UnknownId texts.Absent) opened m (n, refl) in
     answered-steady h told told r (steps.Control k payload) nothing_drawn (replies.Rejected transaction_errors.UnknownId texts.Absent) a
     (stands-quiet h r (entry_of (steps.Control k payload) nothing_drawn (replies.Rejected transaction_errors.UnknownId texts.Absent)) s a (quiet-rejected k payload nothing_drawn texts.Absent) (λ t. refl))
-    (hands-no_commit r k payload (not_held_no_commit r k payload discharge opened m n)) refl refl (steady-same told)
+    (hands-no_commit r k payload (not_held_no_commit r k payload discharge opened m n)) refl refl refl (steady-same told)
 
 -- an id is held on a link by the record where it is kept for that link
 kept_held : (h : Held) (r : List Entry) (k : ℕ) (u : TransactionId) → Stands h r → is_kept_on k (kept h.work u) ≡ is_held_on r k u
@@ -319,13 +334,18 @@ kept-home h r u o fs s e = by_case (is_live r u) refl
 pub kept-on : (h : Held) (r : List Entry) (u : TransactionId) (k : ℕ) (fs : List Frame) → Stands h r → kept h.work u ≡ Some (Some k, fs) → (is_live r u ≡ true) × (home r u ≡ Some k) × (frames_of r u ≡ fs)
 kept-on h r u k fs s e = kept-home h r u (Some k) fs s e
 
-discharges_says : (k : ℕ) (payload : List ℕ) (t : TransactionId) (discharge : Discharge) (echoes : List Answers) → message_of payload ≡ Some (messages.Discharge discharge) → step_discharges t (steps.Control k payload) (replies.Accepted echoes) ≡ same_id t discharge.txn_id
-discharges_says k payload t discharge echoes m = ap (message_discharges t) m
-
 -- an accepted discharge, whichever it is
 stands-accepted : (h g : Held) (r : List Entry) (k : ℕ) (payload : List ℕ) (discharge : Discharge) (echoes : List Answers) → message_of payload ≡ Some (messages.Discharge discharge) → Stands h r → Answer r (steps.Control k payload) [] (replies.Accepted echoes) → Ended h g discharge.txn_id → Stands g (r ++ entry_of (steps.Control k payload) nothing_drawn (replies.Accepted echoes) ∷ [])
 stands-accepted h g r k payload discharge echoes m s a x =
-    stands-discharged h g r (entry_of (steps.Control k payload) nothing_drawn (replies.Accepted echoes)) discharge.txn_id s a (λ t. refl) (λ t. discharges_says k payload t discharge echoes m) (λ t. refl) (λ j. refl) (λ j. refl) refl (x.tied s.tied) x.live x.links x.opened
+    stands-discharged h g r (entry_of (steps.Control k payload) nothing_drawn (replies.Accepted echoes)) discharge.txn_id s a (λ t. refl) (λ t. ap (message_discharges t) m) (λ t. refl) (λ j. refl) (λ j. refl) refl (x.tied s.tied) x.live x.links x.opened
+
+abbrev veto : Reply
+veto = replies.Rejected transaction_errors.Rollback texts.Absent
+
+-- a vetoed commit
+stands-vetoed : (h g : Held) (r : List Entry) (k : ℕ) (payload : List ℕ) (discharge : Discharge) → message_of payload ≡ Some (messages.Discharge discharge) → Stands h r → Answer r (steps.Control k payload) [] veto → Ended h g discharge.txn_id → Stands g (r ++ entry_of (steps.Control k payload) nothing_drawn veto ∷ [])
+stands-vetoed h g r k payload discharge m s a x =
+    stands-discharged h g r (entry_of (steps.Control k payload) nothing_drawn veto) discharge.txn_id s a (λ t. refl) (λ t. ap (message_discharges t) m) (λ t. refl) (λ j. refl) (λ j. refl) refl (x.tied s.tied) x.live x.links x.opened
 
 held_on : (r : List Entry) (k : ℕ) (u : TransactionId) → is_live r u ≡ true → home r u ≡ Some k → is_held_on r k u ≡ true
 held_on r k u l e = ap (λ b. b && is_link k (home r u)) l ∙ ap (is_link k) e ∙ eq-eqb k k refl
@@ -342,7 +362,7 @@ answered-rollback h g r k payload discharge fs told m rb o s at x =
     let a = accepted_answer r k payload discharge [] true opened m (held_on r k discharge.txn_id kept.0 kept.1) rb refl in
     answered-steady g told told r (steps.Control k payload) nothing_drawn (replies.Accepted []) a
     (stands-accepted h g r k payload discharge [] m s a x)
-    (hands-no_commit r k payload (commits-rollback r k payload discharge opened m rb)) refl refl (steady-same told)
+    (hands-no_commit r k payload (commits-rollback r k payload discharge opened m rb)) refl refl refl (steady-same told)
 
 commit_hands : (h : Held) (r : List Entry) (k : ℕ) (payload : List ℕ) (discharge : Discharge) (fs : List Frame) → message_of payload ≡ Some (messages.Discharge discharge) → is_rollback discharge.fail ≡ false → is_in h.links.entries k ≡ true → Stands h r → kept h.work discharge.txn_id ≡ Some (Some k, fs) → hands r (steps.Control k payload) ≡ map stripped fs
 commit_hands h r k payload discharge fs m rb o s at =
@@ -350,37 +370,57 @@ commit_hands h r k payload discharge fs m rb o s at =
     let kept = kept-on h r discharge.txn_id k fs s at in
     hands-commit r k payload discharge.txn_id (commits-discharge r k payload discharge opened m rb (held_on r k discharge.txn_id kept.0 kept.1)) ∙ ap (map stripped) kept.2
 
-pub answered-commit : (h g : Held) (r : List Entry) (k : ℕ) (payload : List ℕ) (discharge : Discharge) (fs : List Frame) (echoes : List Answers) (old new : Told) → message_of payload ≡ Some (messages.Discharge discharge) → is_rollback discharge.fail ≡ false → is_in h.links.entries k ≡ true → Stands h r → kept h.work discharge.txn_id ≡ Some (Some k, fs) → Ended h g discharge.txn_id → HandedSome old new fs echoes → StepAnswered g old new r (steps.Control k payload) nothing_drawn (replies.Accepted echoes)
+pub answered-commit : (h g : Held) (r : List Entry) (k : ℕ) (payload : List ℕ) (discharge : Discharge) (fs : List Frame) (echoes : List Answers) (old new : Told) → message_of payload ≡ Some (messages.Discharge discharge) → is_rollback discharge.fail ≡ false → is_in h.links.entries k ≡ true → Stands h r → kept h.work discharge.txn_id ≡ Some (Some k, fs) → Ended h g discharge.txn_id → HandsAll old new (map stripped fs) (Ok (Ok echoes)) → StepAnswered g old new r (steps.Control k payload) nothing_drawn (replies.Accepted echoes)
 answered-commit h g r k payload discharge fs echoes old new m rb o s at x t =
     let opened : is_open r k ≡ true = sym (s.links k) ∙ o in
     let kept = kept-on h r discharge.txn_id k fs s at in
-    let fits : AllWindowsFit (frames_of r discharge.txn_id) echoes = subst (λ (x : List Frame). AllWindowsFit x echoes) (sym kept.2) t.fits in
+    let some = t.handed in
+    let fits : AllWindowsFit (frames_of r discharge.txn_id) echoes = subst (λ (x : List Frame). AllWindowsFit x echoes) (sym kept.2) (windows-stripped fs echoes some.fits) in
     let a = accepted_answer r k payload discharge echoes false opened m (held_on r k discharge.txn_id kept.0 kept.1) rb fits in
     record {
       answer = a;
       stands = stands-accepted h g r k payload discharge echoes m s a x;
-      taken = t.taken ∙ ap (λ x. grown old.taken (zip x (given_of echoes))) (sym (commit_hands h r k payload discharge fs m rb o s at));
+      taken = some.taken ∙ ap (λ x. grown old.taken (zip x (given_of echoes))) (sym (commit_hands h r k payload discharge fs m rb o s at));
       opened = adds_nothing old.opened new.opened [] refl t.opened;
       refused = adds_nothing old.refused new.refused [] refl t.refused;
+      vetoed = t.vetoed;
     }
 
-pub part_adds : (r : List Entry) (s : Step) (handed : List Frame) (at : ℕ) (own : SessionInnerError) (more : List Refusal) → RefusedAt handed at own more → AddsRefusal s handed at (fault_of own) more
-part_adds r s handed at own more (inl x) = (own, refl, inl x)
-part_adds r s handed at own more (inr x) = (own, refl, inr (x.0, inr x.1))
-
-pub refused-commit : (h : Held) (r : List Entry) (k : ℕ) (payload : List ℕ) (discharge : Discharge) (fs : List Frame) (own : SessionInnerError) (handed : ℕ) (old new : Told) → message_of payload ≡ Some (messages.Discharge discharge) → is_rollback discharge.fail ≡ false → is_in h.links.entries k ≡ true → Stands h r → kept h.work discharge.txn_id ≡ Some (Some k, fs) → HandedPart old new fs own handed → Refused old new r (steps.Control k payload) (fault_of own) handed
-refused-commit h r k payload discharge fs own handed old new m rb o s at t =
-    let all = commit_hands h r k payload discharge fs m rb o s at in
-    let e : length (hands r (steps.Control k payload)) ≡ length fs = ap length all ∙ length-map fs stripped in
+-- a commit that was vetoed
+pub answered-veto : (h g : Held) (r : List Entry) (k : ℕ) (payload : List ℕ) (discharge : Discharge) (fs : List Frame) (old new : Told) → message_of payload ≡ Some (messages.Discharge discharge) → is_rollback discharge.fail ≡ false → is_in h.links.entries k ≡ true → Stands h r → kept h.work discharge.txn_id ≡ Some (Some k, fs) → Ended h g discharge.txn_id → HandsAll old new (map stripped fs) (Ok (Err transaction_errors.Rollback)) → StepAnswered g old new r (steps.Control k payload) nothing_drawn veto
+answered-veto h g r k payload discharge fs old new m rb o s at x t =
+    let opened : is_open r k ≡ true = sym (s.links k) ∙ o in
+    let kept = kept-on h r discharge.txn_id k fs s at in
+    let none = t.handed.1 in
+    let count : length (frames_of r discharge.txn_id) ≡ length (map stripped fs) = ap length kept.2 ∙ sym (length-map fs stripped) in
+    let a = control_answer r k payload (Some (messages.Discharge discharge)) [] veto opened m (held_on r k discharge.txn_id kept.0 kept.1, refl, (rb, omega (arith, none.some, count))) in
     record {
-      fits = omega (arith, t.some, e);
-      took = (omega (arith, t.within, e), subst (λ (x : List Frame). TookFrames old.taken new.taken (take handed x)) (sym all) t.took);
+      answer = a;
+      stands = stands-vetoed h g r k payload discharge m s a x;
+      taken = adds_nothing old.taken new.taken [] refl none.taken;
+      opened = adds_nothing old.opened new.opened [] refl t.opened;
+      refused = adds_nothing old.refused new.refused [] refl t.refused;
+      vetoed = t.vetoed ∙ ap (λ (x : List Frame). grown old.reviews.vetoed (x ∷ [])) (sym (commit_hands h r k payload discharge fs m rb o s at));
+    }
+
+-- want of memory in a commit refuses no frame
+pub wanting_adds : (s : Step) (handed : List Frame) (at : ℕ) → 1 ≤ length handed → AddsRefusal s handed at faults.NoMemory []
+wanting_adds s [] at some = absurd (omega (arith, some))
+wanting_adds s (f ∷ handed) zero some = (faults.NoMemory, refl, inl (f, refl, refl))
+wanting_adds s (f ∷ handed) (suc at) some = (faults.NoMemory, refl, inr (refl, inr (omega arith)))
+
+pub wanting-commit : (h : Held) (r : List Entry) (k : ℕ) (payload : List ℕ) (discharge : Discharge) (fs : List Frame) (handed : ℕ) (old new : Told) → message_of payload ≡ Some (messages.Discharge discharge) → is_rollback discharge.fail ≡ false → is_in h.links.entries k ≡ true → Stands h r → kept h.work discharge.txn_id ≡ Some (Some k, fs) → HandsAll old new (map stripped fs) (Err (commit_faults.Refused faults.NoMemory handed)) → Refused old new r (steps.Control k payload) faults.NoMemory handed
+wanting-commit h r k payload discharge fs handed old new m rb o s at t =
+    let all = commit_hands h r k payload discharge fs m rb o s at in
+    let e : length (hands r (steps.Control k payload)) ≡ length (map stripped fs) = ap length all in
+    let part = t.handed.1 in
+    let some : 1 ≤ length (hands r (steps.Control k payload)) = omega (arith, part.some, e) in
+    record {
+      fits = (some, refl);
+      took = (omega (arith, part.within, e), subst (λ (x : List Frame). TookFrames old.taken new.taken (take handed x)) (sym all) part.took);
       opened = t.opened;
-      refused = (
-        t.refused.0,
-        subst (λ (x : List Frame). AddsRefusal (steps.Control k payload) x handed (fault_of own) t.refused.0) (sym all) (part_adds r (steps.Control k payload) (map stripped fs) handed own t.refused.0 t.refused.1),
-        t.refused.2,
-      );
+      refused = ([], wanting_adds (steps.Control k payload) (hands r (steps.Control k payload)) handed some, t.refused ∙ sym (grown-nil old.refused));
+      vetoed = t.vetoed ∙ grown-nil old.reviews.vetoed;
     }
 
 pub undone-commit : (h : Held) (r : List Entry) (k : ℕ) (payload : List ℕ) (discharge : Discharge) (fs : List Frame) → message_of payload ≡ Some (messages.Discharge discharge) → is_rollback discharge.fail ≡ false → is_in h.links.entries k ≡ true → Stands h r → kept h.work discharge.txn_id ≡ Some (Some k, fs) → NothingDone h r (steps.Control k payload)
@@ -393,15 +433,16 @@ undone-commit h r k payload discharge fs m rb o s at =
           ∙ ap (λ b. not b && is_held_on r k discharge.txn_id) rb ∙ held_on r k discharge.txn_id kept.0 kept.1;
     }
 
--- a commit that failed, as the answer of a step: it wanted memory, or was refused below
+-- a commit that failed, as the answer of a step: it wanted memory, of its own or below
 pub fault_goes : (h g : Held) (old new : Told) (r : List Entry) (k : ℕ) (payload : List ℕ) (discharge : Discharge) (fs : List Frame) (U : Type 0) (fault : CommitFault) → message_of payload ≡ Some (messages.Discharge discharge) → is_rollback discharge.fail ≡ false → is_in h.links.entries k ≡ true → Stands h r → kept h.work discharge.txn_id ≡ Some (Some k, fs) → CommittedWith h g old new discharge.txn_id fs U (Err fault) → StepGave g old new r (steps.Control k payload) (Err (step_error_of fault))
 fault_goes h g old new r k payload discharge fs U commit_faults.NoMemory m rb o s at c =
     let stayed = undone-commit h r k payload discharge fs m rb o s at in
     record { stands = stands-moved h g r s c.0; takes = stayed.takes }
 fault_goes h g old new r k payload discharge fs U (commit_faults.Refused error handed) m rb o s at c =
-    let x = c.1 in
-    refused_gives g old new r (steps.Control k payload) error x.0 handed (ap is_unknown x.1 ∙ fault_known x.0) x.1
-    (refused-commit h r k payload discharge fs x.0 handed old new m rb o s at x.2.handed)
+    let is : error ≡ faults.NoMemory = c.1.handed.0 in
+    let P : SessionInnerError → Type 0 = λ x. HandsAll old new (map stripped fs) (Err (commit_faults.Refused x handed)) in
+    refused_gives g old new r (steps.Control k payload) error faults.NoMemory handed (ap is_unknown is) is
+    (wanting-commit h r k payload discharge fs handed old new m rb o s at (subst P is c.1))
 
 -- a link that is on what is kept is the one that is kept
 on_some : (o : Option ℕ) (k : ℕ) → is_link k o ≡ true → o ≡ Some k
@@ -426,14 +467,14 @@ answered-no_link_end h r k told o s =
     let a = link_end_answer r k false replies.NoLink (sym (s.links k) ∙ o) tt in
     answered-steady h told told r (steps.LinkEnd k) nothing_drawn replies.NoLink a
     (stands-quiet h r (entry_of (steps.LinkEnd k) nothing_drawn replies.NoLink) s a (record { declares = λ t. refl; discharges = λ t. refl; attaches = λ j. refl; closes = λ j. refl; attached = refl }) (λ t. refl))
-    refl refl refl (steady-same told)
+    refl refl refl refl (steady-same told)
 
 pub answered-link_end : (h g : Held) (r : List Entry) (k : ℕ) (told : Told) → is_in h.links.entries k ≡ true → Stands h r → Tied g → ((t : TransactionId) → kept g.work t ≡ unless_on k (kept h.work t)) → ((j : ℕ) → is_in g.links.entries j ≡ cond (k == j) false (is_in h.links.entries j)) → g.opened ≡ h.opened → StepAnswered g told told r (steps.LinkEnd k) nothing_drawn replies.LinkEnded
 answered-link_end h g r k told o s tg lg kg og =
     let a = link_end_answer r k true replies.LinkEnded (sym (s.links k) ∙ o) tt in
     answered-steady g told told r (steps.LinkEnd k) nothing_drawn replies.LinkEnded a
     (stands-closed h g r (entry_of (steps.LinkEnd k) nothing_drawn replies.LinkEnded) k s a (λ t. refl) (λ t. refl) (λ t. refl) (λ j. refl) (λ j. refl) refl tg lg kg og)
-    refl refl refl (steady-same told)
+    refl refl refl refl (steady-same told)
 
 pub answered-close : (h g : Held) (r : List Entry) (k : ℕ) (payload : List ℕ) (told : Told) → message_of payload ≡ None → is_in h.links.entries k ≡ true → Stands h r → Tied g → ((t : TransactionId) → kept g.work t ≡ unless_on k (kept h.work t)) → ((j : ℕ) → is_in g.links.entries j ≡ cond (k == j) false (is_in h.links.entries j)) → g.opened ≡ h.opened → StepAnswered g told told r (steps.Control k payload) nothing_drawn (replies.LinkClosed amqp_errors.NotAllowed)
 answered-close h g r k payload told m o s tg lg kg og =
@@ -441,7 +482,7 @@ answered-close h g r k payload told m o s tg lg kg og =
     let a = control_answer r k payload None [] (replies.LinkClosed amqp_errors.NotAllowed) opened m refl in
     answered-steady g told told r (steps.Control k payload) nothing_drawn (replies.LinkClosed amqp_errors.NotAllowed) a
     (stands-closed h g r (entry_of (steps.Control k payload) nothing_drawn (replies.LinkClosed amqp_errors.NotAllowed)) k s a (λ t. refl) (λ t. refl) (λ t. refl) (λ j. refl) (λ j. refl) refl tg lg kg og)
-    (hands-no_commit r k payload (commits-at r k payload true None opened m)) refl refl (steady-same told)
+    (hands-no_commit r k payload (commits-at r k payload true None opened m)) refl refl refl (steady-same told)
 
 pub answered-no_link : (h : Held) (r : List Entry) (k : ℕ) (payload : List ℕ) (told : Told) → is_in h.links.entries k ≡ false → Stands h r → StepAnswered h told told r (steps.Control k payload) nothing_drawn replies.NoLink
 answered-no_link h r k payload told o s =
@@ -450,7 +491,7 @@ answered-no_link h r k payload told o s =
     let a : Answer r (steps.Control k payload) [] replies.NoLink = subst P (sym shut) refl in
     answered-steady h told told r (steps.Control k payload) nothing_drawn replies.NoLink a
     (stands-quiet h r (entry_of (steps.Control k payload) nothing_drawn replies.NoLink) s a (record { declares = λ t. refl; discharges = λ t. refl; attaches = λ j. refl; closes = λ j. refl; attached = refl }) (λ t. refl))
-    (hands-no_commit r k payload (commits-at r k payload false (message_of payload) shut refl)) refl refl (steady-same told)
+    (hands-no_commit r k payload (commits-at r k payload false (message_of payload) shut refl)) refl refl refl (steady-same told)
 
 -- ---- a declare
 
@@ -466,7 +507,7 @@ answered-global h r k payload global told m o s =
     let a = control_answer r k payload (declare_of (Some global)) [] (replies.Rejected transaction_errors.UnknownId texts.GlobalId) opened m refl in
     answered-steady h told told r (steps.Control k payload) nothing_drawn (replies.Rejected transaction_errors.UnknownId texts.GlobalId) a
     (stands-quiet h r (entry_of (steps.Control k payload) nothing_drawn (replies.Rejected transaction_errors.UnknownId texts.GlobalId)) s a (quiet-rejected k payload nothing_drawn texts.GlobalId) (λ t. refl))
-    (declare_hands_nothing r k payload (Some global) opened m) refl refl (steady-same told)
+    (declare_hands_nothing r k payload (Some global) opened m) refl refl refl (steady-same told)
 
 all_same : (p q : TransactionId → Bool) (xs : List TransactionId) → ((x : TransactionId) → p x ≡ q x) → list_all p xs ≡ list_all q xs
 all_same p q [] h = refl
@@ -482,7 +523,7 @@ answered-declared h g r k payload d t told m o s u tg lg kg og =
     answered-steady g told told r (steps.Control k payload) d (replies.Declared t) a
     (stands-declared h g r (entry_of (steps.Control k payload) d (replies.Declared t)) t s a dead opened (λ x. refl) (λ x. refl) (λ x. refl) (λ j. refl) (λ j. refl) refl
     tg lg kg og)
-    (declare_hands_nothing r k payload None opened m) refl refl (steady-same told)
+    (declare_hands_nothing r k payload None opened m) refl refl refl (steady-same told)
 
 pub answered-repeat : (h g : Held) (r : List Entry) (k : ℕ) (payload : List ℕ) (d : DrawnIds) (told : Told) → message_of payload ≡ declare_of None → is_in h.links.entries k ≡ true → Stands h r → DrewLive h.work d.ids → SameHeld h g → StepAnswered g told told r (steps.Control k payload) d (replies.Rejected transaction_errors.UnknownId texts.IdsRepeat)
 answered-repeat h g r k payload d told m o s u same =
@@ -490,7 +531,7 @@ answered-repeat h g r k payload d told m o s u same =
     let a = control_answer r k payload (declare_of None) d.ids (replies.Rejected transaction_errors.UnknownId texts.IdsRepeat) opened m (u.count, sym (all_same (is_kept h.work) (is_live r) d.ids (λ x. kept_live h r x s)) ∙ u.all) in
     answered-steady g told told r (steps.Control k payload) d (replies.Rejected transaction_errors.UnknownId texts.IdsRepeat) a
     (stands-quiet g r (entry_of (steps.Control k payload) d (replies.Rejected transaction_errors.UnknownId texts.IdsRepeat)) (stands-moved h g r s same) a (quiet-rejected k payload d texts.IdsRepeat) (λ t. refl))
-    (declare_hands_nothing r k payload None opened m) refl refl (steady-same told)
+    (declare_hands_nothing r k payload None opened m) refl refl refl (steady-same told)
 
 pub undone-declare : (h g : Held) (r : List Entry) (k : ℕ) (payload : List ℕ) → message_of payload ≡ declare_of None → is_in h.links.entries k ≡ true → Stands h r → Stands g r → NothingDone g r (steps.Control k payload)
 undone-declare h g r k payload m o s sg = record {

@@ -1,5 +1,5 @@
 -- What a session hears: its frames and control links, by their kind.
-use Rattle.std.proofs.Common.{◌≡◌, ℕ, ◌≤◌, Bool, true, false, cond, Option, Some, None, Result, Ok, Err, List, refl, sym, ◌∙◌, subst, arith, rules}
+use Rattle.std.proofs.Common.{◌≡◌, ℕ, ◌≤◌, Bool, true, false, cond, Option, Some, None, Result, Ok, Err, List, refl, sym, ◌∙◌, ap, subst, arith, rules}
 use Rattle.amqp_txn_types.specs.declared.id.TransactionId.{TransactionId}
 use Rattle.amqp_txn_types.specs.declared.performatives.Attach.{Attach}
 use Rattle.amqp_txn_types.specs.declared.performatives.Frame.{Frame}
@@ -28,20 +28,22 @@ either true x = refl
 either false x = refl
 
 -- an incoming frame call of a session that tells no list, and counts its answer
-pub hears-takes : (n m : ℕ) (f k : Fixed) (frame : Frame)
-    (result : Result (List Frame) SessionInnerError) → n ≤ m → k ≡ f → m ≡ counted result n
-    → Takes (listless n f) (listless m k) frame result
-hears-takes n m f k frame (Ok given) later fixed count = record {
+pub hears-takes : (n m v w : ℕ) (f k : Fixed) (frame : Frame)
+    (result : Result (List Frame) SessionInnerError) → n ≤ m → k ≡ f → m ≡ counted result n → w ≡ v
+    → Takes (listless n v f) (listless m w k) frame result
+hears-takes n m v w f k frame (Ok given) later fixed count same = record {
   taken = refl;
   opened = refl;
+  reviews = ap (λ x. record { vetoes = x; vetoed = None }) same;
   refused = refl;
   fixed = fixed;
   later = later;
   cause = search rules;
 }
-hears-takes n m f k frame (Err error) later fixed count = record {
+hears-takes n m v w f k frame (Err error) later fixed count same = record {
   taken = refl;
   opened = refl;
+  reviews = ap (λ x. record { vetoes = x; vetoed = None }) same;
   refused = either (is_no_memory error) None;
   fixed = fixed;
   later = later;
@@ -49,20 +51,22 @@ hears-takes n m f k frame (Err error) later fixed count = record {
 }
 
 -- the attach of a control link through such a session
-pub hears-opens : (n m : ℕ) (f k : Fixed) (attach : Attach)
-    (result : Result (ℕ × List Frame) SessionInnerError) → n ≤ m → k ≡ f → m ≡ counted result n
-    → Opens (listless n f) (listless m k) attach (frames_of result)
-hears-opens n m f k attach (Ok link) later fixed count = record {
+pub hears-opens : (n m v w : ℕ) (f k : Fixed) (attach : Attach)
+    (result : Result (ℕ × List Frame) SessionInnerError) → n ≤ m → k ≡ f → m ≡ counted result n → w ≡ v
+    → Opens (listless n v f) (listless m w k) attach (frames_of result)
+hears-opens n m v w f k attach (Ok link) later fixed count same = record {
   taken = refl;
   opened = refl;
+  reviews = ap (λ x. record { vetoes = x; vetoed = None }) same;
   refused = refl;
   fixed = fixed;
   later = later;
   cause = search rules;
 }
-hears-opens n m f k attach (Err error) later fixed count = record {
+hears-opens n m v w f k attach (Err error) later fixed count same = record {
   taken = refl;
   opened = refl;
+  reviews = ap (λ x. record { vetoes = x; vetoed = None }) same;
   refused = either (is_no_memory error) None;
   fixed = fixed;
   later = later;

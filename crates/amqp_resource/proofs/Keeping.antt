@@ -2,7 +2,6 @@
 use Rattle.std.proofs.Common.{◌≡◌, ℕ, ◌+◌, ◌≤◌, Bool, true, false, cond, not, ◌&&◌, Option, Some, None, Result, Ok, Err, List, [], ◌∷◌, length, map, take, refl, sym, ◌∙◌, ap, arith, subst, inl, inr}
 use Rattle.std.specs.Prelude.{◌==◌, is_some, MatchBool}
 use Rattle.std.specs.List.{list_all}
-use Rattle.std.proofs.lemmas.List.{length-map}
 use Rattle.std.proofs.lemmas.Bool.{ne_eqb}
 use Rattle.amqp_txn_types.specs.declared.id.TransactionId.{TransactionId}
 use Rattle.amqp_txn_types.specs.declared.small.Accepted.{Accepted}
@@ -33,6 +32,7 @@ use Rattle.amqp_record.specs.declared.step.Step.TheVariants as steps
 use Rattle.amqp_record.specs.declared.reply.Reply.{Reply}
 use Rattle.amqp_record.specs.declared.reply.Reply.TheVariants as replies
 use Rattle.amqp_record.specs.declared.reply.RejectText.{RejectText}
+use Rattle.amqp_record.specs.declared.reply.RejectText.TheVariants as texts
 use Rattle.amqp_record.specs.declared.stop.StepError.{StepError}
 use Rattle.amqp_record.specs.declared.stop.StepError.TheVariants as errors
 use Rattle.amqp_record.specs.declared.entry.Entry.{Entry}
@@ -46,13 +46,14 @@ use Rattle.amqp_arrivals.specs.Live.{frames_kept, kept, with_frame}
 use Rattle.amqp_resource.specs.Held.{SameHeld, Stands, Tied, ids_on, is_among, is_in, is_kept_on, unless_on}
 use Rattle.amqp_resource.specs.Draws.{DrewLive, DrewUnused, is_kept}
 use Rattle.amqp_layer.specs.Taking.{TakesFrame, TookFrames, taken_frames}
+use Rattle.amqp_resource.specs.Committing.{HandsAll}
 use Rattle.amqp_resource.specs.Transacting.{AllocatedIn, CommittedIn, CommittedWith, Ended, RolledBackIn, step_error_of}
 use Rattle.amqp_resource.specs.Steps.{EndGave, is_unknown, AddsRefusal, IsPost, IsUnder, fault_of, nothing_drawn}
 use Rattle.amqp_resource.specs.Keeping.{ControlKeeps, DischargeHands, EndKeeps, Fits, FrameCalls, FrameKeeps, IsUnkept, Keeps, PlainKeeps, Rejects, NothingChanges, SameLinks, StepRefused, TookPart, UnderUnkept, is_kept_under, message_hands, message_wants, step_hands, step_wants}
 use Rattle.amqp_resource.proofs.Kept.{in_updated, tied_added, tied_opened, tied_same}
 use Rattle.amqp_resource.proofs.Handing.{refused_after-err}
 use Rattle.amqp_txn_types.proofs.Growing.{grown-nil}
-use Rattle.amqp_resource.proofs.Going.{coord-attach, fault_known, part_adds, plain_no_coordinator, post_reply, tied-post, txn-attach, when_known}
+use Rattle.amqp_resource.proofs.Going.{coord-attach, plain_no_coordinator, post_reply, tied-post, txn-attach, wanting_adds, when_known}
 
 -- ---- what goes on to fit together
 
@@ -92,14 +93,15 @@ fits-declared h g tied links opened f = fits_by h g (tied f.tied) links opened f
 pub fits-ended : (h g : Held) (id : TransactionId) → Ended h g id → Fits h → Fits g
 fits-ended h g id x f = fits_by h g (x.tied f.tied) x.links x.opened f
 
-pub fits-committed : (h g : Held) (told now : Told) (id : TransactionId) (kept : List Frame) (U : Type 0) (result : Result (List Answers) CommitFault) → CommittedWith h g told now id kept U result → Fits h → Fits g
-fits-committed h g told now id kept U (Ok echoes) x f = fits-ended h g id x.0 f
+pub fits-committed : (h g : Held) (told now : Told) (id : TransactionId) (kept : List Frame) (U : Type 0) (result : Result (Result (List Answers) TransactionError) CommitFault) → CommittedWith h g told now id kept U result → Fits h → Fits g
+fits-committed h g told now id kept U (Ok answer) x f = fits-ended h g id x.0 f
 fits-committed h g told now id kept U (Err commit_faults.NoMemory) x f = fits-same h g x.0 f
 fits-committed h g told now id kept U (Err (commit_faults.Refused error handed)) x f = fits-ended h g id x.0 f
 
 pub fits-discharged : (h g : Held) (told now : Told) (id : TransactionId) (U : Type 0) (result : Result (Result (List Answers) TransactionError) CommitFault) → CommittedIn h g told now id U result → Fits h → Fits g
-fits-discharged h g told now id U (Ok (Ok echoes)) x f = fits-committed h g told now id _ U (Ok echoes) x.1 f
-fits-discharged h g told now id U (Ok (Err error)) x f = fits-same h g x.2 f
+fits-discharged h g told now id U (Ok (Ok echoes)) x f = fits-committed h g told now id _ U (Ok (Ok echoes)) x.1 f
+fits-discharged h g told now id U (Ok (Err transaction_errors.UnknownId)) x f = fits-same h g x.1 f
+fits-discharged h g told now id U (Ok (Err error)) x f = fits-committed h g told now id _ U (Ok (Err error)) x.1 f
 fits-discharged h g told now id U (Err fault) x f = fits-committed h g told now id _ U (Err fault) x.1 f
 
 pub fits-rolled_back : (h g : Held) (id : TransactionId) (result : Result Accepted TransactionError) → RolledBackIn h g id result → Fits h → Fits g
@@ -328,7 +330,7 @@ keeps-closed h g told k payload d n e o lg kg tied og f = record {
 pub keeps-rejected : (h g : Held) (told : Told) (k : ℕ) (payload : List ℕ) (m : Option ControlMessageBody) (d : DrawnIds) (text : RejectText) → message_of payload ≡ m → is_in h.links.entries k ≡ true → Rejects k h.work d.ids text m → SameHeld h g → Fits h → Keeps h g told told (steps.Control k payload) (Ok (d, replies.Rejected transaction_errors.UnknownId text))
 keeps-rejected h g told k payload m d text e o x same f = record {
   fits = fits-same h g same f;
-  answer = control_answers h g told told k payload m d true (replies.Rejected transaction_errors.UnknownId text) e o (refl, x, unchanged-moved h g told same);
+  answer = control_answers h g told told k payload m d true (replies.Rejected transaction_errors.UnknownId text) e o (x, unchanged-moved h g told same);
   unknown = λ u. absurd u;
 }
 
@@ -390,6 +392,17 @@ keeps-discharged h g told now k payload discharge d b echoes n e rb o on x hands
   unknown = λ u. absurd u;
 }
 
+-- a commit that was vetoed
+pub keeps-vetoed : (h g : Held) (told now : Told) (k : ℕ) (payload : List ℕ) (discharge : Discharge) (d : DrawnIds) → d ≡ nothing_drawn → message_of payload ≡ Some (messages.Discharge discharge) → is_rollback discharge.fail ≡ false → is_in h.links.entries k ≡ true → is_kept_on k (kept h.work discharge.txn_id) ≡ true → Ended h g discharge.txn_id → HandsAll told now (map stripped (frames_kept (kept h.work discharge.txn_id))) (Ok (Err transaction_errors.Rollback)) → Fits h → Keeps h g told now (steps.Control k payload) (Ok (d, replies.Rejected transaction_errors.Rollback texts.Absent))
+keeps-vetoed h g told now k payload discharge d n e rb o on x hands f = record {
+  fits = fits-ended h g discharge.txn_id x f;
+  answer = control_answers h g told now k payload (Some (messages.Discharge discharge)) d true (replies.Rejected transaction_errors.Rollback texts.Absent) e o (
+    ap (λ (x : DrawnIds). x.ids) n,
+    (rb, record { live = x.live; links = record { links = x.links; opened = x.opened }; vetoed = hands; kept = on }),
+  );
+  unknown = λ u. absurd u;
+}
+
 -- a fault of a commit
 pub keeps-fault : (h g : Held) (told now : Told) (k : ℕ) (payload : List ℕ) (discharge : Discharge) (U : Type 0) (fault : CommitFault) → message_of payload ≡ Some (messages.Discharge discharge) → is_rollback discharge.fail ≡ false → is_in h.links.entries k ≡ true → is_kept_on k (kept h.work discharge.txn_id) ≡ true → CommittedWith h g told now discharge.txn_id (frames_kept (kept h.work discharge.txn_id)) U (Err fault) → Fits h → Keeps h g told now (steps.Control k payload) (Err (step_error_of fault))
 keeps-fault h g told now k payload discharge U commit_faults.NoMemory e rb o on x f = record {
@@ -399,24 +412,23 @@ keeps-fault h g told now k payload discharge U commit_faults.NoMemory e rb o on 
 }
 keeps-fault h g told now k payload discharge U (commit_faults.Refused error handed) e rb o on x f =
     let all = frames_kept (kept h.work discharge.txn_id) in
-    let own = x.1.0 in
-    let part = x.1.2.handed in
+    let is : error ≡ faults.NoMemory = x.1.handed.0 in
+    let part = x.1.handed.1 in
     let s : Step = steps.Control k payload in
     let gives : step_hands h s ≡ map stripped all =
     ap (message_hands k h.work) e
     ∙ ap (λ b. cond (not b && is_kept_on k (kept h.work discharge.txn_id)) (map stripped all) []) rb
     ∙ ap (λ b. cond b (map stripped all) []) on in
-    let count : length (step_hands h s) ≡ length all = ap length gives ∙ length-map all stripped in
-    let known : is_unknown error ≡ false = ap is_unknown x.1.1 ∙ fault_known own in
+    let count : length (step_hands h s) ≡ length (map stripped all) = ap length gives in
+    let some : 1 ≤ length (step_hands h s) = omega (arith, part.some, count) in
     let P : List Frame → Type 0 = λ fs. TookFrames told.taken now.taken (take handed fs) in
-    let Q : List Frame → Type 0 = λ fs. AddsRefusal s fs handed (fault_of own) part.refused.0 in
     record {
       fits = fits-ended h g discharge.txn_id x.0 f;
-      answer = fault_answers h told now s error own handed known x.1.1 (record {
-        calls = omega (arith, part.some, count);
+      answer = fault_answers h told now s error faults.NoMemory handed (ap is_unknown is) is (record {
+        calls = (some, refl);
         took = (omega (arith, part.within, count), subst P (sym gives) part.took);
-        opened = part.opened;
-        refused = (part.refused.0, subst Q (sym gives) (part_adds [] s (map stripped all) handed own part.refused.0 part.refused.1), part.refused.2);
+        opened = x.1.opened;
+        refused = ([], wanting_adds s (step_hands h s) handed some, x.1.refused ∙ sym (grown-nil told.refused));
       });
       unknown = λ u. absurd u;
     }

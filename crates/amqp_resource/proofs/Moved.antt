@@ -1,5 +1,5 @@
 -- What a step leaves, where what is kept of it then stands in other memory.
-use Rattle.std.proofs.Common.{◌≡◌, ℕ, Bool, true, false, Option, Some, None, Result, Ok, Err, List, ◌∙◌, ap}
+use Rattle.std.proofs.Common.{ℕ, Bool, true, false, Option, Some, None, Result, Ok, Err, List, ◌∙◌, ap}
 use Rattle.std.specs.Prelude.{is_some}
 use Rattle.amqp_txn_types.specs.declared.id.TransactionId.{TransactionId}
 use Rattle.amqp_txn_types.specs.declared.performatives.Frame.{Frame}
@@ -11,6 +11,9 @@ use Rattle.amqp_layer.specs.declared.answers.Answers.{Answers}
 use Rattle.amqp_layer.specs.Told.{Told}
 use Rattle.amqp_txn_types.specs.declared.small.Accepted.{Accepted}
 use Rattle.amqp_txn_types.specs.declared.small.TransactionError.{TransactionError}
+use Rattle.amqp_txn_types.specs.declared.small.TransactionError.TheVariants as conditions
+use Rattle.amqp_record.specs.declared.reply.RejectText.{RejectText}
+use Rattle.amqp_record.specs.declared.reply.RejectText.TheVariants as texts
 use Rattle.amqp_sessions.specs.declared.transacting.CommitFault.{CommitFault}
 use Rattle.amqp_sessions.specs.declared.transacting.CommitFault.TheVariants as commit_faults
 use Rattle.amqp_ids.specs.Drawn.{DrawnIds}
@@ -24,7 +27,7 @@ use Rattle.amqp_record.specs.declared.entry.Entry.{Entry}
 use Rattle.amqp_resource.specs.declared.held.Held.{Held}
 use Rattle.amqp_resource.specs.Held.{SameHeld, is_in}
 use Rattle.amqp_resource.specs.Steps.{OnNoMemory, StepDoes, StepGave}
-use Rattle.amqp_resource.specs.Keeping.{AcceptKeeps, AnswerKeeps, Closes, ControlKeeps, EndKeeps, FrameKeeps, Keeps, NothingChanges, PlainKeeps, SameLinks, StepKeeps}
+use Rattle.amqp_resource.specs.Keeping.{AcceptKeeps, AnswerKeeps, Closes, ControlKeeps, EndKeeps, FrameKeeps, Keeps, NothingChanges, PlainKeeps, RejectKeeps, SameLinks, StepKeeps, Vetoes}
 use Rattle.amqp_resource.specs.Transacting.{CommittedIn, CommittedWith, Ended, RolledBackIn}
 use Rattle.amqp_resource.proofs.Going.{stands-moved}
 use Rattle.amqp_resource.proofs.Keeping.{fits-same}
@@ -39,6 +42,7 @@ gave_moved m g old new r s (Ok out) same x = record {
   taken = x.taken;
   opened = x.opened;
   refused = x.refused;
+  vetoed = x.vetoed;
 }
 gave_moved m g old new r s (Err (errors.Fault error handed)) same x = x
 gave_moved m g old new r s (Err (errors.Ended reason)) same x = x
@@ -93,6 +97,17 @@ accept_moved k h m g told now (Some (messages.Discharge discharge)) echoes same 
 }
 accept_moved k h m g told now _ echoes same x = absurd x
 
+vetoes_moved : (k : ℕ) (h m g : Held) (told now : Told) (message : Option ControlMessageBody) → SameHeld m g → Vetoes k h m told now message → Vetoes k h g told now message
+vetoes_moved k h m g told now (Some (messages.Discharge discharge)) same x =
+    let one = x.1 in
+    (x.0, record { live = λ t. same.live t ∙ one.live t; links = links_moved h m g same one.links; vetoed = one.vetoed; kept = one.kept })
+vetoes_moved k h m g told now _ same x = absurd x
+
+reject_moved : (k : ℕ) (h m g : Held) (told now : Told) (message : Option ControlMessageBody) (drawn : List TransactionId) (error : TransactionError) (text : RejectText) → SameHeld m g → RejectKeeps k h m told now message drawn error text → RejectKeeps k h g told now message drawn error text
+reject_moved k h m g told now message drawn conditions.UnknownId text same x = (x.0, nothing_moved h m g told now same x.1)
+reject_moved k h m g told now message drawn conditions.Rollback texts.Absent same x = (x.0, vetoes_moved k h m g told now message same x.1)
+reject_moved k h m g told now message drawn _ _ same x = absurd x
+
 control_moved : (k : ℕ) (h m g : Held) (told now : Told) (message : Option ControlMessageBody) (drawn : List TransactionId) (b : Bool) (reply : Reply) → SameHeld m g → ControlKeeps k h m told now message drawn b reply → ControlKeeps k h g told now message drawn b reply
 control_moved k h m g told now message drawn false replies.NoLink same x = (x.0, nothing_moved h m g told now same x.1)
 control_moved k h m g told now message drawn true (replies.LinkClosed error) same x = (x.0, x.1, x.2, closes_moved k h m g told now same x.3)
@@ -104,7 +119,7 @@ control_moved k h m g told now message drawn true (replies.Declared id) same x =
   below = x.below;
 }
 control_moved k h m g told now message drawn true (replies.Accepted echoes) same x = (x.0, accept_moved k h m g told now message echoes same x.1)
-control_moved k h m g told now message drawn true (replies.Rejected error text) same x = (x.0, x.1, nothing_moved h m g told now same x.2)
+control_moved k h m g told now message drawn true (replies.Rejected error text) same x = reject_moved k h m g told now message drawn error text same x
 control_moved k h m g told now message drawn _ _ same x = absurd x
 
 end_moved : (k : ℕ) (h m g : Held) (told now : Told) (b : Bool) (reply : Reply) → SameHeld m g → EndKeeps k h m told now b reply → EndKeeps k h g told now b reply
@@ -152,14 +167,15 @@ ended_moved h m g id same x = record {
   opened = same.opened ∙ x.opened;
 }
 
-with_moved : (h m g : Held) (told now : Told) (id : TransactionId) (all : List Frame) (U : Type 0) (result : Result (List Answers) CommitFault) → SameHeld m g → CommittedWith h m told now id all U result → CommittedWith h g told now id all U result
-with_moved h m g told now id all U (Ok echoes) same x = (ended_moved h m g id same x.0, x.1)
+with_moved : (h m g : Held) (told now : Told) (id : TransactionId) (all : List Frame) (U : Type 0) (result : Result (Result (List Answers) TransactionError) CommitFault) → SameHeld m g → CommittedWith h m told now id all U result → CommittedWith h g told now id all U result
+with_moved h m g told now id all U (Ok answer) same x = (ended_moved h m g id same x.0, x.1)
 with_moved h m g told now id all U (Err commit_faults.NoMemory) same x = (same_then h m g x.0 same, x.1)
 with_moved h m g told now id all U (Err (commit_faults.Refused error handed)) same x = (ended_moved h m g id same x.0, x.1)
 
 pub committed_moved : (h m g : Held) (told now : Told) (id : TransactionId) (U : Type 0) (result : Result (Result (List Answers) TransactionError) CommitFault) → SameHeld m g → CommittedIn h m told now id U result → CommittedIn h g told now id U result
-committed_moved h m g told now id U (Ok (Ok echoes)) same x = (x.0, with_moved h m g told now id _ U (Ok echoes) same x.1)
-committed_moved h m g told now id U (Ok (Err error)) same x = (x.0, x.1, same_then h m g x.2 same, x.3)
+committed_moved h m g told now id U (Ok (Ok echoes)) same x = (x.0, with_moved h m g told now id _ U (Ok (Ok echoes)) same x.1)
+committed_moved h m g told now id U (Ok (Err conditions.UnknownId)) same x = (x.0, same_then h m g x.1 same, x.2)
+committed_moved h m g told now id U (Ok (Err error)) same x = (x.0, with_moved h m g told now id _ U (Ok (Err error)) same x.1)
 committed_moved h m g told now id U (Err fault) same x = (x.0, with_moved h m g told now id _ U (Err fault) same x.1)
 
 pub rolled_back_moved : (h m g : Held) (id : TransactionId) (result : Result Accepted TransactionError) → SameHeld m g → RolledBackIn h m id result → RolledBackIn h g id result

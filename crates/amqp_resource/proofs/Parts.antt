@@ -1,5 +1,5 @@
 -- The parts of what a step leaves, as its public clauses say them.
-use Rattle.std.proofs.Common.{◌≡◌, ℕ, Bool, true, false, Option, Some, None, Result, Ok, Err, List, [], ◌∷◌, ◌++◌, refl, sym, ◌∙◌, ap, subst, inl, inr}
+use Rattle.std.proofs.Common.{◌≡◌, ℕ, Bool, true, false, Option, Some, None, Result, Ok, Err, List, [], ◌∷◌, ◌++◌, refl, sym, ◌∙◌, ap, arith, subst, inl, inr}
 use Rattle.std.specs.Prelude.{◌⊎◌, ⊤, is_some, MatchBool, IfOk, IfErr, OnErr}
 use Rattle.amqp_txn_types.specs.declared.id.TransactionId.{TransactionId}
 use Rattle.amqp_txn_types.specs.declared.delivery.Error.{Error}
@@ -15,13 +15,15 @@ use Rattle.amqp_layer.specs.declared.answers.Answers.{Answers}
 use Rattle.amqp_layer.specs.declared.inner_error.SessionInnerError.{SessionInnerError}
 use Rattle.amqp_layer.specs.declared.inner_error.SessionInnerError.TheVariants as faults
 use Rattle.amqp_ids.specs.Drawn.{DrawnIds}
-use Rattle.amqp_layer.specs.Told.{Told}
+use Rattle.amqp_layer.specs.Told.{Told, open_told}
 use Rattle.amqp_txn_types.specs.Counts.{Rose}
 use Rattle.amqp_record.specs.declared.entry.Entry.{Entry}
 use Rattle.amqp_record.specs.declared.step.Step.{Step}
 use Rattle.amqp_record.specs.declared.step.Step.TheVariants as steps
 use Rattle.amqp_record.specs.declared.reply.Reply.{Reply}
 use Rattle.amqp_record.specs.declared.reply.Reply.TheVariants as replies
+use Rattle.amqp_record.specs.declared.reply.RejectText.{RejectText}
+use Rattle.amqp_txn_types.specs.declared.small.TransactionError.TheVariants as transaction_errors
 use Rattle.amqp_record.specs.declared.stop.StepError.{StepError}
 use Rattle.amqp_record.specs.declared.stop.StepError.TheVariants as errors
 use Rattle.amqp_record.specs.Links.{is_open}
@@ -30,7 +32,11 @@ use Rattle.amqp_resource.specs.declared.held.Held.{Held}
 use Rattle.amqp_resource.specs.Held.{SameHeld, Stands}
 use Rattle.amqp_resource.specs.declared.session.TxnSession.{TxnSession}
 use Rattle.amqp_resource.specs.Session.{SameSession, StopAfter, below_of, held_of, stop_of}
-use Rattle.amqp_resource.specs.Steps.{AnswersEnd, EndGave, FrameMayFault, IfAttachRefused, IfEnded, IfRefused, IfUnknown, IsControlAttach, IsDead, IsFirstStop, MayFault, OnAttachRefused, OnNoMemory, OnNoCall, OpenedBy, Refused, RefusedAdds, RefusedBy, StepCause, StepGave, TookFirst, TookHands, UnderDead, calls_nothing, ended_by, entry_of, is_live_under, is_unknown, has_error, local_end, remote_end, rolls_back_by, takes_memory}
+use Rattle.amqp_sessions.specs.declared.transacting.CommitFault.{CommitFault}
+use Rattle.amqp_sessions.specs.declared.transacting.CommitFault.TheVariants as commit_faults
+use Rattle.amqp_resource.specs.Committing.{HandsSurely}
+use Rattle.amqp_resource.specs.Transacting.{step_error_of}
+use Rattle.amqp_resource.specs.Steps.{AnswersEnd, EndGave, FrameMayFault, IfAttachRefused, IfEnded, IfRefused, IfUnknown, IsControlAttach, IsDead, IsFirstStop, IsPost, MayFault, OnAttachRefused, OnNoMemory, OnNoCall, OnVeto, OpenedBy, Refused, RefusedAdds, RefusedBy, StepCause, StepGave, StopsSurely, TookFirst, TookHands, UnderDead, VetoedBy, calls_nothing, ended_by, entry_of, is_live_under, is_unknown, has_error, local_end, remote_end, rolls_back_by, takes_memory}
 
 -- ---- choices
 
@@ -64,6 +70,10 @@ no_call_holds s (Err (errors.Ended reason)) P x = x
 no_call_holds s (Err (errors.Stopped code)) P x = x
 no_call_holds s (Err errors.NoMemory) P x = x
 
+-- a veto has called
+pub veto_calls : (s : Step) (d : DrawnIds) (text : RejectText) (P : Type 0) → OnNoCall s (Ok (d, replies.Rejected transaction_errors.Rollback text)) P
+veto_calls s d text P = tt
+
 -- an accepted commit may have called
 pub commit_calls : (k : ℕ) (payload : List ℕ) (discharge : Discharge) (d : DrawnIds) (echoes : List Answers) (P : Type 0) → message_of payload ≡ Some (messages.Discharge discharge) → is_rollback discharge.fail ≡ false → OnNoCall (steps.Control k payload) (Ok (d, replies.Accepted echoes)) P
 commit_calls k payload discharge d echoes P m b = subst (λ (c : Bool). MatchBool c P ⊤) (sym (ap rolls_back_by m ∙ b)) tt
@@ -90,6 +100,10 @@ pub step_refused : (h : Held) (old new : Told) (r : List Entry) (s : Step) (resu
 step_refused h old new r s (Ok out) g = g.refused
 step_refused h old new r s (Err error) g = tt
 
+pub step_vetoed : (h : Held) (old new : Told) (r : List Entry) (s : Step) (result : Result (DrawnIds × Reply) StepError) → StepGave h old new r s result → IfOk result (λ out. VetoedBy old new r s out.1)
+step_vetoed h old new r s (Ok out) g = g.vetoed
+step_vetoed h old new r s (Err error) g = tt
+
 -- ---- what is so of a refusal below
 
 on_refused : (h : Held) (old new : Told) (r : List Entry) (s : Step) (result : Result (DrawnIds × Reply) StepError) (P : SessionInnerError → ℕ → Type 0) → ((error : SessionInnerError) (handed : ℕ) → Refused old new r s error handed → P error handed) → StepGave h old new r s result → IfRefused result P
@@ -105,8 +119,8 @@ step_part h old new r s result g = on_refused h old new r s result (λ error han
 pub step_last : (h : Held) (old new : Told) (r : List Entry) (s : Step) (result : Result (DrawnIds × Reply) StepError) → StepGave h old new r s result → IfRefused result (λ error handed. RefusedAdds old new r s error handed)
 step_last h old new r s result g = on_refused h old new r s result (λ error handed. RefusedAdds old new r s error handed) (λ error handed x. x.refused) g
 
-pub step_cause : (h : Held) (old new : Told) (r : List Entry) (s : Step) (result : Result (DrawnIds × Reply) StepError) → StepGave h old new r s result → IfRefused result (λ error handed. MayFault r s)
-step_cause h old new r s result g = on_refused h old new r s result (λ error handed. MayFault r s) (λ error handed x. x.fits) g
+pub step_cause : (h : Held) (old new : Told) (r : List Entry) (s : Step) (result : Result (DrawnIds × Reply) StepError) → StepGave h old new r s result → IfRefused result (λ error handed. MayFault r s error)
+step_cause h old new r s result g = on_refused h old new r s result (λ error handed. MayFault r s error) (λ error handed x. x.fits) g
 
 pub opened_none : (h : Held) (old new : Told) (r : List Entry) (s : Step) (result : Result (DrawnIds × Reply) StepError) → StepGave h old new r s result → OnNoCall s result (new.opened ≡ old.opened) → OnErr result (new.opened ≡ old.opened)
 opened_none h old new r s (Ok out) g x = tt
@@ -114,6 +128,13 @@ opened_none h old new r s (Err (errors.Fault error handed)) g x = in_both _ (is_
 opened_none h old new r s (Err (errors.Ended reason)) g x = x
 opened_none h old new r s (Err (errors.Stopped code)) g x = x
 opened_none h old new r s (Err errors.NoMemory) g x = x
+
+pub vetoed_none : (h : Held) (old new : Told) (r : List Entry) (s : Step) (result : Result (DrawnIds × Reply) StepError) → StepGave h old new r s result → OnNoCall s result (new.reviews.vetoed ≡ old.reviews.vetoed) → OnErr result (new.reviews.vetoed ≡ old.reviews.vetoed)
+vetoed_none h old new r s (Ok out) g x = tt
+vetoed_none h old new r s (Err (errors.Fault error handed)) g x = in_both _ (is_unknown error) (λ f. f.vetoed) g x
+vetoed_none h old new r s (Err (errors.Ended reason)) g x = x
+vetoed_none h old new r s (Err (errors.Stopped code)) g x = x
+vetoed_none h old new r s (Err errors.NoMemory) g x = x
 
 -- ---- unknown ids
 
@@ -126,13 +147,13 @@ dead_unanswered : (r : List Entry) (s : Step) (d : List TransactionId) (reply : 
 dead_unanswered r (steps.Frame frame) d reply u a = dead_frame r frame (txn frame) reply u a.1
 dead_unanswered r _ d reply u a = u
 
-dead_no_fault : (r : List Entry) (s : Step) → UnderDead r s → MayFault r s → ⊥
-dead_no_fault r (steps.Frame frame) u f = by_id (txn frame) u f
+dead_no_fault : (r : List Entry) (s : Step) (error : SessionInnerError) → UnderDead r s → MayFault r s error → ⊥
+dead_no_fault r (steps.Frame frame) error u f = by_id (txn frame) u f
   where
     by_id : (o : Option TransactionId) → IsDead r o → FrameMayFault r frame o → ⊥
     by_id None u f = u
     by_id (Some t) u f = let h = f.0 in cc (h, u)
-dead_no_fault r _ u f = u
+dead_no_fault r _ error u f = u
 
 dead_no_memory : (r : List Entry) (s : Step) → UnderDead r s → takes_memory r s ≡ true → ⊥
 dead_no_memory r (steps.Frame frame) u f = by_id (txn frame) u f
@@ -149,7 +170,7 @@ dead_no_end r _ reason u e = u
 pub step_unknown : (h : Held) (old new : Told) (r : List Entry) (s : Step) (result : Result (DrawnIds × Reply) StepError) → StepGave h old new r s result → UnderDead r s → result ≡ Err (errors.Fault faults.UnknownTxnId 0)
 step_unknown h old new r s (Ok out) g u = absurd (dead_unanswered r s out.0.ids out.1 u g.answer)
 step_unknown h old new r s (Err (errors.Fault faults.UnknownTxnId handed)) g u = ap (λ n. Err (errors.Fault faults.UnknownTxnId n)) g.1
-step_unknown h old new r s (Err (errors.Fault error handed)) g u = absurd (dead_no_fault r s u g.fits)
+step_unknown h old new r s (Err (errors.Fault error handed)) g u = absurd (dead_no_fault r s error u g.fits)
 step_unknown h old new r s (Err (errors.Ended reason)) g u = absurd (dead_no_end r s reason u g)
 step_unknown h old new r s (Err (errors.Stopped code)) g u = absurd g
 step_unknown h old new r s (Err errors.NoMemory) g u = absurd (dead_no_memory r s u g.takes)
@@ -203,30 +224,34 @@ same_session old new s (Err errors.NoMemory) held below stop runs = record { hel
 
 -- ---- causes
 
-pub cause_attach : (before now : ℕ) (s : Step) (result : Result (DrawnIds × Reply) StepError) → StepCause before now s result → OnAttachRefused result (Rose before now)
-cause_attach before now s (Ok out) c = c
-cause_attach before now s (Err error) c = tt
+pub cause_attach : (old new : Told) (s : Step) (result : Result (DrawnIds × Reply) StepError) → StepCause old new s result → OnAttachRefused result (Rose old.refusals new.refusals)
+cause_attach old new s (Ok out) c = c.0
+cause_attach old new s (Err error) c = tt
 
-pub cause_rose : (before now : ℕ) (s : Step) (result : Result (DrawnIds × Reply) StepError) → StepCause before now s result → IfRefused result (λ error handed. Rose before now)
-cause_rose before now s (Ok out) c = tt
-cause_rose before now s (Err (errors.Fault error handed)) c = on_false _ (is_unknown error) (λ x. x) c
-cause_rose before now s (Err (errors.Ended reason)) c = tt
-cause_rose before now s (Err (errors.Stopped code)) c = tt
-cause_rose before now s (Err errors.NoMemory) c = tt
+pub cause_rose : (old new : Told) (s : Step) (result : Result (DrawnIds × Reply) StepError) → StepCause old new s result → IfRefused result (λ error handed. Rose old.refusals new.refusals)
+cause_rose old new s (Ok out) c = tt
+cause_rose old new s (Err (errors.Fault error handed)) c = on_false _ (is_unknown error) (λ x. x) c
+cause_rose old new s (Err (errors.Ended reason)) c = tt
+cause_rose old new s (Err (errors.Stopped code)) c = tt
+cause_rose old new s (Err errors.NoMemory) c = tt
 
-pub cause_ended : (before now : ℕ) (s : Step) (result : Result (DrawnIds × Reply) StepError) → StepCause before now s result → IfEnded result (λ reason. ended_by s ≡ Some reason)
-cause_ended before now s (Ok out) c = tt
-cause_ended before now s (Err (errors.Fault error handed)) c = tt
-cause_ended before now s (Err (errors.Ended reason)) c = c
-cause_ended before now s (Err (errors.Stopped code)) c = tt
-cause_ended before now s (Err errors.NoMemory) c = tt
+pub cause_veto : (old new : Told) (s : Step) (result : Result (DrawnIds × Reply) StepError) → StepCause old new s result → OnVeto result (Rose old.reviews.vetoes new.reviews.vetoes)
+cause_veto old new s (Ok out) c = c.1
+cause_veto old new s (Err error) c = tt
 
-pub cause_first : (before now : ℕ) (s : Step) (result : Result (DrawnIds × Reply) StepError) → StepCause before now s result → IfErr result IsFirstStop
-cause_first before now s (Ok out) c = tt
-cause_first before now s (Err (errors.Fault error handed)) c = tt
-cause_first before now s (Err (errors.Ended reason)) c = tt
-cause_first before now s (Err (errors.Stopped code)) c = absurd c
-cause_first before now s (Err errors.NoMemory) c = tt
+pub cause_ended : (old new : Told) (s : Step) (result : Result (DrawnIds × Reply) StepError) → StepCause old new s result → IfEnded result (λ reason. ended_by s ≡ Some reason)
+cause_ended old new s (Ok out) c = tt
+cause_ended old new s (Err (errors.Fault error handed)) c = tt
+cause_ended old new s (Err (errors.Ended reason)) c = c
+cause_ended old new s (Err (errors.Stopped code)) c = tt
+cause_ended old new s (Err errors.NoMemory) c = tt
+
+pub cause_first : (old new : Told) (s : Step) (result : Result (DrawnIds × Reply) StepError) → StepCause old new s result → IfErr result IsFirstStop
+cause_first old new s (Ok out) c = tt
+cause_first old new s (Err (errors.Fault error handed)) c = tt
+cause_first old new s (Err (errors.Ended reason)) c = tt
+cause_first old new s (Err (errors.Stopped code)) c = absurd c
+cause_first old new s (Err errors.NoMemory) c = tt
 
 attach_only : (r : List Entry) (s : Step) (d : List TransactionId) (error : SessionInnerError) → Answer r s d (replies.AttachRefused error) → IsControlAttach s
 attach_only r (steps.Frame frame) d error a = by_id (txn frame) a.1
@@ -258,6 +283,52 @@ by_attach : (before now : ℕ) (r : List Entry) (s : Step) (d : List Transaction
 by_attach before now r s d (replies.AttachRefused error) a c = (c, attach_only r s d error a)
 by_attach before now r s d _ a c = tt
 
-pub step_attach : (h : Held) (old new : Told) (before now : ℕ) (r : List Entry) (s : Step) (result : Result (DrawnIds × Reply) StepError) → StepGave h old new r s result → StepCause before now s result → OnAttachRefused result (Rose before now × IsControlAttach s)
-step_attach h old new before now r s (Ok out) g c = by_attach before now r s out.0.ids out.1 g.answer c
-step_attach h old new before now r s (Err error) g c = tt
+pub step_attach : (h : Held) (old new : Told) (r : List Entry) (s : Step) (result : Result (DrawnIds × Reply) StepError) → StepGave h old new r s result → StepCause old new s result → OnAttachRefused result (Rose old.refusals new.refusals × IsControlAttach s)
+step_attach h old new r s (Ok out) g c = by_attach old.refusals new.refusals r s out.0.ids out.1 g.answer c.0
+step_attach h old new r s (Err error) g c = tt
+
+-- ---- over a sure layer
+
+-- of a step that isn't a control message nothing is said
+pub surely_other : (result : Result (DrawnIds × Reply) StepError) → IfRefused result (λ error handed. ⊤)
+surely_other (Ok out) = tt
+surely_other (Err (errors.Fault error handed)) = by_known (is_unknown error)
+  where
+    by_known : (b : Bool) → MatchBool b ⊤ ⊤
+    by_known true = tt
+    by_known false = tt
+surely_other (Err (errors.Ended reason)) = tt
+surely_other (Err (errors.Stopped code)) = tt
+surely_other (Err errors.NoMemory) = tt
+
+-- what makes no call below is no refusal there
+no_refusal : (s : Step) (result : Result (DrawnIds × Reply) StepError) → StepCause open_told open_told s result → IfRefused result (λ error handed. ⊥)
+no_refusal s (Ok out) c = tt
+no_refusal s (Err (errors.Fault error handed)) c = by_known (is_unknown error) c
+  where
+    by_known : (b : Bool) → MatchBool b (IsPost s × (handed ≡ 0)) (Rose 0 0) → MatchBool b ⊤ ⊥
+    by_known true x = tt
+    by_known false x = omega (arith, x)
+no_refusal s (Err (errors.Ended reason)) c = tt
+no_refusal s (Err (errors.Stopped code)) c = tt
+no_refusal s (Err errors.NoMemory) c = tt
+
+if_refused : (P Q : SessionInnerError → ℕ → Type 0) (result : Result (DrawnIds × Reply) StepError) → ((error : SessionInnerError) (handed : ℕ) → P error handed → Q error handed) → IfRefused result P → IfRefused result Q
+if_refused P Q (Ok out) f x = tt
+if_refused P Q (Err (errors.Fault error handed)) f x = on_false _ (is_unknown error) (f error handed) x
+if_refused P Q (Err (errors.Ended reason)) f x = tt
+if_refused P Q (Err (errors.Stopped code)) f x = tt
+if_refused P Q (Err errors.NoMemory) f x = tt
+
+pub surely_here : (sure : Bool) (s : Step) (result : Result (DrawnIds × Reply) StepError) → ((told : Told) → StepCause told told s result) → IfRefused result (λ error handed. StopsSurely sure s handed)
+surely_here sure s result c =
+    if_refused (λ error handed. ⊥) (λ error handed. StopsSurely sure s handed) result (λ error handed x. absurd x) (no_refusal s result (c open_told))
+
+-- a commit that failed
+pub surely_commit : (sure : Bool) (k : ℕ) (payload : List ℕ) (fault : CommitFault) → HandsSurely sure (Err fault) → IfRefused (Err (step_error_of fault)) (λ error handed. StopsSurely sure (steps.Control k payload) handed)
+surely_commit sure k payload commit_faults.NoMemory f = tt
+surely_commit sure k payload (commit_faults.Refused error handed) f = by_known (is_unknown error)
+  where
+    by_known : (b : Bool) → MatchBool b ⊤ (StopsSurely sure (steps.Control k payload) handed)
+    by_known true = tt
+    by_known false = f

@@ -1,5 +1,5 @@
 -- What the transactional calls give on a session, by whether it has stopped.
-use Rattle.std.specs.Prelude.{◌≡◌, ◌≤◌, Option, Some, None, Result, Ok, Err, List}
+use Rattle.std.specs.Prelude.{◌≡◌, ◌≤◌, Bool, Option, Some, None, Result, Ok, Err, List}
 use Rattle.amqp_txn_types.specs.declared.id.TransactionId.{TransactionId}
 use Rattle.amqp_txn_types.specs.declared.small.Accepted.{Accepted}
 use Rattle.amqp_txn_types.specs.declared.small.TransactionError.{TransactionError}
@@ -15,6 +15,7 @@ use Rattle.amqp_record.specs.declared.stop.StopCode.{StopCode}
 use Rattle.amqp_record.specs.Stops.{fault_code}
 use Rattle.amqp_resource.specs.declared.session.TxnSession.{TxnSession}
 use Rattle.amqp_resource.specs.Session.{FitsTogether, SameSession, below_of, frame_count_of, held_of, owed_of, stop_of, told_of}
+use Rattle.amqp_resource.specs.Committing.{HandsSurely}
 use Rattle.amqp_resource.specs.Transacting.{AllocatedIn, CommittedIn, RolledBackIn}
 
 -- one fact where the session had stopped, another where it runs
@@ -36,7 +37,7 @@ AllocationGives old new result =
     ((result ≡ Err allocations.NotImplemented) × SameSession old new)
     (AllocatedIn (held_of old) (held_of new) result × GoesOn old new)
 
--- a refused frame stops the session
+-- want of memory below stops the session
 abbrev pub StopAfterCommit : Result (Result (List Answers) TransactionError) CommitFault
     → Option StopCode → Type 0
 StopAfterCommit (Err (commit_faults.Refused error handed)) stop = stop ≡ Some (fault_code error)
@@ -44,15 +45,15 @@ StopAfterCommit _ stop = stop ≡ None
 
 -- a commit; what the session keeps goes on to fit together, and no more looks are owed than frames
 -- are kept
-abbrev pub CommitGives : {S : Type 0} → (S → Told) → TxnSession S → TxnSession S → TransactionId
-    → Result (Result (List Answers) TransactionError) CommitFault → Type 0
-CommitGives told old new id result =
+abbrev pub CommitGives : {S : Type 0} → (S → Told) → Bool → TxnSession S → TxnSession S
+    → TransactionId → Result (Result (List Answers) TransactionError) CommitFault → Type 0
+CommitGives told sure old new id result =
     (FitsTogether old → FitsTogether new)
     × by_stop (stop_of old)
     ((result ≡ Ok (Err conditions.UnknownId)) × SameSession old new)
     (CommittedIn (held_of old) (held_of new) (told_of told old) (told_of told new) id
-    (below_of new ≡ below_of old) result × StopAfterCommit result (stop_of new)
-    × (owed_of new ≤ frame_count_of new))
+    (below_of new ≡ below_of old) result × HandsSurely sure result
+    × StopAfterCommit result (stop_of new) × (owed_of new ≤ frame_count_of new))
 
 -- a rollback; what the session keeps goes on to fit together, and no more looks are owed than
 -- frames are kept

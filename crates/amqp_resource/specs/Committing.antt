@@ -1,54 +1,76 @@
--- What handing the frames of a commit leaves.
-use Rattle.std.specs.Prelude.{ℕ, ◌≡◌, ◌≤◌, ◌⊎◌, Some, Result, Ok, Err, List, [], length, take, map, slice_get, OnErr}
+-- What a commit does below: its frames are reviewed together, and where they are accepted they are
+-- handed one after another.
+use Rattle.std.specs.Prelude.{ℕ, ◌≡◌, ◌≤◌, Bool, true, Result, Ok, Err, List, [], ◌∷◌, length, take, map}
 use Rattle.std.specs.List.{zip}
 use Rattle.amqp_txn_types.specs.declared.performatives.Frame.{Frame}
-use Rattle.amqp_txn_types.specs.Frames.{stripped}
+use Rattle.amqp_txn_types.specs.declared.small.TransactionError.{TransactionError}
+use Rattle.amqp_txn_types.specs.declared.small.TransactionError.TheVariants as conditions
 use Rattle.amqp_layer.specs.declared.answers.Answers.{Answers}
-use Rattle.amqp_layer.specs.declared.inner_error.SessionInnerError.{SessionInnerError}
-use Rattle.amqp_layer.specs.declared.refusal.Refusal.{Refusal}
-use Rattle.amqp_layer.specs.Told.{Told, refusal_of}
+use Rattle.amqp_layer.specs.declared.inner_error.SessionInnerError.TheVariants as faults
+use Rattle.amqp_layer.specs.Told.{Told}
 use Rattle.amqp_txn_types.specs.Growing.{grown}
 use Rattle.amqp_txn_types.specs.Counts.{Rose}
 use Rattle.amqp_layer.specs.Windows.{AllWindowsFit}
-use Rattle.amqp_resource.specs.declared.outcomes.HandError.{HandError}
 use Rattle.amqp_layer.specs.Taking.{TookFrames}
+use Rattle.amqp_sessions.specs.declared.transacting.CommitFault.{CommitFault}
+use Rattle.amqp_sessions.specs.declared.transacting.CommitFault.TheVariants as commit_faults
 
 -- what was given back
 abbrev pub given_of : List Answers → List (List Frame)
 given_of answers = map (λ (a : Answers). a.given) answers
 
--- these frames were handed, stripped, each with its answers
-pub record HandedSome (old new : Told) (kept : List Frame) (echoes : List Answers) : Type 0 where
-  pub taken : new.taken ≡ grown old.taken (zip (map stripped kept) (given_of echoes))
-  pub opened : new.opened ≡ old.opened
-  pub refused : new.refused ≡ old.refused
-  pub fits : AllWindowsFit kept echoes
+-- these frames were taken, in order, each with its answers
+pub record HandedSome (old new : Told) (handed : List Frame) (echoes : List Answers) : Type 0 where
+  pub taken : new.taken ≡ grown old.taken (zip handed (given_of echoes))
+  pub fits : AllWindowsFit handed echoes
 
--- what the refusal of the frame at a place adds, or nothing where a frame was taken before
-abbrev pub RefusedAt : List Frame → ℕ → SessionInnerError → List Refusal → Type 0
-RefusedAt handed at error more =
-    ((f : Frame) × (slice_get handed at ≡ Some f) × (more ≡ refusal_of f error))
-    ⊎ ((more ≡ []) × (1 ≤ at))
+-- none of these frames, of which there are some, was taken
+pub record HandedNone (old new : Told) (handed : List Frame) : Type 0 where
+  pub some : 1 ≤ length handed
+  pub taken : new.taken ≡ old.taken
 
--- the first of these frames were handed, and then a refusal
-pub record HandedPart (old new : Told) (kept : List Frame) (error : SessionInnerError)
-    (handed : ℕ) : Type 0 where
-  pub some : 1 ≤ length kept
-  pub within : handed ≤ length kept
-  pub took : TookFrames old.taken new.taken (take handed (map stripped kept))
-  pub opened : new.opened ≡ old.opened
-  pub refused : (more : List Refusal) × RefusedAt (map stripped kept) handed error more
-      × (new.refused ≡ grown old.refused more)
+-- the first of these frames were taken, and then memory lacked
+pub record HandedPart (old new : Told) (handed : List Frame) (at : ℕ) : Type 0 where
+  pub some : 1 ≤ length handed
+  pub within : at ≤ length handed
+  pub took : TookFrames old.taken new.taken (take at handed)
 
--- by the answer
-abbrev pub HandedAll : Told → Told → List Frame → Result (List Answers) HandError → Type 0
-HandedAll old new kept (Ok echoes) = HandedSome old new kept echoes
-HandedAll old new kept (Err e) = HandedPart old new kept e.error e.handed
+-- by the answer: all were taken, or they were vetoed, or memory lacked below
+abbrev pub HandedAll : Told → Told → List Frame
+    → Result (Result (List Answers) TransactionError) CommitFault → Type 0
+HandedAll old new handed (Ok (Ok echoes)) = HandedSome old new handed echoes
+HandedAll old new handed (Ok (Err error)) =
+    (error ≡ conditions.Rollback) × HandedNone old new handed
+HandedAll old new handed (Err (commit_faults.Refused error at)) =
+    (error ≡ faults.NoMemory) × HandedPart old new handed at
+HandedAll old new handed (Err commit_faults.NoMemory) = ⊥
+
+-- a veto adds the frames that were reviewed
+abbrev pub vetoed_of : List Frame → Result (Result (List Answers) TransactionError) CommitFault
+    → List (List Frame)
+vetoed_of handed (Ok (Err error)) = handed ∷ []
+vetoed_of handed _ = []
+
+-- a veto comes only where the vetoes rose, want of memory below only where the refusals did
+abbrev pub HandCause : Told → Told → Result (Result (List Answers) TransactionError) CommitFault
+    → Type 0
+HandCause old new (Ok (Ok echoes)) = Unit {0}
+HandCause old new (Ok (Err error)) = Rose old.reviews.vetoes new.reviews.vetoes
+HandCause old new (Err fault) = Rose old.refusals new.refusals
 
 -- the frames of a commit through the layer below
-pub record HandsAll (old new : Told) (kept : List Frame)
-    (result : Result (List Answers) HandError) : Type 0 where
-  pub handed : HandedAll old new kept result
+pub record HandsAll (old new : Told) (frames : List Frame)
+    (result : Result (Result (List Answers) TransactionError) CommitFault) : Type 0 where
+  pub handed : HandedAll old new frames result
+  pub opened : new.opened ≡ old.opened
+  pub refused : new.refused ≡ old.refused
+  pub vetoed : new.reviews.vetoed ≡ grown old.reviews.vetoed (vetoed_of frames result)
   pub fixed : new.fixed ≡ old.fixed
   pub later : old.refusals ≤ new.refusals
-  pub cause : OnErr result (Rose old.refusals new.refusals)
+  pub counted : old.reviews.vetoes ≤ new.reviews.vetoes
+  pub cause : HandCause old new result
+
+-- over a sure layer memory lacks in the review alone
+abbrev pub HandsSurely : Bool → Result (Result (List Answers) TransactionError) CommitFault → Type 0
+HandsSurely sure (Err (commit_faults.Refused error at)) = sure ≡ true → at ≡ 0
+HandsSurely sure _ = Unit {0}

@@ -3,6 +3,7 @@ use Rattle.std.specs.Prelude.{ℕ, ◌≡◌, Result, Ok, Err, List, length}
 use Rattle.amqp_txn_types.specs.declared.id.TransactionId.{TransactionId}
 use Rattle.amqp_ids.specs.Drawn.{DrawnIds}
 use Rattle.amqp_txn_types.specs.Counts.{Rose}
+use Rattle.amqp_layer.specs.Told.{Told}
 use Rattle.amqp_ids.specs.Ids.{AreNext}
 use Rattle.amqp_record.specs.declared.step.Step.{Step}
 use Rattle.amqp_record.specs.declared.reply.Reply.{Reply}
@@ -27,10 +28,11 @@ Completed (Ok out) = DoesIt out.1
 Completed (Err errors.NoMemory) = Unit {0}
 Completed (Err _) = ⊥
 
--- the premises: the step is valid, and no refusal was counted
-pub record InOrder (before now : ℕ) (ids : ℕ → TransactionId) (r : List Entry) (s : Step)
+-- the premises: the step is valid, and neither a refusal nor a veto was counted
+pub record InOrder (old new : Told) (ids : ℕ → TransactionId) (r : List Entry) (s : Step)
     (n : List TransactionId) : Type 0 where
   pub next : AreNext ids 0 n
   pub count : length n ≡ 16
   pub valid : Valid r s n
-  pub quiet : Rose before now → ⊥
+  pub quiet : Rose old.refusals new.refusals → ⊥
+  pub calm : Rose old.reviews.vetoes new.reviews.vetoes → ⊥

@@ -1,5 +1,5 @@
 -- What driving a list of steps leaves.
-use Rattle.std.specs.Prelude.{ℕ, ◌≡◌, ◌≤◌, ◌+◌, ◌-◌, ◌^◌, ◌⊎◌, Bool, true, false, not, min, Option, Some, None, List, [], ◌∷◌, ◌++◌, length, take, MatchBool, if◌then◌else◌}
+use Rattle.std.specs.Prelude.{ℕ, ◌≡◌, ◌≤◌, ◌+◌, ◌-◌, ◌^◌, ◌⊎◌, Bool, true, false, not, min, Option, Some, None, List, ◌∷◌, ◌++◌, length, take, MatchBool, if◌then◌else◌}
 use Rattle.std.specs.List.{sum_by}
 use Rattle.amqp_txn_types.specs.declared.performatives.Frame.{Frame}
 use Rattle.amqp_layer.specs.declared.inner_error.SessionInnerError.{SessionInnerError}
@@ -15,10 +15,11 @@ use Rattle.amqp_record.specs.Entries.{steps_of}
 use Rattle.amqp_record.specs.Hands.{hands}
 use Rattle.amqp_record.specs.Work.{pairs}
 use Rattle.amqp_record.specs.Opened.{refuses, attach_refused_count}
+use Rattle.amqp_record.specs.Vetoed.{veto_count}
 use Rattle.amqp_record.specs.Stops.{code_of}
 use Rattle.amqp_resource.specs.declared.session.TxnSession.{TxnSession}
 use Rattle.amqp_layer.specs.Taking.{TookFrames}
-use Rattle.amqp_resource.specs.Steps.{is_unknown, ended_by, takes_memory, UnderDead, MayFault, AddsRefusal}
+use Rattle.amqp_resource.specs.Steps.{is_unknown, ended_by, takes_memory, StopsSurely, UnderDead, MayFault, AddsRefusal}
 use Rattle.amqp_resource.specs.Looking.{frames_added}
 use Rattle.amqp_resource.specs.Session.{StandsFor, stop_of}
 
@@ -48,7 +49,7 @@ IfRefusal _ P Q = P
 abbrev pub StopCause : List Step → List Entry → Stop → Type 0
 StopCause all r stops.Done = steps_of r ≡ all
 StopCause all r (stops.Fault error) =
-    NextStep all r (λ s. MatchBool (is_unknown error) (UnderDead r s) (MayFault r s))
+    NextStep all r (λ s. MatchBool (is_unknown error) (UnderDead r s) (MayFault r s error))
 StopCause all r (stops.Ended reason) = NextStep all r (λ s. ended_by s ≡ Some reason)
 StopCause all r stops.NoMemory = NextStep all r (λ s. takes_memory r s ≡ true)
 
@@ -69,6 +70,11 @@ RunRefused old new all r stop handed =
     (λ error. NextStep all r (λ s. (more : List Refusal)
     × AddsRefusal s (hands r s) handed error more × (new ≡ grown old (refuses r ++ more))))
 
+-- a refusal below in a commit, over a sure layer: no frame of it was taken
+abbrev pub RunStopsSurely : Bool → List Step → List Entry → Stop → ℕ → Type 0
+RunStopsSurely sure all r stop handed =
+    IfRefusal stop (Unit {0}) (λ error. NextStep all r (λ s. StopsSurely sure s handed))
+
 -- the session after the run: it stands for the record, or keeps the code of its stop
 abbrev pub RunLeaves : {S : Type 0} → TxnSession S → List Entry → Stop → Type 0
 RunLeaves x r stops.Done = StandsFor x r × (stop_of x ≡ None)
@@ -80,6 +86,10 @@ RunLeaves x r stop = stop_of x ≡ Some (code_of stop)
 abbrev pub RunRose : ℕ → ℕ → List Entry → Stop → Type 0
 RunRose before now r stop =
     min (before + attach_refused_count r + (if is_refusal stop then 1 else 0)) (2 ^ 64 - 1) ≤ now
+
+-- the count of vetoes rose by one for each veto, or stands at its last value
+abbrev pub RunVetoed : ℕ → ℕ → List Entry → Type 0
+RunVetoed before now r = min (before + veto_count r) (2 ^ 64 - 1) ≤ now
 
 -- the stop, or want of memory
 abbrev pub StopsWith : Stop → Stop → Type 0

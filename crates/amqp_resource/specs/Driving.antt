@@ -1,5 +1,5 @@
 -- What driving a list of steps gives.
-use Rattle.std.specs.Prelude.{ℕ, ◌≡◌, ◌≤◌, ◌↔◌, Option, Some, List, length, take}
+use Rattle.std.specs.Prelude.{ℕ, ◌≡◌, ◌≤◌, ◌↔◌, Bool, Option, Some, List, length, take}
 use Rattle.amqp_txn_types.specs.declared.id.TransactionId.{TransactionId}
 use Rattle.amqp_txn_types.specs.declared.delivery.SessionStopReason.{SessionStopReason}
 use Rattle.amqp_txn_types.specs.Growing.{grown}
@@ -12,13 +12,14 @@ use Rattle.amqp_record.specs.declared.stop.Stop.TheVariants as stops
 use Rattle.amqp_record.specs.Entries.{drawn_of, steps_of}
 use Rattle.amqp_record.specs.Legal.{IsLegal}
 use Rattle.amqp_record.specs.Opened.{opens}
+use Rattle.amqp_record.specs.Vetoed.{vetoes}
 use Rattle.amqp_resource.specs.declared.session.TxnSession.{TxnSession}
-use Rattle.amqp_resource.specs.Drive.{NextStep, RunLeaves, RunRefused, RunRose, RunTook, StopCause, StopsWith}
+use Rattle.amqp_resource.specs.Drive.{NextStep, RunLeaves, RunRefused, RunRose, RunStopsSurely, RunTook, RunVetoed, StopCause, StopsWith}
 use Rattle.amqp_resource.specs.Steps.{UnderDead, ended_by}
 use Rattle.amqp_resource.specs.Session.{FitsTogether, told_of}
 
 -- the clauses of a run of these steps, each by its name
-pub record DriveSays {S G : Type 0} (told : S → Told) (next : G → ℕ → TransactionId)
+pub record DriveSays {S G : Type 0} (told : S → Told) (sure : Bool) (next : G → ℕ → TransactionId)
     (starts : G → Option (ℕ → TransactionId)) (old new : TxnSession S) (before after : G)
     (all : List Step) (result : Driven) : Type 0 where
   -- The record: each entry is an answer of those before it, to the first of the steps, with the
@@ -36,7 +37,7 @@ pub record DriveSays {S G : Type 0} (told : S → Told) (next : G → ℕ → Tr
   pub ended : (reason : SessionStopReason) → NextStep all result.entries
       (λ s. ended_by s ≡ Some reason) →
       StopsWith result.stop (stops.Ended reason)
-  -- What below took, opened and refused, after what it had before.
+  -- What below took, opened, refused and vetoed, after what it had before.
   pub taken : RunTook (told_of told old).taken (told_of told new).taken
       all result.entries result.stop result.handed
   pub opened : (told_of told new).opened
@@ -44,11 +45,18 @@ pub record DriveSays {S G : Type 0} (told : S → Told) (next : G → ℕ → Tr
   pub refused : RunRefused (told_of told old).refused
       (told_of told new).refused
       all result.entries result.stop result.handed
-  -- Each refusal that was answered was counted, as long as the count can rise.
+  pub vetoed : (told_of told new).reviews.vetoed
+      ≡ grown (told_of told old).reviews.vetoed (vetoes result.entries)
+  -- Over a sure layer no frame of a commit was taken that wanted memory.
+  pub surely : RunStopsSurely sure all result.entries result.stop result.handed
+  -- Each refusal and each veto that was answered was counted, as long as the count can rise.
   pub rose : RunRose (told_of told old).refusals
       (told_of told new).refusals
       result.entries result.stop
+  pub vetoes_rose : RunVetoed (told_of told old).reviews.vetoes (told_of told new).reviews.vetoes
+      result.entries
   pub later : (told_of told old).refusals ≤ (told_of told new).refusals
+  pub counted : (told_of told old).reviews.vetoes ≤ (told_of told new).reviews.vetoes
   pub fixed : (told_of told new).fixed ≡ (told_of told old).fixed
   -- The session stands for the record, or keeps the code of its stop, and what it keeps fits
   -- together.

@@ -4,6 +4,7 @@ use Rattle.std.specs.Prelude.{ℕ, Bool, true, false, not, ◌&&◌, ◌==◌, �
 use Rattle.amqp_txn_types.specs.declared.id.TransactionId.{TransactionId}
 use Rattle.amqp_txn_types.specs.declared.performatives.Frame.{Frame}
 use Rattle.amqp_txn_types.specs.declared.small.AmqpError.TheVariants as amqp_errors
+use Rattle.amqp_txn_types.specs.declared.small.TransactionError.{TransactionError}
 use Rattle.amqp_txn_types.specs.declared.small.TransactionError.TheVariants as transaction_errors
 use Rattle.amqp_txn_types.specs.Frames.{txn, is_coordinator_attach, is_plain_frame, stripped}
 use Rattle.amqp_txn_codec.specs.declared.message.ControlMessageBody.{ControlMessageBody}
@@ -33,7 +34,7 @@ use Rattle.amqp_resource.specs.Held.{Tied, is_in, is_kept_on, kept_without, unle
 use Rattle.amqp_resource.specs.Draws.{DrewLive, DrewUnused, is_kept}
 use Rattle.amqp_resource.specs.Steps.{AddsRefusal, OpenedBy, RefusedBy, is_unknown, stop_takes_memory}
 use Rattle.amqp_layer.specs.Taking.{TakesFrame, TookFrames}
-use Rattle.amqp_resource.specs.Committing.{HandedSome}
+use Rattle.amqp_resource.specs.Committing.{HandsAll}
 
 -- what is kept fits together: the ids of each link are the live ids that were declared on it, and
 -- no open link has the number of one that is yet to be opened
@@ -127,7 +128,7 @@ pub record DeclareKeeps (k : ℕ) (old new : Held) (told now : Told)
 -- a rollback hands nothing, a commit the frames that were kept, each stripped
 abbrev pub DischargeHands : Told → Told → Bool → List Frame → List Answers → Type 0
 DischargeHands told now true kept echoes = (echoes ≡ []) × (now ≡ told)
-DischargeHands told now false kept echoes = HandedSome told now kept echoes
+DischargeHands told now false kept echoes = HandsAll told now (map stripped kept) (Ok (Ok echoes))
 
 -- an id that is discharged is live and was declared on the link: it is kept no more, and all else
 -- stays
@@ -145,6 +146,20 @@ AcceptKeeps k old new told now (Some (messages.Discharge discharge)) echoes =
     DischargeKeeps k old new told now discharge.txn_id (is_rollback discharge.fail) echoes
 AcceptKeeps k old new told now _ echoes = ⊥
 
+-- only a commit is vetoed: its id is live and was declared on the link; it is kept no more, its
+-- frames, each stripped, were vetoed, and all else stays
+pub record VetoKeeps (k : ℕ) (old new : Held) (told now : Told) (id : TransactionId) : Type 0 where
+  pub live : (t : TransactionId) → kept new.work t ≡ kept_without id old.work t
+  pub links : SameLinks old new
+  pub vetoed : HandsAll told now (map stripped (frames_kept (kept old.work id)))
+      (Ok (Err transaction_errors.Rollback))
+  pub kept : is_kept_on k (kept old.work id) ≡ true
+
+abbrev pub Vetoes : ℕ → Held → Held → Told → Told → Option ControlMessageBody → Type 0
+Vetoes k old new told now (Some (messages.Discharge discharge)) =
+    (is_rollback discharge.fail ≡ false) × VetoKeeps k old new told now discharge.txn_id
+Vetoes k old new told now _ = ⊥
+
 -- rejected is a declare with a global id, one for which 16 live ids were drawn, and a discharge of
 -- an id that isn't live or wasn't declared on the link; only a declare draws
 abbrev pub Rejects : ℕ → Live → List TransactionId → RejectText → Option ControlMessageBody
@@ -156,6 +171,15 @@ Rejects k live drawn texts.IdsRepeat (Some (messages.Declare declare)) =
 Rejects k live drawn texts.Absent (Some (messages.Discharge discharge)) =
     (is_kept_on k (kept live discharge.txn_id) ≡ false) × (drawn ≡ [])
 Rejects k live drawn _ _ = ⊥
+
+-- what is rejected, by the condition: an unknown id changes nothing, a veto ends the id
+abbrev pub RejectKeeps : ℕ → Held → Held → Told → Told → Option ControlMessageBody
+    → List TransactionId → TransactionError → RejectText → Type 0
+RejectKeeps k old new told now message drawn transaction_errors.UnknownId text =
+    Rejects k old.work drawn text message × NothingChanges old new told now
+RejectKeeps k old new told now message drawn transaction_errors.Rollback texts.Absent =
+    (drawn ≡ []) × Vetoes k old new told now message
+RejectKeeps k old new told now message drawn _ _ = ⊥
 
 -- a control message, by whether its link is open; only a declare draws
 abbrev pub ControlKeeps : ℕ → Held → Held → Told → Told → Option ControlMessageBody
@@ -169,8 +193,7 @@ ControlKeeps k old new told now message drawn true (replies.Declared id) =
 ControlKeeps k old new told now message drawn true (replies.Accepted echoes) =
     (drawn ≡ []) × AcceptKeeps k old new told now message echoes
 ControlKeeps k old new told now message drawn true (replies.Rejected error text) =
-    (error ≡ transaction_errors.UnknownId) × Rejects k old.work drawn text message
-    × NothingChanges old new told now
+    RejectKeeps k old new told now message drawn error text
 ControlKeeps k old new told now message drawn _ _ = ⊥
 
 -- the end of a link, by whether it is open
@@ -226,19 +249,20 @@ abbrev pub FrameCalls : Live → Frame → Option TransactionId → Type 0
 FrameCalls live frame None = is_coordinator_attach frame ≡ false
 FrameCalls live frame (Some t) = (is_kept live t ≡ true) × (1 ≤ length (answered_under t frame))
 
--- a step that a refusal below may stop: such a frame, and a commit with at least one frame
-abbrev pub StepCalls : Held → Step → Type 0
-StepCalls h (steps.Frame frame) = FrameCalls h.work frame (txn frame)
-StepCalls h (steps.Control k payload) =
-    1 ≤ length (message_hands k h.work (message_of payload))
-StepCalls h _ = ⊥
+-- a step that a refusal below may stop: such a frame, and a commit with at least one frame, which
+-- wants memory
+abbrev pub StepCalls : Held → Step → SessionInnerError → Type 0
+StepCalls h (steps.Frame frame) error = FrameCalls h.work frame (txn frame)
+StepCalls h (steps.Control k payload) error =
+    (1 ≤ length (message_hands k h.work (message_of payload))) × (error ≡ faults.NoMemory)
+StepCalls h _ error = ⊥
 
 -- a refusal below stopped the step: the first `handed` of what it hands were taken, nothing was
 -- opened, and what was refused is the next of them, with the layer's own error, or nothing, where
 -- an outgoing disposition may have been refused
 pub record StepRefused (old : Held) (told now : Told) (s : Step) (error : SessionInnerError)
     (handed : ℕ) : Type 0 where
-  pub calls : StepCalls old s
+  pub calls : StepCalls old s error
   pub took : TookPart told now (step_hands old s) handed
   pub opened : now.opened ≡ told.opened
   pub refused : (more : List Refusal) × AddsRefusal s (step_hands old s) handed error more

@@ -13,6 +13,7 @@ pub mod Calls
 pub mod Opening
 pub mod Passing
 pub mod Hearing
+pub mod Reviewing
 pub mod SessionLaws
 pub mod Drive
 pub mod Driving

@@ -37,7 +37,11 @@ stop_of x = x.stop
 abbrev pub refusals_of : {S : Type 0} → TxnSession S → ℕ
 refusals_of x = x.refusals
 
--- what a session tells of itself: none of the lists, its own count, and what its layer below never
+-- how often it vetoed a review
+abbrev pub vetoes_of : {S : Type 0} → TxnSession S → ℕ
+vetoes_of x = x.vetoes
+
+-- what a session tells of itself: none of the lists, its own counts, and what its layer below never
 -- changes
 abbrev pub own_told : {S : Type 0} → (S → Told) → TxnSession S → Told
 own_told told x = record {
@@ -45,6 +49,7 @@ own_told told x = record {
   opened = None;
   refused = None;
   refusals = refusals_of x;
+  reviews = record { vetoes = vetoes_of x; vetoed = None };
   fixed = (told (below_of x)).fixed;
 }
 

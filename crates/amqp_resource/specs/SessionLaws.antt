@@ -1,22 +1,26 @@
 -- What the incoming frame calls of a session leave of the session below it: the law of `Session`
 -- for a session over another.
 use Rattle.std.specs.Prelude.{ℕ, ◌≡◌, Bool, true, false, MatchBool, Option, Some, None, Result, Ok, Err, List}
-use Rattle.std.proofs.Common.{refl, ap, inl, inr, sym, subst}
+use Rattle.std.proofs.Common.{ap, inl, inr, sym, subst}
 use Rattle.amqp_txn_types.specs.declared.id.TransactionId.{TransactionId}
+use Rattle.amqp_txn_types.specs.declared.items.NoMemory.{NoMemory}
 use Rattle.amqp_txn_types.specs.declared.performatives.Attach.{Attach}
 use Rattle.amqp_txn_types.specs.declared.performatives.Frame.{Frame}
 use Rattle.amqp_txn_types.specs.declared.performatives.Frame.TheVariants as frames
 use Rattle.amqp_txn_types.specs.Frames.{is_coordinator_attach, txn}
 use Rattle.amqp_layer.specs.declared.inner_error.SessionInnerError.{SessionInnerError}
 use Rattle.amqp_layer.specs.declared.inner_error.SessionInnerError.TheVariants as faults
+use Rattle.amqp_layer.specs.declared.verdict.Verdict.{Verdict}
+use Rattle.amqp_layer.specs.declared.verdict.Verdict.TheVariants as verdicts
 use Rattle.amqp_layer.specs.Told.{Told}
-use Rattle.amqp_sessions.specs.Names.{AttachLeaves, FrameLeaves, LeftBy, Names, OpensLink as OpensName, SameNames}
-use Rattle.amqp_sessions.specs.Sessions.{Kept, LeavesFrame, LeavesOpening}
+use Rattle.amqp_sessions.specs.Names.{FrameLeaves, LeftBy, Names, OpensLink as OpensName, SameNames}
+use Rattle.amqp_sessions.specs.Sessions.{Kept, Leaves, LeavesFrame, LeavesOpening}
 use Rattle.amqp_record.specs.declared.stop.StopCode.{StopCode}
 use Rattle.amqp_resource.specs.declared.held.Held.{Held}
 use Rattle.amqp_resource.specs.declared.session.TxnSession.{TxnSession}
 use Rattle.amqp_resource.specs.Calls.{by_stop}
 use Rattle.amqp_resource.specs.Hearing.{HearsAttach, HearsFrame, HearsKind, HearsUnbound, HearsUnder, OpensBelow, RefusesWith, can_open}
+use Rattle.amqp_resource.specs.Reviewing.{AsksBelow, TxnReviews}
 use Rattle.amqp_resource.specs.Opening.{OpensLink, frames_of}
 use Rattle.amqp_resource.specs.Session.{below_of, held_of, is_live_on, stop_of}
 
@@ -27,13 +31,6 @@ left-map Before After Same (Ok given) f left = f left
 left-map Before After Same (Err faults.NoMemory) f left =
     elim left [ inl before ↦ inl (f before) | inr same ↦ inr same ]
 left-map Before After Same (Err error) f left = left
-
--- the attach of a control link leaves what an attach to a coordinator may
-opens-attach : (coordinator : Bool) (old new : Names) (attach : Attach) → coordinator ≡ true
-    → OpensName old new attach.name → AttachLeaves coordinator old new attach.name
-opens-attach coordinator old new attach is opens =
-    let Leaves : Bool → Type 0 = λ c. AttachLeaves c old new attach.name in
-    subst Leaves (sym is) (inr opens)
 
 module _ {S : Type 0} (told : S → Told) (kept : S → Kept) (names : S → Names) where
   -- a session that is the same has the same names
@@ -91,6 +88,33 @@ module _ {S : Type 0} (told : S → Told) (kept : S → Kept) (names : S → Nam
         names = names-same (below_of old) (below_of new) hears.1.below;
       })
 
+  -- a review, by whether the session has stopped
+  asked-leaves : (gives : S → S → List Frame → Result Verdict NoMemory → Type 0)
+      (law : (old new : S) (list : List Frame) (answer : Result Verdict NoMemory)
+      → gives old new list answer → Leaves (kept old) (kept new) (names old) (names new))
+      (old new : TxnSession S) (list : List Frame) (answer : Result Verdict NoMemory)
+      (stop : Option StopCode)
+      → by_stop stop ((answer ≡ Ok verdicts.Veto) × (below_of new ≡ below_of old))
+      (AsksBelow told gives (below_of old) (below_of new) list answer)
+      → Leaves (kept (below_of old)) (kept (below_of new)) (names (below_of old))
+      (names (below_of new))
+  asked-leaves gives law old new list answer (Some code) answers = record {
+    kept = ap kept answers.1;
+    names = names-same (below_of old) (below_of new) answers.1;
+  }
+  asked-leaves gives law old new list answer None answers =
+      law (below_of old) (below_of new) list answer answers.gave
+
+  pub review-leaves : (gives : S → S → List Frame → Result Verdict NoMemory → Type 0)
+      (law : (old new : S) (list : List Frame) (answer : Result Verdict NoMemory)
+      → gives old new list answer → Leaves (kept old) (kept new) (names old) (names new))
+      (old new : TxnSession S) (list : List Frame) (answer : Result Verdict NoMemory)
+      → TxnReviews told gives old new list answer
+      → Leaves (kept (below_of old)) (kept (below_of new)) (names (below_of old))
+      (names (below_of new))
+  review-leaves gives law old new list answer reviews =
+      asked-leaves gives law old new list answer (stop_of old) reviews.answers
+
   module _ (opens : S → S → Attach → Result (List Frame) SessionInnerError → Type 0)
       (opening_law : (old new : S) (attach : Attach)
       (answer : Result (List Frame) SessionInnerError) → opens old new attach answer
@@ -133,9 +157,8 @@ module _ {S : Type 0} (told : S → Told) (kept : S → Kept) (names : S → Nam
     -- an attach to a coordinator
     coordinator-leaves : (old new : TxnSession S) (attach : Attach)
         (result : Result (List Frame) SessionInnerError)
-        → is_coordinator_attach (frames.Attach attach) ≡ true
         → HearsAttach told opens old new attach result → Left old new (frames.Attach attach) result
-    coordinator-leaves old new attach result is hears =
+    coordinator-leaves old new attach result hears =
         let Answered : Result (List Frame) SessionInnerError → Type 0 =
         Left old new (frames.Attach attach) in
         let left = control-leaves old new attach (can_open old) hears.0 hears.1 in
@@ -145,8 +168,7 @@ module _ {S : Type 0} (told : S → Told) (kept : S → Kept) (names : S → Nam
               (OpensName (names (below_of old)) (names (below_of new)) attach.name)
               (FrameLeaves (names (below_of old)) (names (below_of new)) (frames.Attach attach))
               (SameNames (names (below_of old)) (names (below_of new))) (frames_of hears.0)
-              (opens-attach (is_coordinator_attach (frames.Attach attach)) (names (below_of old))
-              (names (below_of new)) attach is) left.names;
+              (λ opens_link. inr opens_link) left.names;
         })
 
     module _ (gives : S → S → Frame → Result (List Frame) SessionInnerError → Type 0)
@@ -156,17 +178,16 @@ module _ {S : Type 0} (told : S → Told) (kept : S → Kept) (names : S → Nam
       -- a frame under no id
       unbound-leaves : (old new : TxnSession S) (frame : Frame) (coordinator : Bool)
           (result : Result (List Frame) SessionInnerError)
-          → is_coordinator_attach frame ≡ coordinator
           → HearsUnbound told gives opens old new frame coordinator result
           → Left old new frame result
-      unbound-leaves old new frame false result is hears =
+      unbound-leaves old new frame false result hears =
           law (below_of old) (below_of new) frame result hears.took.gave
-      unbound-leaves old new (frames.Attach attach) true result is hears =
-          coordinator-leaves old new attach result is hears
-      unbound-leaves old new (frames.Flow flow) true result is hears = absurd hears
-      unbound-leaves old new (frames.Transfer transfer payload) true result is hears = absurd hears
-      unbound-leaves old new (frames.Disposition disposition) true result is hears = absurd hears
-      unbound-leaves old new (frames.Detach detach) true result is hears = absurd hears
+      unbound-leaves old new (frames.Attach attach) true result hears =
+          coordinator-leaves old new attach result hears
+      unbound-leaves old new (frames.Flow flow) true result hears = absurd hears
+      unbound-leaves old new (frames.Transfer transfer payload) true result hears = absurd hears
+      unbound-leaves old new (frames.Disposition disposition) true result hears = absurd hears
+      unbound-leaves old new (frames.Detach detach) true result hears = absurd hears
 
       -- a frame of a kind that leaves the names, by the id that it is under
       work-leaves : (old new : TxnSession S) (frame : Frame) (id : Option TransactionId)
@@ -175,7 +196,7 @@ module _ {S : Type 0} (told : S → Told) (kept : S → Kept) (names : S → Nam
           → FrameLeaves (names (below_of old)) (names (below_of new)) frame)
           → HearsKind told gives opens old new frame id result → Left old new frame result
       work-leaves old new frame None result leaves hears =
-          unbound-leaves old new frame (is_coordinator_attach frame) result refl hears
+          unbound-leaves old new frame (is_coordinator_attach frame) result hears
       work-leaves old new frame (Some id) result leaves hears =
           under-leaves old new frame id (is_live_on old id) result leaves hears
 
@@ -185,11 +206,13 @@ module _ {S : Type 0} (told : S → Told) (kept : S → Kept) (names : S → Nam
           → HearsKind told gives opens old new frame (txn frame) result → Left old new frame result
       unfolding txn
       kind-leaves old new (frames.Attach attach) result hears =
-          unbound-leaves old new (frames.Attach attach) (is_coordinator_attach (frames.Attach attach)) result
-          refl hears
+          unbound-leaves old new (frames.Attach attach)
+          (is_coordinator_attach (frames.Attach attach)) result
+          hears
       kind-leaves old new (frames.Flow flow) result hears =
-          unbound-leaves old new (frames.Flow flow) (is_coordinator_attach (frames.Flow flow)) result
-          refl hears
+          unbound-leaves old new (frames.Flow flow)
+          (is_coordinator_attach (frames.Flow flow)) result
+          hears
       kind-leaves old new (frames.Transfer transfer payload) result hears =
           work-leaves old new (frames.Transfer transfer payload)
           (txn (frames.Transfer transfer payload)) result (λ same. same) hears
@@ -197,8 +220,9 @@ module _ {S : Type 0} (told : S → Told) (kept : S → Kept) (names : S → Nam
           work-leaves old new (frames.Disposition disposition)
           (txn (frames.Disposition disposition)) result (λ same. same) hears
       kind-leaves old new (frames.Detach detach) result hears =
-          unbound-leaves old new (frames.Detach detach) (is_coordinator_attach (frames.Detach detach)) result
-          refl hears
+          unbound-leaves old new (frames.Detach detach)
+          (is_coordinator_attach (frames.Detach detach)) result
+          hears
 
       -- a frame, by whether the session has stopped
       any-leaves : (old new : TxnSession S) (frame : Frame) (stop : Option StopCode)

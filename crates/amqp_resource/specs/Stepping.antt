@@ -1,5 +1,5 @@
 -- What a step leaves of a session, by its answer.
-use Rattle.std.specs.Prelude.{ℕ, ◌≡◌, ◌≤◌, Option, Some, None, Result, Err, List, [], ◌∷◌, ◌++◌, true, IfSome, IfOk, IfErr, OnErr}
+use Rattle.std.specs.Prelude.{ℕ, ◌≡◌, ◌≤◌, Bool, Option, Some, None, Result, Err, List, [], ◌∷◌, ◌++◌, true, IfSome, IfOk, IfErr, OnErr}
 use Rattle.amqp_txn_types.specs.declared.id.TransactionId.{TransactionId}
 use Rattle.amqp_txn_types.specs.Counts.{Rose}
 use Rattle.amqp_layer.specs.declared.inner_error.SessionInnerError.TheVariants as faults
@@ -8,19 +8,18 @@ use Rattle.amqp_ids.specs.Drawn.{DrawnIds}
 use Rattle.amqp_ids.specs.Ids.{Drew}
 use Rattle.amqp_record.specs.declared.step.Step.{Step}
 use Rattle.amqp_record.specs.declared.reply.Reply.{Reply}
-use Rattle.amqp_record.specs.declared.entry.Entry.{Entry}
 use Rattle.amqp_record.specs.declared.stop.StepError.{StepError}
 use Rattle.amqp_record.specs.declared.stop.StepError.TheVariants as errors
 use Rattle.amqp_record.specs.Answers.{Answer}
 use Rattle.amqp_resource.specs.declared.session.TxnSession.{TxnSession}
-use Rattle.amqp_resource.specs.Steps.{entry_of, ended_by, takes_memory, AnswersEnd, IfEnded, IfRefused, IfUnknown, IsControlAttach, IsFirstStop, MayFault, OnAttachRefused, OnNoMemory, OnNoCall, OpenedBy, RefusedAdds, RefusedBy, TookFirst, TookHands, UnderDead}
+use Rattle.amqp_resource.specs.Steps.{entry_of, ended_by, takes_memory, AnswersEnd, IfEnded, IfRefused, IfUnknown, IsControlAttach, IsFirstStop, MayFault, OnAttachRefused, OnNoMemory, OnNoCall, OnVeto, OpenedBy, RefusedAdds, RefusedBy, StopsSurely, TookFirst, TookHands, UnderDead, VetoedBy}
 use Rattle.amqp_resource.specs.Complete.{InOrder, Completed}
 use Rattle.amqp_resource.specs.Keeping.{AnswerKeeps, UnderUnkept}
-use Rattle.amqp_resource.specs.Session.{FitsTogether, ForEachRecord, SameSession, StandsFor, StopAfter, below_of, held_of, refusals_of, stop_of, told_of}
+use Rattle.amqp_resource.specs.Session.{FitsTogether, ForEachRecord, SameSession, StandsFor, StopAfter, below_of, held_of, refusals_of, stop_of, told_of, vetoes_of}
 
--- the clauses of a step, each by its name: on a session over a layer that tells this, with a source
--- that gives these ids
-pub record StepSays {S G : Type 0} (told : S → Told) (next : G → ℕ → TransactionId)
+-- the clauses of a step, each by its name: on a session over a layer that tells this, and is sure or
+-- not, with a source that gives these ids
+pub record StepSays {S G : Type 0} (told : S → Told) (sure : Bool) (next : G → ℕ → TransactionId)
     (starts : G → Option (ℕ → TransactionId)) (old new : TxnSession S) (before after : G) (s : Step)
     (result : Result (DrawnIds × Reply) StepError) : Type 0 where
   -- A stopped session answers with the code of its first stop, and nothing changes.
@@ -39,7 +38,7 @@ pub record StepSays {S G : Type 0} (told : S → Told) (next : G → ℕ → Tra
       TookHands (told_of told old) (told_of told new) r s out.1))
   pub handed : ForEachRecord old (λ r. IfRefused result (λ error handed.
       TookFirst (told_of told old) (told_of told new) r s handed))
-  -- What below opened and refused.
+  -- What below opened, refused and vetoed.
   pub opened : ForEachRecord old (λ r. IfOk result (λ out.
       OpenedBy (told_of told old) (told_of told new) s out.1))
   pub opened_none : ForEachRecord old (λ r. OnErr result
@@ -49,19 +48,29 @@ pub record StepSays {S G : Type 0} (told : S → Told) (next : G → ℕ → Tra
   pub refused_last : ForEachRecord old (λ r. IfRefused result (λ error handed.
       RefusedAdds (told_of told old) (told_of told new) r s error
       handed))
+  pub vetoed : ForEachRecord old (λ r. IfOk result (λ out.
+      VetoedBy (told_of told old) (told_of told new) r s out.1))
+  pub vetoed_none : ForEachRecord old (λ r. OnErr result
+      ((told_of told new).reviews.vetoed ≡ (told_of told old).reviews.vetoed))
   -- An unknown id is the fault of work under an id that isn't live, and of nothing else.
   pub unknown : ForEachRecord old (λ r.
       UnderDead r s → result ≡ Err (errors.Fault faults.UnknownTxnId 0))
   pub unknown_only : ForEachRecord old (λ r. IfUnknown result (λ handed.
       UnderDead r s × (handed ≡ 0)))
-  -- Every other fault is a refusal below, of a step that makes a call there.
+  -- Every other fault is a refusal below, of a step that makes a call there. In a commit it is
+  -- want of memory, and over a sure layer no frame was taken.
   pub refusal : ForEachRecord old (λ r. IfRefused result
-      (λ error handed. MayFault r s))
+      (λ error handed. MayFault r s error))
+  pub surely : IfRefused result (λ error handed. StopsSurely sure s handed)
   pub refusal_rose : IfRefused result (λ error handed.
       Rose (told_of told old).refusals (told_of told new).refusals)
   pub attach_refused : ForEachRecord old (λ r. OnAttachRefused result
       (Rose (told_of told old).refusals (told_of told new).refusals
       × IsControlAttach s))
+  -- A veto comes only where the vetoes rose.
+  pub veto_rose : OnVeto result
+      (Rose (told_of told old).reviews.vetoes (told_of told new).reviews.vetoes)
+  pub counted : (told_of told old).reviews.vetoes ≤ (told_of told new).reviews.vetoes
   -- An end is answered with its own value; a copy of its error may want memory.
   pub ended : stop_of old ≡ None → AnswersEnd (ended_by s) result
   pub ended_only : IfEnded result (λ reason. ended_by s ≡ Some reason)
@@ -87,15 +96,16 @@ pub record StepSays {S G : Type 0} (told : S → Told) (next : G → ℕ → Tra
       result ≡ Err (errors.Fault faults.UnknownTxnId 0)
   pub attach_rose : OnAttachRefused result
       (Rose (told_of told old).refusals (told_of told new).refusals)
-  -- The count of its own calls, those of its traits, has no part in it.
+  -- The counts of its own calls, those of its traits, have no part in it.
   pub refusals : refusals_of new ≡ refusals_of old
+  pub vetoes : vetoes_of new ≡ vetoes_of old
   -- The stop that is kept.
   pub stops : stop_of old ≡ None → StopAfter result (stop_of new)
   -- The ids drawn are the source's next ones, and every error leaves the source.
   pub drew : IfOk result (λ out. Drew (next before) (next after) out.0.ids)
   pub source : OnErr result (after ≡ before)
   pub start : starts after ≡ starts before
-  -- A valid step during which no refusal is counted does what was asked, or wants memory.
+  -- A valid step during which neither a refusal nor a veto is counted does what was asked, or
+  -- wants memory.
   pub complete : ForEachRecord old (λ r. (n : List TransactionId) →
-      InOrder (told_of told old).refusals (told_of told new).refusals
-      (next before) r s n → Completed result)
+      InOrder (told_of told old) (told_of told new) (next before) r s n → Completed result)

@@ -3,6 +3,7 @@
 use Rattle.std.specs.Prelude.{ℕ, Bool, true, false, not, ◌&&◌, ◌≡◌, ◌≤◌, ◌⊎◌, ⊤, Option, Some, None, Result, Ok, Err, List, [], ◌∷◌, ◌++◌, length, take, slice_get, is_some, is_none, MatchBool}
 use Rattle.std.specs.List.{zip}
 use Rattle.amqp_txn_types.specs.declared.id.TransactionId.{TransactionId}
+use Rattle.amqp_txn_types.specs.declared.small.TransactionError.TheVariants as transaction_errors
 use Rattle.amqp_txn_types.specs.declared.delivery.Error.{Error}
 use Rattle.amqp_txn_types.specs.declared.delivery.ConnectionStopReason.{ConnectionStopReason}
 use Rattle.amqp_txn_types.specs.declared.delivery.ConnectionStopReason.TheVariants as stop_reasons
@@ -31,10 +32,12 @@ use Rattle.amqp_record.specs.Links.{is_open}
 use Rattle.amqp_record.specs.Live.{is_live, is_held_on}
 use Rattle.amqp_record.specs.Hands.{hands}
 use Rattle.amqp_txn_codec.specs.Discharges.{is_rollback}
-use Rattle.amqp_record.specs.Work.{given_by}
+use Rattle.amqp_record.specs.Work.{given_by, handed_by}
 use Rattle.amqp_record.specs.Answers.{Answer}
 use Rattle.amqp_txn_types.specs.Presumptive.{answered_under}
 use Rattle.amqp_record.specs.Opened.{opened_by, refused_by}
+use Rattle.amqp_record.specs.Vetoed.{vetoed_by}
+use Rattle.amqp_record.specs.Entries.{is_veto}
 use Rattle.amqp_resource.specs.declared.held.Held.{Held}
 use Rattle.amqp_resource.specs.Held.{Stands}
 use Rattle.amqp_layer.specs.Taking.{TookFrames}
@@ -97,11 +100,12 @@ FrameMayFault r frame None = is_coordinator_attach frame ≡ false
 FrameMayFault r frame (Some t) = (is_live r t ≡ true) × (1 ≤ length (answered_under t frame))
 
 -- a step that a refusal below may stop: a plain frame, a post that is answered with a disposition,
--- a commit with at least one frame
-abbrev pub MayFault : List Entry → Step → Type 0
-MayFault r (steps.Frame frame) = FrameMayFault r frame (txn frame)
-MayFault r (steps.Control k payload) = 1 ≤ length (hands r (steps.Control k payload))
-MayFault r _ = ⊥
+-- a commit with at least one frame, which wants memory
+abbrev pub MayFault : List Entry → Step → SessionInnerError → Type 0
+MayFault r (steps.Frame frame) error = FrameMayFault r frame (txn frame)
+MayFault r (steps.Control k payload) error =
+    (1 ≤ length (hands r (steps.Control k payload))) × (error ≡ faults.NoMemory)
+MayFault r _ error = ⊥
 
 -- an id, if there is one, is live
 abbrev pub is_live_under : List Entry → Option TransactionId → Bool
@@ -161,9 +165,11 @@ AddsRefusal s handed at error more =
 
 -- ---- what an answer leaves
 
--- below took what the step hands, each frame with what the reply says was given back for it
+-- below took what the step hands, each frame with what the reply says was given back for it, and
+-- nothing where the step was rejected
 abbrev pub TookHands : Told → Told → List Entry → Step → Reply → Type 0
-TookHands old new r s reply = new.taken ≡ grown old.taken (zip (hands r s) (given_by s reply))
+TookHands old new r s reply =
+    new.taken ≡ grown old.taken (zip (handed_by r s reply) (given_by s reply))
 
 -- below took the first frames of those that the step hands
 abbrev pub TookFirst : Told → Told → List Entry → Step → ℕ → Type 0
@@ -177,6 +183,11 @@ OpenedBy old new s reply = new.opened ≡ grown old.opened (opened_by s reply)
 -- below refused what the reply says
 abbrev pub RefusedBy : Told → Told → Step → Reply → Type 0
 RefusedBy old new s reply = new.refused ≡ grown old.refused (refused_by s reply)
+
+-- below vetoed what the step hands, where the reply says so, and else nothing
+abbrev pub VetoedBy : Told → Told → List Entry → Step → Reply → Type 0
+VetoedBy old new r s reply =
+    new.reviews.vetoed ≡ grown old.reviews.vetoed (vetoed_by r s reply)
 
 -- below refused what the fault adds
 abbrev pub RefusedAdds : Told → Told → List Entry → Step → SessionInnerError → ℕ → Type 0
@@ -193,14 +204,16 @@ pub record StepAnswered (h : Held) (old new : Told) (r : List Entry) (s : Step) 
   pub taken : TookHands old new r s reply
   pub opened : OpenedBy old new s reply
   pub refused : RefusedBy old new s reply
+  pub vetoed : VetoedBy old new r s reply
 
 -- a refusal below stopped the step: the first frames of what it hands were taken
 pub record Refused (old new : Told) (r : List Entry) (s : Step) (error : SessionInnerError)
     (handed : ℕ) : Type 0 where
-  pub fits : MayFault r s
+  pub fits : MayFault r s error
   pub took : TookFirst old new r s handed
   pub opened : new.opened ≡ old.opened
   pub refused : RefusedAdds old new r s error handed
+  pub vetoed : new.reviews.vetoed ≡ old.reviews.vetoed
 
 -- nothing was done, for want of memory
 pub record NothingDone (h : Held) (r : List Entry) (s : Step) : Type 0 where
@@ -235,14 +248,21 @@ abbrev pub IfAttachRefused : Reply → Type 0 → Type 0
 IfAttachRefused (replies.AttachRefused error) P = P
 IfAttachRefused _ P = ⊤
 
+-- a reply that is a veto, with a fact
+abbrev pub IfVeto : Reply → Type 0 → Type 0
+IfVeto (replies.Rejected transaction_errors.Rollback text) P = P
+IfVeto _ P = ⊤
+
 -- when each answer may come on a session that hasn't stopped, whatever it stands for
-abbrev pub StepCause : ℕ → ℕ → Step → Result (DrawnIds × Reply) StepError → Type 0
-StepCause before now s (Ok out) = IfAttachRefused out.1 (Rose before now)
-StepCause before now s (Err (errors.Fault error handed)) =
-    MatchBool (is_unknown error) (IsPost s × (handed ≡ 0)) (Rose before now)
-StepCause before now s (Err (errors.Ended reason)) = ended_by s ≡ Some reason
-StepCause before now s (Err (errors.Stopped code)) = ⊥
-StepCause before now s (Err errors.NoMemory) = Unit {0}
+abbrev pub StepCause : Told → Told → Step → Result (DrawnIds × Reply) StepError → Type 0
+StepCause old new s (Ok out) =
+    IfAttachRefused out.1 (Rose old.refusals new.refusals)
+    × IfVeto out.1 (Rose old.reviews.vetoes new.reviews.vetoes)
+StepCause old new s (Err (errors.Fault error handed)) =
+    MatchBool (is_unknown error) (IsPost s × (handed ≡ 0)) (Rose old.refusals new.refusals)
+StepCause old new s (Err (errors.Ended reason)) = ended_by s ≡ Some reason
+StepCause old new s (Err (errors.Stopped code)) = ⊥
+StepCause old new s (Err errors.NoMemory) = Unit {0}
 
 -- the message is a discharge that rolls back
 abbrev pub rolls_back_by : Option ControlMessageBody → Bool
@@ -256,13 +276,13 @@ asks_rollback _ = false
 
 -- the replies that come without a call below: to the end of a link, to a message or an end on a
 -- link that isn't open, to a payload that closes its link, to a declare, to a message that is
--- rejected, and to a rollback that is accepted
+-- rejected other than by a veto, and to a rollback that is accepted
 abbrev pub calls_nothing : Step → Reply → Bool
 calls_nothing s replies.LinkEnded = true
 calls_nothing s replies.NoLink = true
 calls_nothing s (replies.LinkClosed error) = true
 calls_nothing s (replies.Declared id) = true
-calls_nothing s (replies.Rejected error text) = true
+calls_nothing s (replies.Rejected error text) = not (is_veto (replies.Rejected error text))
 calls_nothing s (replies.Accepted echoes) = asks_rollback s
 calls_nothing s _ = false
 
@@ -279,6 +299,11 @@ abbrev pub IfRefused : Result (DrawnIds × Reply) StepError → (SessionInnerErr
 IfRefused (Err (errors.Fault error handed)) P = MatchBool (is_unknown error) ⊤ (P error handed)
 IfRefused _ P = ⊤
 
+-- a refusal below in a commit, by how many frames were taken: over a sure layer none was
+abbrev pub StopsSurely : Bool → Step → ℕ → Type 0
+StopsSurely sure (steps.Control k payload) handed = sure ≡ true → handed ≡ 0
+StopsSurely sure _ handed = ⊤
+
 -- the fault of an id that isn't live, with how many frames were taken
 abbrev pub IfUnknown : Result (DrawnIds × Reply) StepError → (ℕ → Type 0) → Type 0
 IfUnknown (Err (errors.Fault error handed)) P = MatchBool (is_unknown error) (P handed) ⊤
@@ -293,6 +318,11 @@ IfEnded _ P = ⊤
 abbrev pub OnNoMemory : Result (DrawnIds × Reply) StepError → Type 0 → Type 0
 OnNoMemory (Err errors.NoMemory) P = P
 OnNoMemory _ P = ⊤
+
+-- a veto
+abbrev pub OnVeto : Result (DrawnIds × Reply) StepError → Type 0 → Type 0
+OnVeto (Ok out) P = IfVeto out.1 P
+OnVeto (Err error) P = ⊤
 
 -- a refused attach
 abbrev pub OnAttachRefused : Result (DrawnIds × Reply) StepError → Type 0 → Type 0

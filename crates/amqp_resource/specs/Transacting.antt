@@ -1,13 +1,12 @@
 -- What the transactional calls of a session do. An id that such a call allocates is declared on no
 -- link: no control message discharges it, and no end of a link aborts it.
-use Rattle.std.specs.Prelude.{ℕ, ◌≡◌, true, false, cond, Option, Some, None, Result, Ok, Err, List, []}
+use Rattle.std.specs.Prelude.{ℕ, ◌≡◌, true, false, cond, map, Some, None, Result, Ok, Err, List, []}
 use Rattle.amqp_txn_types.specs.declared.id.TransactionId.{TransactionId}
 use Rattle.amqp_txn_types.specs.declared.performatives.Frame.{Frame}
 use Rattle.amqp_txn_types.specs.declared.small.Accepted.{Accepted}
 use Rattle.amqp_txn_types.specs.declared.small.TransactionError.{TransactionError}
 use Rattle.amqp_txn_types.specs.declared.small.TransactionError.TheVariants as conditions
 use Rattle.amqp_layer.specs.declared.answers.Answers.{Answers}
-use Rattle.amqp_layer.specs.declared.inner_error.SessionInnerError.{SessionInnerError}
 use Rattle.amqp_sessions.specs.declared.transacting.AllocTxnIdError.{AllocTxnIdError}
 use Rattle.amqp_sessions.specs.declared.transacting.AllocTxnIdError.TheVariants as allocations
 use Rattle.amqp_sessions.specs.declared.transacting.CommitFault.{CommitFault}
@@ -18,11 +17,11 @@ use Rattle.amqp_record.specs.declared.stop.StepError.{StepError}
 use Rattle.amqp_record.specs.declared.stop.StepError.TheVariants as errors
 use Rattle.amqp_txn_types.specs.Ids.{same_id}
 use Rattle.amqp_resource.specs.declared.held.Held.{Held}
+use Rattle.amqp_txn_types.specs.Frames.{stripped}
 use Rattle.amqp_resource.specs.Committing.{HandsAll}
 use Rattle.amqp_resource.specs.Draws.{DrewLive, DrewUnused, is_kept}
 use Rattle.amqp_arrivals.specs.Live.{frames_kept, kept}
 use Rattle.amqp_resource.specs.Held.{SameHeld, Tied, ids_on, is_in, kept_without}
-use Rattle.amqp_resource.specs.Steps.{fault_of}
 
 -- the id is live, on no link and with no frames; all else is as it was
 pub record Added (old new : Held) (id : TransactionId) : Type 0 where
@@ -49,22 +48,14 @@ AllocatedIn old new (Err (allocations.IdsRepeat drawn)) =
 AllocatedIn old new (Err allocations.NotImplemented) = ⊥
 AllocatedIn old new (Err allocations.NoMemory) = SameHeld old new
 
--- the layer below refused a frame of a commit; its unknown id is given as an illegal state
-abbrev pub RefusedCommit : Told → Told → List Frame → SessionInnerError → ℕ → Type 0
-RefusedCommit told now kept error handed =
-    (own : SessionInnerError) × (error ≡ fault_of own)
-    × HandsAll told now kept (Err (record { error = own; handed = handed }))
-
--- a commit of a live id with these frames, by its answer: they were handed, all of them or the
--- first, and the id ended; or memory lacked
+-- a commit of a live id with these frames, by its answer: the id ended, and its frames were handed,
+-- each stripped, all of them or the first, or were vetoed; or memory lacked, and nothing changed
 abbrev pub CommittedWith : Held → Held → Told → Told → TransactionId → List Frame → Type 0
-    → Result (List Answers) CommitFault → Type 0
-CommittedWith old new told now id kept Untouched (Ok echoes) =
-    Ended old new id × HandsAll told now kept (Ok echoes)
+    → Result (Result (List Answers) TransactionError) CommitFault → Type 0
 CommittedWith old new told now id kept Untouched (Err commit_faults.NoMemory) =
     SameHeld old new × Untouched
-CommittedWith old new told now id kept Untouched (Err (commit_faults.Refused error handed)) =
-    Ended old new id × RefusedCommit told now kept error handed
+CommittedWith old new told now id kept Untouched answer =
+    Ended old new id × HandsAll told now (map stripped kept) answer
 
 -- the fault of a commit as that of a step
 abbrev pub step_error_of : CommitFault → StepError
@@ -74,15 +65,11 @@ step_error_of (commit_faults.Refused error handed) = errors.Fault error handed
 -- a commit, by its answer: UnknownId where the id isn't live, else that of its frames
 abbrev pub CommittedIn : Held → Held → Told → Told → TransactionId → Type 0
     → Result (Result (List Answers) TransactionError) CommitFault → Type 0
-CommittedIn old new told now id Untouched (Ok (Ok echoes)) =
+CommittedIn old new told now id Untouched (Ok (Err conditions.UnknownId)) =
+    (is_kept old.work id ≡ false) × SameHeld old new × Untouched
+CommittedIn old new told now id Untouched answer =
     (is_kept old.work id ≡ true)
-    × CommittedWith old new told now id (frames_kept (kept old.work id)) Untouched (Ok echoes)
-CommittedIn old new told now id Untouched (Ok (Err error)) =
-    (is_kept old.work id ≡ false) × (error ≡ conditions.UnknownId) × SameHeld old new
-    × Untouched
-CommittedIn old new told now id Untouched (Err fault) =
-    (is_kept old.work id ≡ true)
-    × CommittedWith old new told now id (frames_kept (kept old.work id)) Untouched (Err fault)
+    × CommittedWith old new told now id (frames_kept (kept old.work id)) Untouched answer
 
 -- a rollback: a live id ended
 abbrev pub RolledBackIn : Held → Held → TransactionId → Result Accepted TransactionError → Type 0

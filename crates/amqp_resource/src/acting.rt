@@ -7,7 +7,7 @@ ghost use Rattle.amqp_record.specs.declared.step.Step.TheVariants as steps;
 ghost use Rattle.amqp_resource.specs.Held.{SameHeld};
 ghost use Rattle.amqp_resource.specs.Keeping.{Fits, Keeps};
 ghost use Rattle.amqp_resource.specs.Looking.{Pays, frames_added, frames_ended};
-ghost use Rattle.amqp_resource.specs.Steps.{StepDoes, StepCause, AnswersEnd, OnNoMemory, OnNoCall, ended_by};
+ghost use Rattle.amqp_resource.specs.Steps.{StepDoes, StepCause, AnswersEnd, IfRefused, OnNoMemory, OnNoCall, StopsSurely, ended_by};
 
 use crate::declaring::{declare_step, global_step};
 use crate::discharging::discharge_step;
@@ -38,12 +38,15 @@ fn control_step<S: LayerBelow, G: IdSource, L: Ledger>(
         (steps.Control link payload.now) result }
     ensures keeps { Fits held.old → Keeps held.old held.new (S.told below.old) (S.told below.new)
         (steps.Control link payload.now) result }
-    ensures cause { StepCause (S.told below.old).refusals (S.told below.new).refusals
+    ensures cause { StepCause (S.told below.old) (S.told below.new)
         (steps.Control link payload.now) result }
+    ensures surely { IfRefused result (λ error handed. StopsSurely S.sure
+        (steps.Control link payload.now) handed) }
     ensures same { OnNoMemory result (SameHeld held.old held.new) }
     ensures untouched { OnNoCall (steps.Control link payload.now) result (below.new ≡ below.old) }
     ensures fixed { (S.told below.new).fixed ≡ (S.told below.old).fixed }
     ensures later { (S.told below.old).refusals ≤ (S.told below.new).refusals }
+    ensures counted { (S.told below.old).reviews.vetoes ≤ (S.told below.new).reviews.vetoes }
     ensures drew { IfOk result (λ out. Drew (G.next ids.old) (G.next ids.new) out.0.ids) }
     ensures source { OnErr result (ids.new ≡ ids.old) }
     ensures start { G.start ids.new ≡ G.start ids.old }
@@ -85,13 +88,15 @@ fn act<S: LayerBelow, G: IdSource, L: Ledger>(
         result }
     ensures keeps { Fits held.old → Keeps held.old held.new (S.told below.old) (S.told below.new)
         step.now result }
-    ensures cause { StepCause (S.told below.old).refusals (S.told below.new).refusals step.now
+    ensures cause { StepCause (S.told below.old) (S.told below.new) step.now
         result }
+    ensures surely { IfRefused result (λ error handed. StopsSurely S.sure step.now handed) }
     ensures ended { AnswersEnd (ended_by step.now) result }
     ensures same { OnNoMemory result (SameHeld held.old held.new) }
     ensures untouched { OnNoCall step.now result (below.new ≡ below.old) }
     ensures fixed { (S.told below.new).fixed ≡ (S.told below.old).fixed }
     ensures later { (S.told below.old).refusals ≤ (S.told below.new).refusals }
+    ensures counted { (S.told below.old).reviews.vetoes ≤ (S.told below.new).reviews.vetoes }
     ensures drew { IfOk result (λ out. Drew (G.next ids.old) (G.next ids.new) out.0.ids) }
     ensures source { OnErr result (ids.new ≡ ids.old) }
     ensures start { G.start ids.new ≡ G.start ids.old }
@@ -124,13 +129,15 @@ pub fn take_step<S: LayerBelow, G: IdSource, L: Ledger>(
         result }
     ensures keeps { Fits held.old → Keeps held.old held.new (S.told below.old) (S.told below.new)
         step.now result }
-    ensures cause { StepCause (S.told below.old).refusals (S.told below.new).refusals step.now
+    ensures cause { StepCause (S.told below.old) (S.told below.new) step.now
         result }
+    ensures surely { IfRefused result (λ error handed. StopsSurely S.sure step.now handed) }
     ensures ended { AnswersEnd (ended_by step.now) result }
     ensures same { OnNoMemory result (SameHeld held.old held.new) }
     ensures untouched { OnNoCall step.now result (below.new ≡ below.old) }
     ensures fixed { (S.told below.new).fixed ≡ (S.told below.old).fixed }
     ensures later { (S.told below.old).refusals ≤ (S.told below.new).refusals }
+    ensures counted { (S.told below.old).reviews.vetoes ≤ (S.told below.new).reviews.vetoes }
     ensures drew { IfOk result (λ out. Drew (G.next ids.old) (G.next ids.new) out.0.ids) }
     ensures source { OnErr result (ids.new ≡ ids.old) }
     ensures start { G.start ids.new ≡ G.start ids.old }

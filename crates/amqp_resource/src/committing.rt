@@ -1,46 +1,93 @@
-//! A commit hands its frames one after another.
+//! A commit asks the layer below about its frames, and then hands them one after another.
 
-ghost use Rattle.std.specs.Prelude.{◌≡◌, ◌≤◌, ◌+◌, [], false, length, vec_capacity};
+ghost use Rattle.std.specs.Prelude.{◌≡◌, ◌≤◌, ◌+◌, [], false, true, length, map, vec_capacity};
+ghost use Rattle.std.specs.List.{list_all};
 ghost use Rattle.std.specs.Option.{option_map};
 ghost use Rattle.amqp_txn_types.specs.declared.id.TransactionId.{TransactionId as Id};
+ghost use Rattle.amqp_txn_types.specs.Frames.{stripped};
 ghost use Rattle.amqp_txn_types.specs.Ids.{same_id};
 ghost use Rattle.amqp_arrivals.specs.Live.{frame_count, frames_kept, home_of, kept, owed};
-ghost use Rattle.amqp_resource.specs.Committing.{HandsAll};
+ghost use Rattle.amqp_layer.specs.Reviewing.{is_bare};
+ghost use Rattle.amqp_resource.specs.Committing.{HandsAll, HandsSurely};
 
-use crate::outcomes::{HandError, handed_with};
+use crate::outcomes::refused_after;
 use amqp_arrivals::{LiveWork, Looks};
-use amqp_layer::{Answers, Echoes, LayerBelow, take_frame};
-use amqp_txn_types::{TransactionId, strip};
+use amqp_layer::{Answers, Echoes, LayerBelow, SessionInnerError, Verdict, take_frame};
+use amqp_sessions::CommitFault;
+use amqp_txn_types::{Frame, Frames, TransactionError, TransactionId, strip};
 use std::sync::ledger::Ledger;
 
-/// Takes the frames of an id out and hands them in order, each without its transactional state, to
-/// the first that is refused. Room for their answers is there.
-pub fn hand_all<S: LayerBelow, L: Ledger>(
-    below: &mut S,
+/// Takes the frames of an id out, in order, each without its transactional state, into a list that
+/// has room for them.
+pub fn strip_all<L: Ledger>(
     work: &mut LiveWork,
     id: TransactionId,
-    mut echoes: Vec<Answers>,
+    mut frames: Vec<Frame>,
     looks: &mut Looks<L>,
-) -> Result<Echoes, HandError>
-    requires none { echoes.items ≡ [] }
-    requires room { length (frames_kept (kept work.old id)) ≤ vec_capacity echoes }
-    ensures hands { HandsAll (S.told below.old) (S.told below.new) (frames_kept (kept work.old id))
-        result }
+) -> Frames
+    requires none { frames.items ≡ [] }
+    requires room { length (frames_kept (kept work.old id)) ≤ vec_capacity frames }
+    ensures frames { result ≡ map stripped (frames_kept (kept work.old id)) }
+    ensures bare { list_all is_bare result ≡ true }
+    ensures taken { frames_kept (kept work.new id) ≡ [] }
     ensures others { (t : Id) → same_id t id ≡ false → kept work.new t ≡ kept work.old t }
     ensures homes { (t : Id) → option_map home_of (kept work.new t)
         ≡ option_map home_of (kept work.old t) }
-    ensures looks { looks.new + length (frames_kept (kept work.new id))
-        ≡ looks.old + length (frames_kept (kept work.old id)) }
-    ensures owed { owed work.new + length (frames_kept (kept work.new id))
-        ≡ owed work.old + length (frames_kept (kept work.old id)) }
-    ensures frames { frame_count work.new + length (frames_kept (kept work.old id))
-        ≡ frame_count work.old + length (frames_kept (kept work.new id)) }
+    ensures looks { looks.new ≡ looks.old + length (frames_kept (kept work.old id)) }
+    ensures owed { owed work.new ≡ owed work.old + length (frames_kept (kept work.old id)) }
+    ensures count { frame_count work.new + length (frames_kept (kept work.old id))
+        ≡ frame_count work.old }
 {
     while let Some(taken) = work.take_first(&id, looks) {
-        match take_frame(below, strip(taken)) {
+        frames.push_reserved(strip(taken));
+    }
+    Frames::from_vec(frames)
+}
+
+/// Hands frames that the layer below accepted, in order, to the first for which it wants memory.
+/// Room for their answers is there.
+fn hand_all<S: LayerBelow>(
+    below: &mut S,
+    frames: Frames,
+    mut echoes: Vec<Answers>,
+) -> Result<Result<Echoes, TransactionError>, CommitFault>
+    requires accepted { S.takes below.old frames }
+    requires some { 1 ≤ length frames }
+    requires none { echoes.items ≡ [] }
+    requires room { length frames ≤ vec_capacity echoes }
+    ensures hands { HandsAll (S.told below.old) (S.told below.new) frames result }
+    ensures sure { HandsSurely S.sure result }
+{
+    let mut left = frames.into_vec().into_iter();
+    while let Some(frame) = left.next() {
+        match take_frame(below, frame) {
             Ok(answers) => echoes.push_reserved(answers),
-            Err(refusal) => return Err(handed_with(refusal, echoes.len())),
+            Err(refusal) => return Err(refused_after(refusal, echoes.len())),
         }
     }
-    Ok(Echoes::from_vec(echoes))
+    Ok(Ok(Echoes::from_vec(echoes)))
+}
+
+/// Asks the layer below about some frames, and hands them in order where it accepts them. Room for
+/// their answers is there.
+pub fn hand_reviewed<S: LayerBelow>(
+    below: &mut S,
+    frames: Frames,
+    echoes: Vec<Answers>,
+) -> Result<Result<Echoes, TransactionError>, CommitFault>
+    requires bare { list_all is_bare frames ≡ true }
+    requires some { 1 ≤ length frames }
+    requires none { echoes.items ≡ [] }
+    requires room { length frames ≤ vec_capacity echoes }
+    ensures hands { HandsAll (S.told below.old) (S.told below.new) frames result }
+    ensures sure { HandsSurely S.sure result }
+{
+    match below.review(&frames) {
+        Ok(Verdict::Accept) => hand_all(below, frames, echoes),
+        Ok(Verdict::Veto) => Ok(Err(TransactionError::Rollback)),
+        Err(_) => Err(CommitFault::Refused {
+            error: SessionInnerError::NoMemory,
+            handed: 0,
+        }),
+    }
 }

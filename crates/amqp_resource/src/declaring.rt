@@ -37,7 +37,7 @@ pub fn global_step(
     ensures goes { StepDoesHere held.now held.now (steps.Control link payload.now) result }
     ensures keeps { (told : Told) → Fits held.now
         → Keeps held.now held.now told told (steps.Control link payload.now) result }
-    ensures cause { (n : ℕ) → StepCause n n (steps.Control link payload.now) result }
+    ensures cause { (told : Told) → StepCause told told (steps.Control link payload.now) result }
     ensures same { OnNoMemory result (SameHeld held.now held.now) }
     ensures draws { IfOk result (λ out. out.0 ≡ nothing_drawn) }
 {
@@ -88,7 +88,7 @@ pub fn declare_step<G: IdSource>(
     ensures goes { StepDoesHere held.old held.new (steps.Control link payload.now) result }
     ensures keeps { (told : Told) → Fits held.old
         → Keeps held.old held.new told told (steps.Control link payload.now) result }
-    ensures cause { (n : ℕ) → StepCause n n (steps.Control link payload.now) result }
+    ensures cause { (told : Told) → StepCause told told (steps.Control link payload.now) result }
     ensures same { OnNoMemory result (SameHeld held.old held.new) }
     ensures drew { IfOk result (λ out. Drew (G.next ids.old) (G.next ids.new) out.0.ids) }
     ensures source { OnErr result (ids.new ≡ ids.old) }

@@ -1,44 +1,75 @@
-//! Discharges: a rollback lets its frames go, a commit hands them.
+//! Discharges: a rollback lets its frames go, a commit hands them where they are accepted below.
 
-ghost use Rattle.std.specs.Prelude.{◌≡◌, ◌≤◌, ◌<◌, true, Some, IfOk, length};
+ghost use Rattle.std.specs.Prelude.{◌≡◌, ◌≤◌, ◌<◌, [], true, map, Some, IfOk, length, vec_capacity};
 ghost use Rattle.std.specs.Option.{option_map};
 ghost use Rattle.amqp_txn_codec.specs.Reading.{message_of};
 ghost use Rattle.amqp_txn_codec.specs.declared.message.ControlMessageBody.TheVariants as messages;
-ghost use Rattle.amqp_txn_types.specs.declared.small.TransactionError.TheVariants as transaction_errors;
+ghost use Rattle.amqp_txn_types.specs.Frames.{stripped};
 ghost use Rattle.amqp_record.specs.declared.step.Step.TheVariants as steps;
 ghost use Rattle.amqp_record.specs.declared.reply.Reply.TheVariants as replies;
 ghost use Rattle.amqp_record.specs.declared.reply.RejectText.TheVariants as texts;
 ghost use Rattle.amqp_resource.specs.Held.{SameHeld, is_in};
 ghost use Rattle.amqp_arrivals.specs.Live.{frame_count, frames_kept, home_of, kept, owed};
-ghost use Rattle.amqp_resource.specs.Transacting.{CommittedIn, CommittedWith, RolledBackIn, step_error_of};
+ghost use Rattle.amqp_resource.specs.Committing.{HandsAll, HandsSurely};
+ghost use Rattle.amqp_resource.specs.Transacting.{CommittedIn, CommittedWith, Ended, RolledBackIn, step_error_of};
 ghost use Rattle.amqp_resource.specs.Keeping.{Fits, Keeps};
 ghost use Rattle.amqp_resource.specs.Looking.{Pays, frames_ended};
-ghost use Rattle.amqp_resource.specs.Steps.{StepDoes, StepCause, OnNoMemory, OnNoCall, nothing_drawn};
+ghost use Rattle.amqp_resource.specs.Steps.{StepDoes, StepCause, IfRefused, OnNoMemory, OnNoCall, StopsSurely, nothing_drawn};
 
-use crate::committing::hand_all;
+use crate::committing::{hand_reviewed, strip_all};
 use crate::held::{Held, drop_work, is_declared_on};
-use crate::outcomes::{fault_of, no_draws};
+use crate::outcomes::no_draws;
 use amqp_arrivals::Looks;
 use amqp_ids::Drawn;
-use amqp_layer::{Echoes, LayerBelow};
+use amqp_layer::{Answers, Echoes, LayerBelow};
 use amqp_record::{RejectText, Reply, StepError};
 use amqp_sessions::CommitFault;
 use amqp_txn_codec::{Discharge, rolls_back};
-use amqp_txn_types::{Accepted, Payload, TransactionError, TransactionId};
+use amqp_txn_types::{Accepted, Frame, Payload, TransactionError, TransactionId};
 use std::alloc::Global;
 use std::sync::ledger::{Blank, Ledger};
 
-/// The reply to a discharge of an id that isn't both live and declared on the link.
-fn absent() -> Reply
-    ensures { result ≡ replies.Rejected transaction_errors.UnknownId texts.Absent }
+/// The reply to a discharge that is rejected, without a text.
+fn rejected(error: TransactionError) -> Reply
+    ensures { result ≡ replies.Rejected error texts.Absent }
 {
     Reply::Rejected {
-        error: TransactionError::UnknownId,
+        error,
         text: RejectText::Absent,
     }
 }
 
-/// Commits a live id: room for the answers first, then its frames are handed and it ends.
+/// Ends a live id that has frames, for which and for whose answers there is room, and hands them
+/// below where they are accepted there.
+fn commit_frames<S: LayerBelow, L: Ledger>(
+    held: &mut Held,
+    below: &mut S,
+    id: TransactionId,
+    home: Option<u64>,
+    frames: Vec<Frame>,
+    echoes: Vec<Answers>,
+    looks: &mut Looks<L>,
+) -> Result<Result<Echoes, TransactionError>, CommitFault>
+    requires home { option_map home_of (kept held.old.work id) ≡ Some home }
+    requires some { 1 ≤ length (frames_kept (kept held.old.work id)) }
+    requires no_frames { frames.items ≡ [] }
+    requires frames { length (frames_kept (kept held.old.work id)) ≤ vec_capacity frames }
+    requires no_echoes { echoes.items ≡ [] }
+    requires echoes { length (frames_kept (kept held.old.work id)) ≤ vec_capacity echoes }
+    ensures ended { Ended held.old held.new id }
+    ensures hands { HandsAll (S.told below.old) (S.told below.new)
+        (map stripped (frames_kept (kept held.old.work id))) result }
+    ensures surely { HandsSurely S.sure result }
+    ensures pays { Pays held.old.work held.new.work looks.old looks.new
+        (length (frames_kept (kept held.old.work id))) 0 }
+{
+    let frames = strip_all(&mut held.work, id, frames, looks);
+    drop_work(held, id, home, looks);
+    hand_reviewed(below, frames, echoes)
+}
+
+/// Commits a live id: one without frames just ends; else room for the frames and their answers is
+/// made first.
 fn commit_live<S: LayerBelow, L: Ledger>(
     held: &mut Held,
     below: &mut S,
@@ -46,27 +77,29 @@ fn commit_live<S: LayerBelow, L: Ledger>(
     id: TransactionId,
     home: Option<u64>,
     looks: &mut Looks<L>,
-) -> Result<Echoes, CommitFault>
+) -> Result<Result<Echoes, TransactionError>, CommitFault>
     requires { option_map home_of (kept held.old.work id) ≡ Some home }
     ensures answer { CommittedWith held.old held.new (S.told below.old) (S.told below.new) id
         (frames_kept (kept held.old.work id)) (below.new ≡ below.old) result }
+    ensures surely { HandsSurely S.sure result }
     ensures fixed { (S.told below.new).fixed ≡ (S.told below.old).fixed }
     ensures later { (S.told below.old).refusals ≤ (S.told below.new).refusals }
+    ensures counted { (S.told below.old).reviews.vetoes ≤ (S.told below.new).reviews.vetoes }
     ensures pays { Pays held.old.work held.new.work looks.old looks.new
         (length (frames_kept (kept held.old.work id))) 0 }
 {
-    let Ok(echoes) = Vec::with_capacity(alloc, held.work.count(&id)) else {
+    let count = held.work.count(&id);
+    if count == 0 {
+        drop_work(held, id, home, looks);
+        return Ok(Ok(Echoes::new(alloc)));
+    }
+    let Ok(frames) = Vec::with_capacity(alloc, count) else {
         return Err(CommitFault::NoMemory);
     };
-    let handed = hand_all(below, &mut held.work, id, echoes, looks);
-    drop_work(held, id, home, looks);
-    match handed {
-        Ok(echoes) => Ok(echoes),
-        Err(refusal) => Err(CommitFault::Refused {
-            error: fault_of(refusal.error),
-            handed: refusal.handed,
-        }),
-    }
+    let Ok(echoes) = Vec::with_capacity(alloc, count) else {
+        return Err(CommitFault::NoMemory);
+    };
+    commit_frames(held, below, id, home, frames, echoes, looks)
 }
 
 /// The fault of a commit as that of a step.
@@ -95,25 +128,29 @@ pub fn discharge_step<S: LayerBelow, L: Ledger>(
         (steps.Control link payload.now) result }
     ensures keeps { Fits held.old → Keeps held.old held.new (S.told below.old) (S.told below.new)
         (steps.Control link payload.now) result }
-    ensures cause { StepCause (S.told below.old).refusals (S.told below.new).refusals
+    ensures cause { StepCause (S.told below.old) (S.told below.new)
         (steps.Control link payload.now) result }
+    ensures surely { IfRefused result (λ error handed. StopsSurely S.sure
+        (steps.Control link payload.now) handed) }
     ensures same { OnNoMemory result (SameHeld held.old held.new) }
     ensures untouched { OnNoCall (steps.Control link payload.now) result (below.new ≡ below.old) }
     ensures fixed { (S.told below.new).fixed ≡ (S.told below.old).fixed }
     ensures later { (S.told below.old).refusals ≤ (S.told below.new).refusals }
+    ensures counted { (S.told below.old).reviews.vetoes ≤ (S.told below.new).reviews.vetoes }
     ensures draws { IfOk result (λ out. out.0 ≡ nothing_drawn) }
     ensures pays { Pays held.old.work held.new.work looks.old looks.new
         (frames_ended held.old (steps.Control link payload.now)) 0 }
 {
     if !is_declared_on(&held.work, discharge.txn_id, link) {
-        return Ok((no_draws(alloc), absent()));
+        return Ok((no_draws(alloc), rejected(TransactionError::UnknownId)));
     }
     if rolls_back(discharge.fail) {
         drop_work(held, discharge.txn_id, Some(link), looks);
         return Ok((no_draws(alloc), Reply::Accepted(Echoes::new(alloc))));
     }
     match commit_live(held, below, alloc, discharge.txn_id, Some(link), looks) {
-        Ok(echoes) => Ok((no_draws(alloc), Reply::Accepted(echoes))),
+        Ok(Ok(echoes)) => Ok((no_draws(alloc), Reply::Accepted(echoes))),
+        Ok(Err(error)) => Ok((no_draws(alloc), rejected(error))),
         Err(fault) => Err(step_error_of(fault)),
     }
 }
@@ -128,15 +165,13 @@ fn commit_id<S: LayerBelow, L: Ledger>(
 ) -> Result<Result<Echoes, TransactionError>, CommitFault>
     ensures answer { CommittedIn held.old held.new (S.told below.old) (S.told below.new) id
         (below.new ≡ below.old) result }
+    ensures surely { HandsSurely S.sure result }
     ensures fixed { (S.told below.new).fixed ≡ (S.told below.old).fixed }
 {
     let Some(home) = held.work.home(&id) else {
         return Ok(Err(TransactionError::UnknownId));
     };
-    match commit_live(held, below, alloc, id, home, looks) {
-        Ok(echoes) => Ok(Ok(echoes)),
-        Err(fault) => Err(fault),
-    }
+    commit_live(held, below, alloc, id, home, looks)
 }
 
 /// Commits an id, whichever link declared it, and closes the log up. Its looks are counted in a
@@ -153,6 +188,7 @@ pub fn commit_kept<S: LayerBelow, L: Ledger>(
     requires some { 0 < blank.parts }
     ensures answer { CommittedIn held.old held.new (S.told below.old) (S.told below.new) id
         (below.new ≡ below.old) result }
+    ensures surely { HandsSurely S.sure result }
     ensures fits { Fits held.old → Fits held.new }
     ensures fixed { (S.told below.new).fixed ≡ (S.told below.old).fixed }
     ensures few { owed held.new.work ≤ frame_count held.new.work }

@@ -9,7 +9,8 @@ ghost use Rattle.amqp_record.specs.declared.stop.Stop.TheVariants as stops;
 ghost use Rattle.amqp_record.specs.Entries.{drawn_of, steps_of};
 ghost use Rattle.amqp_record.specs.Legal.{IsLegal};
 ghost use Rattle.amqp_record.specs.Opened.{opens};
-ghost use Rattle.amqp_resource.specs.Drive.{NextStep, RunLeaves, RunRefused, RunRose, RunTook, StopCause, StopsBy, StopsWith, work_count};
+ghost use Rattle.amqp_record.specs.Vetoed.{vetoes};
+ghost use Rattle.amqp_resource.specs.Drive.{NextStep, RunLeaves, RunRefused, RunRose, RunStopsSurely, RunTook, RunVetoed, StopCause, StopsBy, StopsWith, work_count};
 ghost use Rattle.amqp_resource.specs.Driving.{DriveSays};
 ghost use Rattle.amqp_resource.specs.Steps.{IsFirstStop, UnderDead, ended_by, entry_of};
 ghost use Rattle.amqp_resource.specs.Session.{FitsTogether, IsFresh, told_of};
@@ -71,7 +72,7 @@ pub fn drive<S: LayerBelow, G: IdSource>(
     ids: &mut G,
 ) -> Driven
     requires { IsFresh S.told session.old }
-    ensures { DriveSays S.told G.next G.start session.old session.new ids.old ids.new steps result }
+    ensures { DriveSays S.told S.sure G.next G.start session.old session.new ids.old ids.new steps result }
 {
     drive_blank::<S, G, Brand>(session, steps, ids, Blank::new(1))
 }
@@ -87,7 +88,7 @@ fn drive_blank<S: LayerBelow, G: IdSource, L: Ledger>(
     requires name { blank.name ≡ L.name }
     requires parts { blank.parts ≡ L.parts }
     requires some { 0 < blank.parts }
-    ensures { DriveSays S.told G.next G.start session.old session.new ids.old ids.new steps result }
+    ensures { DriveSays S.told S.sure G.next G.start session.old session.new ids.old ids.new steps result }
 {
     let mut looks = Looks::<L>::new(blank);
     drive_counted(session, steps, ids, &mut looks)
@@ -116,7 +117,7 @@ pub fn drive_counted<S: LayerBelow, G: IdSource, L: Ledger>(
     ensures ended { (reason : SessionStopReason) → NextStep steps result.entries
         (λ s. ended_by s ≡ Some reason) →
         StopsWith result.stop (stops.Ended reason) }
-    // What below took, opened and refused, after what it had before.
+    // What below took, opened, refused and vetoed, after what it had before.
     ensures taken { RunTook (told_of S.told session.old).taken (told_of S.told session.new).taken
         steps result.entries result.stop result.handed }
     ensures opened { (told_of S.told session.new).opened
@@ -124,11 +125,19 @@ pub fn drive_counted<S: LayerBelow, G: IdSource, L: Ledger>(
     ensures refused { RunRefused (told_of S.told session.old).refused
         (told_of S.told session.new).refused
         steps result.entries result.stop result.handed }
-    // Each refusal that was answered was counted, as long as the count can rise.
+    ensures vetoed { (told_of S.told session.new).reviews.vetoed
+        ≡ grown (told_of S.told session.old).reviews.vetoed (vetoes result.entries) }
+    // Over a sure layer no frame of a commit was taken that wanted memory.
+    ensures surely { RunStopsSurely S.sure steps result.entries result.stop result.handed }
+    // Each refusal and each veto that was answered was counted, as long as the count can rise.
     ensures rose { RunRose (told_of S.told session.old).refusals
         (told_of S.told session.new).refusals
         result.entries result.stop }
+    ensures vetoes_rose { RunVetoed (told_of S.told session.old).reviews.vetoes
+        (told_of S.told session.new).reviews.vetoes result.entries }
     ensures later { (told_of S.told session.old).refusals ≤ (told_of S.told session.new).refusals }
+    ensures counted { (told_of S.told session.old).reviews.vetoes
+        ≤ (told_of S.told session.new).reviews.vetoes }
     ensures fixed { (told_of S.told session.new).fixed ≡ (told_of S.told session.old).fixed }
     // The session stands for the record, or keeps the code of its stop, and what it keeps fits
     // together.

@@ -38,12 +38,13 @@ fn plain_step<S: LayerBelow>(
         (steps.Frame frame.now) result }
     ensures keeps { Fits held.now → Keeps held.now held.now (S.told below.old) (S.told below.new)
         (steps.Frame frame.now) result }
-    ensures cause { StepCause (S.told below.old).refusals (S.told below.new).refusals
+    ensures cause { StepCause (S.told below.old) (S.told below.new)
         (steps.Frame frame.now) result }
     ensures same { OnNoMemory result (SameHeld held.now held.now) }
     ensures untouched { OnNoCall (steps.Frame frame.now) result (below.new ≡ below.old) }
     ensures fixed { (S.told below.new).fixed ≡ (S.told below.old).fixed }
     ensures later { (S.told below.old).refusals ≤ (S.told below.new).refusals }
+    ensures counted { (S.told below.old).reviews.vetoes ≤ (S.told below.new).reviews.vetoes }
     ensures draws { IfOk result (λ out. out.0 ≡ nothing_drawn) }
 {
     let Ok(copy) = frame.try_clone() else {
@@ -153,12 +154,13 @@ fn post_step<S: LayerBelow>(
         (steps.Frame frame.now) result }
     ensures keeps { Fits held.old → Keeps held.old held.new (S.told below.old) (S.told below.new)
         (steps.Frame frame.now) result }
-    ensures cause { StepCause (S.told below.old).refusals (S.told below.new).refusals
+    ensures cause { StepCause (S.told below.old) (S.told below.new)
         (steps.Frame frame.now) result }
     ensures same { OnNoMemory result (SameHeld held.old held.new) }
     ensures untouched { OnNoCall (steps.Frame frame.now) result (below.new ≡ below.old) }
     ensures fixed { (S.told below.new).fixed ≡ (S.told below.old).fixed }
     ensures later { (S.told below.old).refusals ≤ (S.told below.new).refusals }
+    ensures counted { (S.told below.old).reviews.vetoes ≤ (S.told below.new).reviews.vetoes }
     ensures draws { IfOk result (λ out. out.0 ≡ nothing_drawn) }
     ensures counts { Adds held.old.work held.new.work 1 }
 {
@@ -226,13 +228,14 @@ fn attach_step<S: LayerBelow>(
         (steps.Frame (frames.Attach attach.now)) result }
     ensures keeps { Fits held.old → Keeps held.old held.new (S.told below.old) (S.told below.new)
         (steps.Frame (frames.Attach attach.now)) result }
-    ensures cause { StepCause (S.told below.old).refusals (S.told below.new).refusals
+    ensures cause { StepCause (S.told below.old) (S.told below.new)
         (steps.Frame (frames.Attach attach.now)) result }
     ensures same { OnNoMemory result (SameHeld held.old held.new) }
     ensures untouched { OnNoCall (steps.Frame (frames.Attach attach.now)) result
         (below.new ≡ below.old) }
     ensures fixed { (S.told below.new).fixed ≡ (S.told below.old).fixed }
     ensures later { (S.told below.old).refusals ≤ (S.told below.new).refusals }
+    ensures counted { (S.told below.old).reviews.vetoes ≤ (S.told below.new).reviews.vetoes }
     ensures draws { IfOk result (λ out. out.0 ≡ nothing_drawn) }
     ensures counts { Adds held.old.work held.new.work 0 }
 {
@@ -276,12 +279,13 @@ pub fn frame_step<S: LayerBelow>(
         (steps.Frame frame.now) result }
     ensures keeps { Fits held.old → Keeps held.old held.new (S.told below.old) (S.told below.new)
         (steps.Frame frame.now) result }
-    ensures cause { StepCause (S.told below.old).refusals (S.told below.new).refusals
+    ensures cause { StepCause (S.told below.old) (S.told below.new)
         (steps.Frame frame.now) result }
     ensures same { OnNoMemory result (SameHeld held.old held.new) }
     ensures untouched { OnNoCall (steps.Frame frame.now) result (below.new ≡ below.old) }
     ensures fixed { (S.told below.new).fixed ≡ (S.told below.old).fixed }
     ensures later { (S.told below.old).refusals ≤ (S.told below.new).refusals }
+    ensures counted { (S.told below.old).reviews.vetoes ≤ (S.told below.new).reviews.vetoes }
     ensures draws { IfOk result (λ out. out.0 ≡ nothing_drawn) }
     ensures counts { Adds held.old.work held.new.work (frames_added (steps.Frame frame.now)) }
 {

@@ -7,7 +7,7 @@ ghost use Rattle.amqp_layer.specs.Told.{Opens, Takes};
 ghost use Rattle.amqp_resource.specs.Hearing.{Hears, HearsAttach, HearsControl, HearsFrame, HearsPlain, HearsUnder, OpensControl};
 ghost use Rattle.amqp_resource.specs.Opening.{frames_of};
 ghost use Rattle.amqp_resource.specs.Passing.{counted};
-ghost use Rattle.amqp_resource.specs.Session.{FitsTogether, below_of, is_live_on, own_told, refusals_of, stop_of, told_of};
+ghost use Rattle.amqp_resource.specs.Session.{FitsTogether, below_of, is_live_on, own_told, refusals_of, stop_of, told_of, vetoes_of};
 
 use crate::frame_steps::{control_attach_of, keep_under, open_control};
 use crate::session::TxnSession;
@@ -39,6 +39,7 @@ impl<S: LayerBelow> TxnSession<S> {
         ensures fits { FitsTogether self.old → FitsTogether self.new }
         ensures counts { refusals_of self.new ≡ counted result (refusals_of self.old) }
         ensures later { refusals_of self.old ≤ refusals_of self.new }
+        ensures vetoes { vetoes_of self.new ≡ vetoes_of self.old }
         ensures below { below_of self.new ≡ below_of self.old }
     {
         let alloc = self.allocator();
@@ -59,6 +60,7 @@ impl<S: LayerBelow> TxnSession<S> {
         ensures fits { FitsTogether self.old → FitsTogether self.new }
         ensures counts { refusals_of self.new ≡ counted result (refusals_of self.old) }
         ensures later { refusals_of self.old ≤ refusals_of self.new }
+        ensures vetoes { vetoes_of self.new ≡ vetoes_of self.old }
     {
         match on_incoming_frame(&mut self.below, frame) {
             Ok(given) => Ok(given),
@@ -75,6 +77,7 @@ impl<S: LayerBelow> TxnSession<S> {
         ensures fits { FitsTogether self.old → FitsTogether self.new }
         ensures counts { refusals_of self.new ≡ counted result (refusals_of self.old) }
         ensures later { refusals_of self.old ≤ refusals_of self.new }
+        ensures vetoes { vetoes_of self.new ≡ vetoes_of self.old }
         ensures fixed { (told_of S.told self.new).fixed ≡ (told_of S.told self.old).fixed }
     {
         if self.stop.is_some() || self.held.opened == u64::MAX {
@@ -94,6 +97,7 @@ impl<S: LayerBelow> TxnSession<S> {
         ensures fits { FitsTogether self.old → FitsTogether self.new }
         ensures counts { refusals_of self.new ≡ counted result (refusals_of self.old) }
         ensures later { refusals_of self.old ≤ refusals_of self.new }
+        ensures vetoes { vetoes_of self.new ≡ vetoes_of self.old }
         ensures fixed { (told_of S.told self.new).fixed ≡ (told_of S.told self.old).fixed }
     {
         match self.open_link(attach) {
@@ -109,6 +113,7 @@ impl<S: LayerBelow> TxnSession<S> {
         ensures fits { FitsTogether self.old → FitsTogether self.new }
         ensures counts { refusals_of self.new ≡ counted result (refusals_of self.old) }
         ensures later { refusals_of self.old ≤ refusals_of self.new }
+        ensures vetoes { vetoes_of self.new ≡ vetoes_of self.old }
         ensures fixed { (told_of S.told self.new).fixed ≡ (told_of S.told self.old).fixed }
     {
         if self.stop.is_some() {

@@ -3,7 +3,9 @@
 //!
 //! A [`TxnSession`] takes steps: frames, control messages, ends. A frame under a live transaction
 //! is kept until the transaction is discharged: a rollback lets it go, and a commit hands it to the
-//! layer below, in order and without its transactional state. A plain frame goes below at once.
+//! layer below, in order and without its transactional state. Before that the layer is asked to
+//! review the frames of the commit: where it vetoes them they are let go, and the commit is answered
+//! with `Rollback`. A plain frame goes below at once.
 //!
 //! ```text
 //! let mut ids = ListIds::new(alloc, &[id])?;
@@ -25,8 +27,8 @@
 //! definitions, which look back over the entries of a session and know nothing of what it keeps.
 //! What a user of a session needs of them is passed on. The promise that this crate carries: a step
 //! answers by the record, and a run is its record. The layer below has taken exactly the work of
-//! the record, each accepted commit's frames whole and in order and nothing of a rollback,
-//! followed, only where it refused, by the first frames of the next step's.
+//! the record, each accepted commit's frames whole and in order and nothing of a rollback or of a
+//! vetoed commit, followed, only where it refused, by the first frames of the next step's.
 #![tactic(auto)]
 
 mod acting;

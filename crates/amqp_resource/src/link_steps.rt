@@ -28,7 +28,7 @@ pub fn link_end_step<L: Ledger>(
     ensures goes { StepDoesHere held.old held.new (steps.LinkEnd link) result }
     ensures keeps { (told : Told) → Fits held.old
         → Keeps held.old held.new told told (steps.LinkEnd link) result }
-    ensures cause { (n : ℕ) → StepCause n n (steps.LinkEnd link) result }
+    ensures cause { (told : Told) → StepCause told told (steps.LinkEnd link) result }
     ensures same { OnNoMemory result (SameHeld held.old held.new) }
     ensures draws { IfOk result (λ out. out.0 ≡ nothing_drawn) }
     ensures pays { Pays held.old.work held.new.work looks.old looks.new
@@ -54,7 +54,7 @@ pub fn close_step<L: Ledger>(
     ensures goes { StepDoesHere held.old held.new (steps.Control link payload.now) result }
     ensures keeps { (told : Told) → Fits held.old
         → Keeps held.old held.new told told (steps.Control link payload.now) result }
-    ensures cause { (n : ℕ) → StepCause n n (steps.Control link payload.now) result }
+    ensures cause { (told : Told) → StepCause told told (steps.Control link payload.now) result }
     ensures same { OnNoMemory result (SameHeld held.old held.new) }
     ensures draws { IfOk result (λ out. out.0 ≡ nothing_drawn) }
     ensures pays { Pays held.old.work held.new.work looks.old looks.new
@@ -75,7 +75,7 @@ pub fn no_link_step(
     ensures goes { StepDoesHere held.now held.now (steps.Control link payload.now) result }
     ensures keeps { (told : Told) → Fits held.now
         → Keeps held.now held.now told told (steps.Control link payload.now) result }
-    ensures cause { (n : ℕ) → StepCause n n (steps.Control link payload.now) result }
+    ensures cause { (told : Told) → StepCause told told (steps.Control link payload.now) result }
     ensures same { OnNoMemory result (SameHeld held.now held.now) }
     ensures draws { IfOk result (λ out. out.0 ≡ nothing_drawn) }
 {

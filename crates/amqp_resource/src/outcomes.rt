@@ -1,10 +1,12 @@
 //! Parts of what a step answers.
 
 ghost use Rattle.std.specs.Prelude.{◌≡◌, ◌<◌, ◌+◌, ◌^◌, cond, false};
+ghost use Rattle.amqp_sessions.specs.declared.transacting.CommitFault.TheVariants as commit_faults;
 ghost use Rattle.amqp_resource.specs.Steps.{fault_of, is_unknown, nothing_drawn};
 
 use amqp_ids::Drawn;
 use amqp_layer::{SessionInnerError, TakeError};
+use amqp_sessions::CommitFault;
 use std::alloc::Global;
 
 /// A refusal below, and how many frames of the step were taken before and with it.
@@ -12,6 +14,18 @@ use std::alloc::Global;
 pub struct HandError {
     pub error: SessionInnerError,
     pub handed: usize,
+}
+
+/// The refusal of a frame of a commit, so many of its frames having been taken before it.
+pub fn refused_after(refusal: TakeError, before: usize) -> CommitFault
+    requires { before < 2 ^ 63 }
+    ensures { result ≡ commit_faults.Refused refusal.error (before + cond refusal.taken 1 0) }
+{
+    let refused = handed_with(refusal, before);
+    CommitFault::Refused {
+        error: refused.error,
+        handed: refused.handed,
+    }
 }
 
 /// The refusal of a frame, so many having been taken before it.

@@ -6,7 +6,7 @@ ghost use Rattle.amqp_record.specs.Links.{attached_count};
 ghost use Rattle.amqp_record.specs.Live.{is_live};
 ghost use Rattle.amqp_resource.specs.Stepping.{StepSays};
 ghost use Rattle.amqp_resource.specs.Looking.{dues, frames_added, frames_ended};
-ghost use Rattle.amqp_resource.specs.Session.{FitsTogether, IsFresh, StandsFor, StopAfter, below_of, frame_count_of, held_of, is_live_on, opened_of, owed_of, refusals_of, stop_of};
+ghost use Rattle.amqp_resource.specs.Session.{FitsTogether, IsFresh, StandsFor, StopAfter, below_of, frame_count_of, held_of, is_live_on, opened_of, owed_of, refusals_of, stop_of, vetoes_of};
 
 use crate::acting::take_step;
 use crate::held::{Held, keeps_nothing};
@@ -22,7 +22,8 @@ use std::sync::ledger::{Blank, Ledger};
 
 /// A session that serves transactions over a layer below. Part 4 of the standard, section 4.4.
 ///
-/// It keeps the frames that come under each live transaction and hands them below when it commits.
+/// It keeps the frames that come under each live transaction and hands them below when it commits,
+/// where they are accepted there.
 /// Once a refusal below, a frame under an id that isn't live or an end stopped it, it takes no step
 /// and no frame any more.
 #[derive(Drop)]
@@ -31,6 +32,7 @@ pub struct TxnSession<S> {
     pub(crate) below: S,
     pub(crate) stop: Option<StopCode>,
     pub(crate) refusals: u64,
+    pub(crate) vetoes: u64,
     alloc: Global,
 }
 
@@ -62,6 +64,7 @@ impl<S: LayerBelow> TxnSession<S> {
         ensures stop { stop_of result ≡ None }
         ensures below { below_of result ≡ below }
         ensures refusals { refusals_of result ≡ 0 }
+        ensures vetoes { vetoes_of result ≡ 0 }
         ensures fits { FitsTogether result }
         ensures owed { owed_of result ≡ 0 }
     {
@@ -74,6 +77,7 @@ impl<S: LayerBelow> TxnSession<S> {
             below,
             stop: None,
             refusals: 0,
+            vetoes: 0,
             alloc,
         }
     }
@@ -143,10 +147,10 @@ impl<S: LayerBelow> TxnSession<S> {
     /// Errors: `Stopped` on a session that had stopped, with the code of its first stop. `Ended`
     /// for the three ends, with the step's own value; a copy of its error may want memory.
     /// `Fault` with an unknown id for work under an id that isn't live, and with any other error
-    /// where the layer below refused a plain frame, the answer of a post, or a frame of a commit;
-    /// `handed` counts the step's frames that were taken. Each of these stops the session. A
-    /// refused attach of a control link is a reply, and the session goes on. `NoMemory` leaves the
-    /// session as it was.
+    /// where the layer below refused a plain frame or the answer of a post, or wanted memory for a
+    /// commit; `handed` counts the step's frames that were taken. Each of these stops the session.
+    /// A refused attach of a control link and a vetoed commit are replies, and the session goes on.
+    /// `NoMemory` leaves the session as it was.
     ///
     /// Its clauses are those of [`step_counted`](Self::step_counted) but for those on looks.
     pub fn step<G: IdSource>(
@@ -155,7 +159,7 @@ impl<S: LayerBelow> TxnSession<S> {
         ids: &mut G,
     ) -> Result<(Drawn16, Reply), StepError>
         requires { stop_of self.old ≡ None → opened_of self.old < 2 ^ 64 - 1 }
-        ensures { StepSays S.told G.next G.start self.old self.new ids.old ids.new step.now result }
+        ensures { StepSays S.told S.sure G.next G.start self.old self.new ids.old ids.new step.now result }
     {
         self.step_blank::<G, Brand>(step, ids, Blank::new(1))
     }
@@ -171,7 +175,7 @@ impl<S: LayerBelow> TxnSession<S> {
         requires name { blank.name ≡ L.name }
         requires parts { blank.parts ≡ L.parts }
         requires some { 0 < blank.parts }
-        ensures { StepSays S.told G.next G.start self.old self.new ids.old ids.new step.now result }
+        ensures { StepSays S.told S.sure G.next G.start self.old self.new ids.old ids.new step.now result }
     {
         let mut looks = Looks::<L>::new(blank);
         self.step_counted(step, ids, &mut looks)
@@ -185,7 +189,7 @@ impl<S: LayerBelow> TxnSession<S> {
         looks: &mut Looks<L>,
     ) -> Result<(Drawn16, Reply), StepError>
         requires room { stop_of self.old ≡ None → opened_of self.old < 2 ^ 64 - 1 }
-        ensures says { StepSays S.told G.next G.start self.old self.new ids.old ids.new step.now
+        ensures says { StepSays S.told S.sure G.next G.start self.old self.new ids.old ids.new step.now
             result }
         // The looks of the step and those owed after it are at most those owed before it and two
         // for each frame that it ends. While the session hasn't stopped, no more are owed than

@@ -1,22 +1,22 @@
 //! What no clause says: what goes out is checked by the layer below. And the life of an id of no
 //! link, step by step.
 
-use amqp_layer::{LayerBelow, OpenSession, SessionInnerError, Tells};
+use amqp_layer::{LayerBelow, OpenSession, SessionInnerError, Tells, Verdict};
 use amqp_recorder::Recorder;
 use amqp_resource::*;
 use amqp_sessions::{HandleDeclare, HandleDischarge};
 use amqp_txn_codec::{ControlMessageBody, Declare, Discharge};
 use amqp_txn_types::{
-    Attach, Coordinator, DeliveryState, Detach, Disposition, Flow, Frame, Frames, Handle, NoMemory,
-    Payload, ReceiverSettleMode, Role, SenderSettleMode, SessionState, TargetArchetype, Text,
-    TransactionError, TransactionId, TransactionalState, Transfer,
+    Attach, CallNumbers, Coordinator, DeliveryState, Detach, Disposition, Flow, Frame, Frames,
+    Handle, NoMemory, Payload, ReceiverSettleMode, Role, SenderSettleMode, SessionState,
+    TargetArchetype, Text, TransactionError, TransactionId, TransactionalState, Transfer,
 };
 use std::alloc::Global;
 use std::mem::replace;
 use std::test::Fail;
 
-/// A layer that takes every frame and lets no disposition out. It gives these back for its first
-/// transfer and its second one, and no frame for any other.
+/// A layer that takes every frame and wants memory for each disposition that goes out. It gives
+/// these back for its first transfer and its second one, and no frame for any other.
 #[derive(Drop)]
 struct Unsettling {
     alloc: Global,
@@ -64,26 +64,34 @@ fn echoing_second(alloc: Global) -> Result<Unsettling, NoMemory> {
 }
 
 impl Tells for Unsettling {
-    ghost use Rattle.std.specs.Prelude.{None, []};
-    ghost use Rattle.amqp_txn_types.specs.declared.small.SessionState.TheVariants.{Mapped};
+    ghost use Rattle.amqp_layer.specs.Told.{open_told};
 
-    ghost told = { λ layer. record {
-      taken = None;
-      opened = None;
-      refused = None;
-      refusals = layer.refusals;
-      fixed = record { state = Mapped; plan = [] };
-    } };
+    ghost told = { λ layer. record open_told { refusals = layer.refusals } };
 }
 
 impl LayerBelow for Unsettling {
-    ghost incoming_gives = { λ old new frame result. Unit {0} };
+    ghost use Rattle.std.specs.Prelude.{false};
+    ghost use Rattle.amqp_layer.specs.Reviewing.{GoesOn, StaysOn};
+
+    ghost incoming_gives = { GoesOn (λ _ _. Unit {0}) false };
 
     ghost opening_gives = { λ old new attach result. Unit {0} };
 
-    ghost check_gives = { λ old new disposition result. Unit {0} };
+    ghost check_gives = { λ old new _ result. StaysOn (λ _ _. Unit {0}) false old new result };
 
     ghost window_gives = { λ old new flow. Unit {0} };
+
+    ghost review_gives = { λ old new frames result. Unit {0} };
+
+    ghost takes = { λ _ _. Unit {0} };
+
+    ghost sure = { false };
+
+    ghost goes_on = { λ _ _ _ _ gives. gives };
+
+    ghost stays_on = { λ _ _ _ _ gives. gives };
+
+    ghost window_stays_on = { λ _ _ _ _ _ takes. takes };
 
     fn local_state(&self) -> SessionState {
         SessionState::Mapped
@@ -126,11 +134,15 @@ impl LayerBelow for Unsettling {
         disposition: &Disposition,
     ) -> Result<(), SessionInnerError> {
         self.refusals = self.refusals.saturating_add(1);
-        Err(SessionInnerError::HandleInUse)
+        Err(SessionInnerError::NoMemory)
     }
 
     fn maybe_outgoing_session_flow(&mut self) -> Option<Flow> {
         None
+    }
+
+    fn review(&mut self, frames: &Frames) -> Result<Verdict, NoMemory> {
+        Ok(Verdict::Accept)
     }
 }
 
@@ -212,10 +224,10 @@ fn word(answer: &Result<(Drawn, Reply), StepError>) -> &'static str {
         Ok((_, reply)) => word_of(reply),
         Err(
             StepError::Fault {
-                error: SessionInnerError::HandleInUse,
+                error: SessionInnerError::NoMemory,
                 handed: 0,
             },
-        ) => "handle in use, none handed",
+        ) => "no memory below, none handed",
         Err(_) => "another error",
     }
 }
@@ -235,6 +247,11 @@ fn word_of(reply: &Reply) -> &'static str {
             error: TransactionError::UnknownId,
             text: RejectText::Absent,
         } => "rejected, unknown id",
+        Reply::Rejected {
+            error: TransactionError::Rollback,
+            text: RejectText::Absent,
+        } => "rejected, rolled back",
+        Reply::Accepted(_) => "accepted",
         Reply::LinkEnded => "link ended",
         _ => "another reply",
     }
@@ -282,8 +299,8 @@ fn a_refused_presumptive_disposition_stops_the_session(rt: HostRuntime) {
     drop(session);
     assert!(rt; allocated);
     assert_eq!(rt; settled, "no frames");
-    assert_eq!(rt; unsettled, "handle in use, none handed");
-    assert_eq!(rt; code, Some(StopCode::HandleInUse));
+    assert_eq!(rt; unsettled, "no memory below, none handed");
+    assert_eq!(rt; code, Some(StopCode::BelowNoMemory));
     assert_eq!(rt; refusals, 1);
 }
 
@@ -377,7 +394,7 @@ fn is_refused<S: LayerBelow>(
     let refused = match &answer {
         Err(
             StepError::Fault {
-                error: SessionInnerError::HandleInUse,
+                error: SessionInnerError::NoMemory,
                 handed,
             },
         ) => *handed == count,
@@ -453,5 +470,89 @@ fn a_recorder_passes_on_a_refused_answer_within_a_commit(rt: HostRuntime) -> Res
     let below = Recorder::new(alloc, echoing_second(alloc)?);
     let refused = commit_is_refused(alloc, TxnSession::new(alloc, below))?;
     assert!(rt; refused);
+    Ok(())
+}
+
+/// A session over a recorder that is planned to refuse the call with that number.
+fn planned(alloc: Global, number: u64) -> Result<Recorded, NoMemory> {
+    let mut plan = CallNumbers::new(alloc);
+    plan.append(number)?;
+    let mut below = Recorder::new(alloc, OpenSession::new(alloc));
+    if below.is_fresh() {
+        below.set_plan(plan);
+    }
+    Ok(TxnSession::new(alloc, below))
+}
+
+/// How many frames and how many lists the layer below took and vetoed.
+fn counts_of(session: &Recorded) -> [usize; 2] {
+    let below = session.below();
+    [below.exchanges().len(), below.vetoed().len()]
+}
+
+#[test]
+fn a_vetoed_commit_hands_nothing_and_ends_its_id(rt: HostRuntime) -> Result<(), Fail> {
+    let alloc = rt.alloc();
+    let id = numbered_id(1);
+    let mut ids = CountIds::new();
+    let mut session = planned(alloc, 2)?;
+    begin_transaction(alloc, &mut session, &mut ids)?;
+    let _word = answer_of(&mut session, post(true, id), &mut ids);
+    let _word = answer_of(&mut session, post(true, id), &mut ids);
+    let vetoed = discharges(alloc, &mut session, id, &mut ids);
+    let again = discharges(alloc, &mut session, id, &mut ids);
+    let plain = answer_of(&mut session, Step::Frame(transfer(true, None)), &mut ids);
+    let counts = counts_of(&session);
+    let live = session.is_live(&id);
+    drop(session);
+    assert_eq!(rt; vetoed, "rejected, rolled back");
+    assert_eq!(rt; again, "rejected, unknown id");
+    assert_eq!(rt; plain, "no frames");
+    assert_eq!(rt; counts, [1, 1]);
+    assert!(rt; !live);
+    Ok(())
+}
+
+#[test]
+fn a_commit_without_frames_is_accepted_unasked(rt: HostRuntime) -> Result<(), Fail> {
+    let alloc = rt.alloc();
+    let id = numbered_id(1);
+    let mut ids = CountIds::new();
+    let mut session = planned(alloc, 1)?;
+    begin_transaction(alloc, &mut session, &mut ids)?;
+    let committed = discharges(alloc, &mut session, id, &mut ids);
+    let counts = counts_of(&session);
+    drop(session);
+    assert_eq!(rt; committed, "accepted");
+    assert_eq!(rt; counts, [0, 0]);
+    Ok(())
+}
+
+/// Whether a commit of the id by a call was rolled back instead.
+fn is_rolled_back(session: &mut Recorded, id: TransactionId) -> bool {
+    let committed = session.commit_transaction(&id);
+    let rolled_back = matches!(committed, Ok(Err(TransactionError::Rollback)));
+    drop(committed);
+    rolled_back
+}
+
+#[test]
+fn a_vetoed_call_ends_its_id(rt: HostRuntime) -> Result<(), Fail> {
+    let alloc = rt.alloc();
+    let id = numbered_id(1);
+    let mut ids = CountIds::new();
+    let mut session = planned(alloc, 1)?;
+    let allocated = allocates_first(&mut session, &mut ids);
+    let _word = answer_of(&mut session, post(true, id), &mut ids);
+    let rolled_back = is_rolled_back(&mut session, id);
+    let counts = counts_of(&session);
+    let live = session.is_live(&id);
+    let code = session.stop_code();
+    drop(session);
+    assert!(rt; allocated);
+    assert!(rt; rolled_back);
+    assert_eq!(rt; counts, [0, 1]);
+    assert!(rt; !live);
+    assert_eq!(rt; code, None);
     Ok(())
 }

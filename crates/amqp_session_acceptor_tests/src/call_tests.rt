@@ -1,18 +1,18 @@
 //! The calls of a transactional session over a listener, without an engine: each succeeds where
 //! there is memory.
 
-use crate::test_values::{Listening, attach, control_attach, transfer, under};
+use crate::test_values::{Listening, attach, control_attach, relay, transfer, under};
 use amqp_acceptors::ControlLinkAcceptor;
 use amqp_ids::CountIds;
 use amqp_layer::{LayerBelow, SessionInnerError, on_incoming_frame};
 use amqp_listener::ListenerSession;
 use amqp_resource::{HandleControlLink, TxnSession, numbered_id};
 use amqp_session_builder::Builder;
-use amqp_sessions::{HandleDeclare, NameState, Relay, Session};
+use amqp_sessions::{HandleDeclare, NameState, Session};
 use amqp_txn_types::{
     ConnectionStopReason, Detach, Disposition, End, Flow, Frame, Frames, Handle, IncomingChannel,
-    InputHandle, LinkFlow, LinkFlows, OutgoingChannel, OutputHandle, ReceiverSettleMode, Role,
-    SessionState, SessionStopReason, Text,
+    InputHandle, LinkFlow, OutgoingChannel, OutputHandle, Role, SessionState, SessionStopReason,
+    Text,
 };
 use std::alloc::Global;
 
@@ -90,16 +90,6 @@ fn a_control_link_is_opened_by_its_attach(rt: HostRuntime) {
     drop(session);
     assert_eq!(rt; given, 2);
     assert_eq!(rt; opened, 1);
-}
-
-fn relay(alloc: Global) -> Relay {
-    Relay {
-        name: Text::new(alloc),
-        role: Role::Receiver,
-        rcv_settle_mode: ReceiverSettleMode::First,
-        flows: LinkFlows::new(alloc),
-        transfers: 0,
-    }
 }
 
 /// Allocates a link of this side.

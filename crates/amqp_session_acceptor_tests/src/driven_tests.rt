@@ -1,8 +1,9 @@
 //! A transactional session over a listener, driven by its engine: a post is kept and handed at its
-//! commit, a plain frame is handed at once, an id that isn't live stops it.
+//! commit, one on a handle without a link is vetoed there, a plain frame is handed at once, an id
+//! that isn't live stops it.
 
 use crate::test_values::{
-    Listening, attach, control_attach, incoming, transactional, transfer, under,
+    Listening, attach, control_attach, incoming, relay, transactional, transfer, under,
 };
 use amqp_endpoints::ListenerSessionEndpoint;
 use amqp_ids::CountIds;
@@ -12,7 +13,7 @@ use amqp_session_acceptor::*;
 use amqp_session_engine::{
     ControlReply, SessionControl, SessionEngine, SessionFrame, SessionFrameBody, Turn,
 };
-use amqp_txn_types::{Frame, OutgoingChannel, Text, TransactionId};
+use amqp_txn_types::{Frame, InputHandle, OutgoingChannel, Text, TransactionError, TransactionId};
 use std::alloc::Global;
 
 type Engine = SessionEngine<Listening>;
@@ -92,10 +93,54 @@ fn committed(engine: &mut Engine, txn_id: TransactionId) -> usize {
     }
 }
 
+/// Whether a commit was vetoed, and rolled back.
+fn is_vetoed(engine: &mut Engine, txn_id: TransactionId) -> bool {
+    match asked(engine, SessionControl::CommitTransaction { txn_id }) {
+        Ok(turn) => {
+            let vetoed = matches!(
+                &turn.reply,
+                ControlReply::Committed(Err(TransactionError::Rollback))
+            );
+            drop(turn);
+            vetoed
+        }
+        Err(error) => {
+            drop(error);
+            false
+        }
+    }
+}
+
+/// A session with a receiver of its own on the handle of the posts, and a live id.
+fn receiving(alloc: Global) -> Option<Engine> {
+    let mut engine = accepted(alloc)?;
+    let control = SessionControl::AllocateIncomingLink {
+        link_name: Text::new(alloc),
+        link_relay: relay(alloc),
+        input_handle: InputHandle(5),
+    };
+    drop(asked(&mut engine, control));
+    drop(asked(&mut engine, SessionControl::AllocateTransactionId));
+    Some(engine)
+}
+
 #[test]
-fn a_post_is_kept_and_committed(rt: HostRuntime) {
+fn a_post_on_a_handle_without_a_link_is_vetoed(rt: HostRuntime) {
     let mut engine = accepted(rt.alloc()).expect(&rt, "a session");
     drop(asked(&mut engine, SessionControl::AllocateTransactionId));
+    let id = numbered_id(1);
+    let given = given_for(&mut engine, transfer(under(id)));
+    let vetoed = is_vetoed(&mut engine, id);
+    let still_live = engine.session().is_live(&id);
+    drop(engine);
+    assert_eq!(rt; given, 1);
+    assert!(rt; vetoed);
+    assert!(rt; !still_live);
+}
+
+#[test]
+fn a_post_is_kept_and_committed(rt: HostRuntime) {
+    let mut engine = receiving(rt.alloc()).expect(&rt, "a session");
     let id = numbered_id(1);
     let live = engine.session().is_live(&id);
     let given = given_for(&mut engine, transfer(under(id)));

@@ -6,10 +6,10 @@ use amqp_links::Poll;
 use amqp_listener::ListenerSession;
 use amqp_resource::TxnSession;
 use amqp_session_acceptor::*;
-use amqp_sessions::{BeginError, PlainSession};
+use amqp_sessions::{BeginError, PlainSession, Relay};
 use amqp_txn_types::{
-    Attach, Begin, ConnectionStopReason, Coordinator, DeliveryState, Frame, Handle, Payload,
-    ReceiverSettleMode, Role, SenderSettleMode, TargetArchetype, Text, TransactionId,
+    Attach, Begin, ConnectionStopReason, Coordinator, DeliveryState, Frame, Handle, LinkFlows,
+    Payload, ReceiverSettleMode, Role, SenderSettleMode, TargetArchetype, Text, TransactionId,
     TransactionalState, Transfer,
 };
 use std::alloc::Global;
@@ -143,5 +143,16 @@ pub fn transfer(state: Option<DeliveryState>) -> Frame {
             batchable: false,
         },
         payload: Payload::new(),
+    }
+}
+
+/// What is kept for a receiver of this side.
+pub fn relay(alloc: Global) -> Relay {
+    Relay {
+        name: Text::new(alloc),
+        role: Role::Receiver,
+        rcv_settle_mode: ReceiverSettleMode::First,
+        flows: LinkFlows::new(alloc),
+        transfers: 0,
     }
 }

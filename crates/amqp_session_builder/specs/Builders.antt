@@ -11,7 +11,7 @@ use Rattle.amqp_sessions.specs.declared.plain_session.PlainSession.{PlainSession
 use Rattle.amqp_sessions.specs.declared.session_errors.BeginError.{BeginError}
 use Rattle.amqp_sessions.specs.declared.session_errors.BeginError.TheVariants as refusals
 use Rattle.amqp_sessions.specs.Numbers.{at_first}
-use Rattle.amqp_sessions.specs.PlainSessions.{begin_of, channel_of, connection_stop_of, incoming_of, links_of, numbers_of, refusals_of, slots_of, state_of, stop_of, untold_of}
+use Rattle.amqp_sessions.specs.PlainSessions.{begin_of, channel_of, connection_stop_of, incoming_of, links_of, numbers_of, refusals_of, slots_of, state_of, stop_of, untold_of, vetoes_of}
 use Rattle.amqp_session_builder.specs.declared.builder.Builder.{Builder}
 
 -- the builder whose fields were not set
@@ -46,7 +46,7 @@ begin_built builder = record {
   properties = builder.properties;
 }
 
--- a session without links, of which nothing has come and nothing was refused
+-- a session without links, to which nothing has come and which refused and vetoed nothing
 pub record IsNew (session : PlainSession) (channel : OutgoingChannel) (state : SessionState)
     (begin : Begin) : Type 0 where
   pub in_state : state_of session ≡ state
@@ -60,6 +60,7 @@ pub record IsNew (session : PlainSession) (channel : OutgoingChannel) (state : S
   pub stop : stop_of session ≡ None
   pub connection_stop : connection_stop_of session ≡ None
   pub refusals : refusals_of session ≡ 0
+  pub vetoes : vetoes_of session ≡ 0
 
 -- a session on a channel that the connection gave, whose begin is sent
 pub record BegunOn (session : PlainSession) (sent : Begin) (channel : OutgoingChannel)

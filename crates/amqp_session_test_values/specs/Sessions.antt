@@ -21,6 +21,7 @@ pub record IsNew (made_in : SessionState) (handle_max : ℕ) (session : PlainSes
   pub stop : plain.stop_of session ≡ None
   pub connection : plain.connection_stop_of session ≡ None
   pub refusals : plain.refusals_of session ≡ 0
+  pub vetoes : plain.vetoes_of session ≡ 0
 
 -- what is kept for a link to which nothing came
 abbrev pub relay_of : Role → Relay

@@ -4,8 +4,9 @@
 ghost use Rattle.std.specs.Prelude.{◌≡◌};
 ghost use Rattle.amqp_session_test_values.specs.Sessions.{IsNew, relay_of};
 
+use amqp_layer::{LayerBelow, Verdict, take_frame};
 use amqp_sessions::{PlainSession, Relay};
-use amqp_test_values::begin;
+use amqp_test_values::{begin, work};
 use amqp_txn_types::{Items, OutgoingChannel, ReceiverSettleMode, Role, SessionState, Text};
 use std::alloc::Global;
 
@@ -27,4 +28,28 @@ pub fn relay(alloc: Global, role: Role) -> Relay
         flows: Items::new(alloc),
         transfers: 0,
     }
+}
+
+/// Whether the review of a transfer on the handle and a disposition answers this.
+pub fn judges<S: LayerBelow>(alloc: Global, below: &mut S, handle: u32, verdict: Verdict) -> bool {
+    let Ok(frames) = work(alloc, handle) else {
+        return false;
+    };
+    match below.review(&frames) {
+        Ok(found) => found == verdict,
+        Err(_) => false,
+    }
+}
+
+/// Whether a transfer on the handle and a disposition are taken, one after the other.
+pub fn takes_work<S: LayerBelow>(alloc: Global, below: &mut S, handle: u32) -> bool {
+    let Ok(frames) = work(alloc, handle) else {
+        return false;
+    };
+    for frame in frames.into_vec() {
+        if take_frame(below, frame).is_err() {
+            return false;
+        }
+    }
+    true
 }

@@ -1,5 +1,5 @@
 -- What the calls of a layer leave of what a plain session keeps and of its names.
-use Rattle.std.proofs.Common.{◌≡◌, ap, refl, Bool, true, false, Option, Some, None, ℕ, Ok, List, inl}
+use Rattle.std.proofs.Common.{◌≡◌, ap, refl, Option, Some, None, ℕ, Ok, List, inl}
 use Rattle.amqp_txn_types.specs.declared.performatives.Attach.{Attach}
 use Rattle.amqp_txn_types.specs.declared.performatives.Detach.{Detach}
 use Rattle.amqp_txn_types.specs.declared.performatives.Flow.{Flow}
@@ -9,14 +9,13 @@ use Rattle.amqp_txn_types.specs.declared.performatives.Transfer.{Transfer}
 use Rattle.amqp_txn_types.specs.declared.small.Handle.{Handle}
 use Rattle.amqp_txn_types.specs.declared.small.SessionState.{SessionState}
 use Rattle.amqp_txn_types.specs.declared.small.SessionState.TheVariants as states
-use Rattle.amqp_txn_types.specs.Frames.{is_coordinator_attach}
 use Rattle.amqp_layer.specs.declared.inner_error.SessionInnerError.{SessionInnerError}
 use Rattle.amqp_sessions.specs.declared.plain_session.PlainSession.{PlainSession}
 use Rattle.amqp_sessions.specs.declared.relay.NameState.{NameState}
 use Rattle.amqp_sessions.specs.declared.relay.NameState.TheVariants.{Unknown, Waiting, Taken}
 use Rattle.amqp_sessions.specs.LinkMoves.{FlowsTo, PlacedNext, control_link, link_flow, names_in}
 use Rattle.amqp_sessions.specs.Links.{LinkTable, name_state_of, output_mapped, with_flow, with_transfer}
-use Rattle.amqp_sessions.specs.Names.{AttachLeaves, Attaches, Names, SameNames}
+use Rattle.amqp_sessions.specs.Names.{SameNames}
 use Rattle.amqp_sessions.specs.Plain.{RefusedBy, attach_fault_by, input_of, mapped_fault}
 use Rattle.amqp_sessions.specs.PlainFrames.{PlainTakes, TakesAttach, TakesDetach, TakesFlow, TakesTransfer}
 use Rattle.amqp_sessions.specs.PlainSessions.{kept_of, names_of, links_of, slots_of}
@@ -39,10 +38,6 @@ name-waited Waiting mapped value taken = refl
 name-waited Unknown mapped value taken = absurd taken
 name-waited Taken mapped value taken = absurd taken
 
-attach-leaves : (coordinator : Bool) (old new : Names) (attach : Attach) → Attaches old new attach.name → AttachLeaves coordinator old new attach.name
-attach-leaves false old new attach attaches = attaches
-attach-leaves true old new attach attaches = inl attaches
-
 -- an attach that is taken
 pub takes-attach : (old new : PlainSession) (attach : Attach) (given : List Frame) → TakesAttach old new attach (Ok given) → PlainTakes old new (frames.Attach attach) (Ok given)
 takes-attach old new attach given takes = record {
@@ -51,7 +46,7 @@ takes-attach old new attach given takes = record {
     kept = ap kept_of takes.rest;
     names =
         let waited = name-waited (name_state_of (slots_of old) attach.name) _ given (mapped-only _ _ given takes.fault) in
-        attach-leaves (is_coordinator_attach (frames.Attach attach)) (names_of old) (names_of new) attach (attaches-names (links_of old) (links_of new) attach takes.attached waited);
+        inl (attaches-names (links_of old) (links_of new) attach takes.attached waited);
   };
 }
 

@@ -5,3 +5,4 @@ pub mod Answered
 pub mod Exactly
 pub mod NamesKept
 pub mod Leaving
+pub mod TakenAlike

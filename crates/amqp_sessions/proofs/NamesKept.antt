@@ -33,7 +33,7 @@ position-first p xs i d miss hit fails =
     rw (at, lt-ltb i (length xs) in_list) refl
 
 -- the place that passes a test is the same in lists that pass it at the same places
-position-same : {X : Type 0} (p : X → Bool) (xs ys : List X) (d : X) → p d ≡ false → ((k : ℕ) → p (get_or ys k d) ≡ p (get_or xs k d)) → position p ys ≡ position p xs
+pub position-same : {X : Type 0} (p : X → Bool) (xs ys : List X) (d : X) → p d ≡ false → ((k : ℕ) → p (get_or ys k d) ≡ p (get_or xs k d)) → position p ys ≡ position p xs
 position-same p xs ys d miss same = elim (cases_lt (position_or_len p xs) (length xs)) [
   | inl below ↦
       let there : position p xs ≡ Some (position_or_len p xs) = rw (lt-ltb (position_or_len p xs) (length xs) below) refl in

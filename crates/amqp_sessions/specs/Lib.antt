@@ -8,5 +8,7 @@ pub mod Plain
 pub mod Numbers
 pub mod LinkMoves
 pub mod PlainSessions
+pub mod TakenWork
 pub mod PlainFrames
+pub mod PlainReviewing
 pub mod PlainCalls

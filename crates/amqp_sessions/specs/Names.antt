@@ -1,10 +1,9 @@
 -- How a session knows names, and what its calls leave of that.
-use Rattle.std.specs.Prelude.{◌≡◌, ◌≢◌, ◌⊎◌, Bool, true, false, Option, Some, None, Result, Ok, Err, List}
+use Rattle.std.specs.Prelude.{◌≡◌, ◌≢◌, ◌⊎◌, Option, Some, None, Result, Ok, Err, List}
 use Rattle.amqp_txn_types.specs.declared.text.Text.{Text}
 use Rattle.amqp_txn_types.specs.declared.small.OutputHandle.{OutputHandle}
 use Rattle.amqp_txn_types.specs.declared.performatives.Frame.{Frame}
 use Rattle.amqp_txn_types.specs.declared.performatives.Frame.TheVariants as frames
-use Rattle.amqp_txn_types.specs.Frames.{is_coordinator_attach}
 use Rattle.amqp_layer.specs.declared.inner_error.SessionInnerError.{SessionInnerError}
 use Rattle.amqp_layer.specs.declared.inner_error.SessionInnerError.TheVariants as faults
 use Rattle.amqp_sessions.specs.declared.relay.NameState.{NameState}
@@ -74,19 +73,17 @@ pub record Attaches (old new : Names) (name : Text) : Type 0 where
   pub others : OthersKnown name old new
   pub at : (output : OutputHandle) → new.at output ≡ old.at output
 
--- a control link was opened
+-- a link of the peer's was opened
 abbrev pub OpensLink : Names → Names → Text → Type 0
 OpensLink old new name = (output : OutputHandle) × Placed old new name Taken output
 
--- an attach, which may open a control link where it is one to a coordinator
-abbrev pub AttachLeaves : Bool → Names → Names → Text → Type 0
-AttachLeaves false old new name = Attaches old new name
-AttachLeaves true old new name = Attaches old new name ⊎ OpensLink old new name
+-- an attach, which opens its link where the session accepts it at once
+abbrev pub AttachLeaves : Names → Names → Text → Type 0
+AttachLeaves old new name = Attaches old new name ⊎ OpensLink old new name
 
 -- what an incoming frame leaves of the names, where it is taken
 abbrev pub FrameLeaves : Names → Names → Frame → Type 0
-FrameLeaves old new (frames.Attach attach) =
-    AttachLeaves (is_coordinator_attach (frames.Attach attach)) old new attach.name
+FrameLeaves old new (frames.Attach attach) = AttachLeaves old new attach.name
 FrameLeaves old new (frames.Detach detach) = MayFree old new
 FrameLeaves old new frame = SameNames old new
 

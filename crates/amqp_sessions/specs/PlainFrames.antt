@@ -14,6 +14,7 @@ use Rattle.amqp_sessions.specs.Numbers.{window_flow}
 use Rattle.amqp_sessions.specs.Plain.{RefusedBy, RefusedOnlyBy, attach_fault, control_fault, flow_fault, handle_fault, input_of, is_due, mapped_fault, place_mapped_fault, transfer_fault}
 use Rattle.amqp_sessions.specs.PlainSessions.{ChangesLinks, ChangesNothing, Flowed, GivesNone, ToldWindow, Transferred, begin_of, kept_of, links_of, names_of, numbers_of, slots_of, state_of, stop_of, untold_of}
 use Rattle.amqp_sessions.specs.Sessions.{Leaves, LeavesFrame, LeavesOpening}
+use Rattle.amqp_sessions.specs.TakenWork.{TakesAlike}
 
 -- an attach
 pub record TakesAttach (old new : PlainSession) (attach : Attach)
@@ -42,6 +43,7 @@ pub record TakesTransfer (old new : PlainSession) (transfer : Transfer)
       OnOk result
       (Changes (output_mapped (slots_of old) (input_of transfer.handle)) (links_of old)
       (links_of new) with_transfer)
+  pub ends : OnOk result (TakesAlike (slots_of old) (slots_of new))
   pub rest : Transferred old new result
   pub given : GivesNone result
 

@@ -65,6 +65,10 @@ connection_stop_of session = session.connection_stop
 abbrev pub refusals_of : PlainSession → ℕ
 refusals_of session = session.refusals
 
+-- how often it vetoed
+abbrev pub vetoes_of : PlainSession → ℕ
+vetoes_of session = session.vetoes
+
 -- what it keeps beside its links
 abbrev pub kept_of : PlainSession → Kept
 kept_of session = record {
@@ -77,19 +81,25 @@ kept_of session = record {
 abbrev pub names_of : PlainSession → Names
 names_of session = names_in session.links.slots
 
--- what it tells as a layer: its count of refusals and its state, and none of the lists
+-- what it tells as a layer: its counts of refusals and of vetoes and its state, and none of the
+-- lists
 abbrev pub told_of : PlainSession → Told
 told_of session = record {
   taken = None;
   opened = None;
   refused = None;
   refusals = session.refusals;
-  fixed = record { state = session.state; plan = [] };
+  reviews = record { vetoes = session.vetoes; vetoed = None };
+  fixed = record { state = session.state; plan = []; starved = [] };
 }
 
 -- a session that refused once more
 abbrev pub refused_once : PlainSession → PlainSession
 refused_once session = record session { refusals = one_more session.refusals }
+
+-- a session that vetoed once more
+abbrev pub vetoed_once : PlainSession → PlainSession
+vetoed_once session = record session { vetoes = one_more session.vetoes }
 
 -- an Ok changed nothing, an Err counted a refusal
 abbrev pub ChangesNothing : {T E : Type 0} → PlainSession → PlainSession → Result T E → Type 0

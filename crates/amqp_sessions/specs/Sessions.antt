@@ -34,7 +34,8 @@ cut_off_for kept reason = record kept { connection = first_of kept.connection re
 
 -- the state moves at an Ok as it has to, and stays at an Err
 abbrev pub MovesOn : {T E : Type 0} → Option SessionState → Fixed → Fixed → Result T E → Type 0
-MovesOn moved old new (Ok value) = (moved ≡ Some new.state) × (new.plan ≡ old.plan)
+MovesOn moved old new (Ok value) =
+    (moved ≡ Some new.state) × (new.plan ≡ old.plan) × (new.starved ≡ old.starved)
 MovesOn moved old new (Err error) = new ≡ old
 
 -- a call that begins or ends a session: it adds to no list
@@ -43,6 +44,7 @@ pub record Moves {T E : Type 0} (moved : Option SessionState) (old new : Told)
   pub taken : new.taken ≡ old.taken
   pub opened : new.opened ≡ old.opened
   pub refused : new.refused ≡ old.refused
+  pub reviews : new.reviews ≡ old.reviews
   pub moves : MovesOn moved old.fixed new.fixed result
   pub later : old.refusals ≤ new.refusals
   pub cause : OnErr result (Rose old.refusals new.refusals)

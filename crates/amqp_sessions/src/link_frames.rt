@@ -1,8 +1,12 @@
 //! What frames and allocations do to the links of a plain session.
 
-ghost use Rattle.std.specs.Prelude.{◌≡◌, ◌≤◌, Some, None, MatchResult, OnOk, OnErr, IfOk};
+ghost use Rattle.std.specs.Prelude.{◌≡◌, ◌≤◌, true, Some, None, MatchResult, OnOk, OnErr, IfOk};
+ghost use Rattle.std.specs.Bool.{OnTrue};
+ghost use Rattle.std.specs.List.{list_all};
+ghost use Rattle.amqp_txn_types.specs.declared.small.SessionState.TheVariants.{Mapped};
 ghost use Rattle.amqp_sessions.specs.LinkMoves.{AttachesLink, Changes, DetachesLink, FlowsTo, PlacedNext, Places, control_link, link_flow};
 ghost use Rattle.amqp_sessions.specs.Links.{link_mapped, mapped_link, name_state_of, output_mapped, output_named, waiting_link, with_transfer};
+ghost use Rattle.amqp_sessions.specs.TakenWork.{TakesAlike, takes_all, takes_work};
 ghost use Rattle.amqp_sessions.specs.Plain.{PlacedBy, RefusedBy, RefusedOnlyBy, attach_fault, control_error, flow_fault, handle_fault, input_of, mapped_fault, place_fault, place_mapped_fault, transfer_fault};
 
 use crate::links::Links;
@@ -122,6 +126,7 @@ pub fn count_transfer(
     ensures ok { OnOk result
         (Changes (output_mapped links.old.slots (input_of handle)) links.old links.new
         with_transfer) }
+    ensures ends { OnOk result (TakesAlike links.old.slots links.new.slots) }
     ensures err { OnErr result (links.new ≡ links.old) }
 {
     let Ok(()) = require_mapped(state) else {
@@ -136,6 +141,45 @@ pub fn count_transfer(
             links.count_transfer(output);
             Ok(())
         }
+    }
+}
+
+/// Whether a mapped session takes this work: a disposition, or a transfer by its handle.
+fn takes_work(links: &Links, frame: &Frame) -> bool
+    ensures { result ≡ takes_work links.now.slots frame.now }
+{
+    match frame {
+        Frame::Transfer { transfer, .. } => {
+            match links.find_mapped(InputHandle(transfer.handle.0)) {
+                None => false,
+                Some((_, link)) => matches!(link.relay.role, Role::Receiver),
+            }
+        }
+        Frame::Disposition(_) => true,
+        Frame::Attach(_) | Frame::Flow(_) | Frame::Detach(_) => false,
+    }
+}
+
+fn takes_each(links: &Links, frames: &[Frame]) -> bool
+    ensures { result ≡ list_all (takes_work links.now.slots) frames.now }
+{
+    frames.iter().all(|frame| takes_work(links, frame))
+}
+
+/// Whether a session in this state takes each of these frames.
+pub fn takes_all(state: SessionState, links: &Links, frames: &[Frame]) -> bool
+    ensures all { result ≡ takes_all state links.now.slots frames.now }
+    ensures taken { OnTrue result ((state ≡ Mapped)
+        × (list_all (takes_work links.now.slots) frames.now ≡ true)) }
+{
+    match state {
+        SessionState::Mapped => takes_each(links, frames),
+        SessionState::Unmapped
+        | SessionState::BeginSent
+        | SessionState::BeginReceived
+        | SessionState::EndSent
+        | SessionState::EndReceived
+        | SessionState::Discarding => false,
     }
 }
 

@@ -4,27 +4,30 @@ ghost use Rattle.std.specs.Prelude.{◌≡◌, None, [], cond, option_copied};
 ghost use Rattle.amqp_sessions.specs.Links.{link_at, relay_in};
 ghost use Rattle.amqp_sessions.specs.Numbers.{at_first};
 ghost use Rattle.amqp_sessions.specs.Plain.{is_due};
-ghost use Rattle.amqp_sessions.specs.PlainSessions.{begin_of, channel_of, connection_stop_of, incoming_of, links_of, numbers_of, refusals_of, slots_of, state_of, stop_of, untold_of};
+ghost use Rattle.amqp_sessions.specs.PlainSessions.{begin_of, channel_of, connection_stop_of, incoming_of, links_of, numbers_of, refusals_of, slots_of, state_of, stop_of, untold_of, vetoes_of};
 
 mod session_calls;
 mod transactional_calls;
 
 use crate::link_frames::{
     attach_link, control_error, count_transfer, detach_link, pass_flow, place_control_link,
+    takes_all,
 };
 use crate::links::Links;
 use crate::numbers::SessionNumbers;
 use crate::relay::Relay;
 use crate::state_moves::require_mapped;
-use amqp_layer::{LayerBelow, SessionInnerError, Tells};
+use amqp_layer::{LayerBelow, SessionInnerError, Tells, Verdict};
 use amqp_txn_types::{
     Attach, Begin, ConnectionStopReason, Detach, Disposition, Flow, Frames, IncomingChannel,
-    OutgoingChannel, OutputHandle, Payload, SessionState, SessionStopReason, Transfer, refuse,
+    NoMemory, OutgoingChannel, OutputHandle, Payload, SessionState, SessionStopReason, Transfer,
+    refuse,
 };
 use std::alloc::Global;
 
 /// A session with links, each with a name, an output handle and, once it is attached, an input
-/// handle. It counts each call that it answers with an Err.
+/// handle. It counts each call that it answers with an Err, and each review that it vetoes: one of
+/// frames that it wouldn't all take.
 ///
 /// Of what comes for a link it keeps the link's part of each flow, in the link's [`Relay`], and how
 /// many transfers came. A transfer and its payload are let go, and so are dispositions: what needs
@@ -45,6 +48,7 @@ pub struct PlainSession {
     stop: Option<SessionStopReason>,
     connection_stop: Option<ConnectionStopReason>,
     refusals: u64,
+    vetoes: u64,
     alloc: Global,
 }
 
@@ -68,6 +72,7 @@ impl PlainSession {
         ensures stop { stop_of result ≡ None }
         ensures connection { connection_stop_of result ≡ None }
         ensures refusals { refusals_of result ≡ 0 }
+        ensures vetoes { vetoes_of result ≡ 0 }
     {
         PlainSession {
             state,
@@ -80,6 +85,7 @@ impl PlainSession {
             stop: None,
             connection_stop: None,
             refusals: 0,
+            vetoes: 0,
             alloc,
         }
     }
@@ -102,7 +108,9 @@ impl Tells for PlainSession {
 }
 
 impl LayerBelow for PlainSession {
+    ghost use Rattle.std.specs.Prelude.{false};
     ghost use Rattle.amqp_sessions.specs.PlainFrames.{PlainChecks, PlainOpens, PlainTakes, PlainWindow};
+    ghost use Rattle.amqp_sessions.specs.PlainReviewing.{PlainReviews, TakesEach, plain-goes-on, plain-stays-on, plain-window-stays-on};
 
     ghost incoming_gives = { PlainTakes };
 
@@ -111,6 +119,18 @@ impl LayerBelow for PlainSession {
     ghost check_gives = { λ old new _ answer. PlainChecks old new answer };
 
     ghost window_gives = { PlainWindow };
+
+    ghost review_gives = { PlainReviews };
+
+    ghost takes = { TakesEach };
+
+    ghost sure = { false };
+
+    ghost goes_on = { plain-goes-on };
+
+    ghost stays_on = { λ old new _ answer gives. plain-stays-on old new answer gives };
+
+    ghost window_stays_on = { plain-window-stays-on };
 
     fn local_state(&self) -> SessionState {
         self.state
@@ -201,6 +221,15 @@ impl LayerBelow for PlainSession {
             Some(self.numbers.window_flow(&self.begin))
         } else {
             None
+        }
+    }
+
+    fn review(&mut self, frames: &Frames) -> Result<Verdict, NoMemory> {
+        if takes_all(self.state, &self.links, frames.as_slice()) {
+            Ok(Verdict::Accept)
+        } else {
+            self.vetoes = self.vetoes.saturating_add(1);
+            Ok(Verdict::Veto)
         }
     }
 }

@@ -49,6 +49,8 @@ pub trait Session: LayerBelow {
     ghost use Rattle.amqp_txn_types.specs.declared.delivery.SessionStopReason.{SessionStopReason as Stop};
     ghost use Rattle.amqp_layer.specs.Told.{Checks};
     ghost use Rattle.amqp_layer.specs.declared.inner_error.SessionInnerError.{SessionInnerError as Fault};
+    ghost use Rattle.amqp_layer.specs.declared.verdict.Verdict.{Verdict as Judged};
+    ghost use Rattle.amqp_txn_types.specs.declared.items.NoMemory.{NoMemory as Full};
     ghost use Rattle.amqp_sessions.specs.declared.relay.NameState.TheVariants.{Taken, Waiting};
     ghost use Rattle.amqp_sessions.specs.declared.relay.Relay.{Relay as Passed};
     ghost use Rattle.amqp_sessions.specs.declared.session_errors.AllocLinkError.{AllocLinkError as Unallocated};
@@ -256,6 +258,11 @@ pub trait Session: LayerBelow {
     /// The check of a disposition leaves what is kept and the names.
     ghost check_leaves: { (old new : Self) (disposition : Settling) (answer : Result Unit Fault)
         → Self.check_gives old new disposition answer
+        → Leaves (kept old) (kept new) (names old) (names new) };
+
+    /// A review leaves what is kept and the names.
+    ghost review_leaves: { (old new : Self) (list : List Came) (answer : Result Judged Full)
+        → Self.review_gives old new list answer
         → Leaves (kept old) (kept new) (names old) (names new) };
 
     /// Asking for the window leaves what is kept and the names.

@@ -25,7 +25,8 @@ pub enum CommitFault {
     /// Want of memory of the session itself. The transaction is as it was.
     #[error("out of memory")]
     NoMemory,
-    /// The layer below refused a frame; the transaction has ended and the session has stopped.
+    /// The layer below wanted memory, in its review or for a frame that it had accepted; the
+    /// transaction has ended and the session has stopped.
     #[error("a frame of the commit was refused: {error}")]
     Refused {
         /// Why.
@@ -86,8 +87,9 @@ pub trait HandleDischarge: Tells {
     /// answer.
     ghost rollback_gives: { Self → Self → Id → Result Done Failure → Type 0 };
 
-    /// Ends the transaction and hands its frames below, in the order in which they came. The answers
-    /// are those of its frames; `UnknownId` where there is no such transaction.
+    /// Ends the transaction and hands its frames below, in the order in which they came, where they
+    /// are accepted there. The answers are those of its frames; `UnknownId` where there is no such
+    /// transaction, `Rollback` where its frames were vetoed: then it has ended, and none was handed.
     fn commit_transaction(
         &mut self,
         txn_id: &TransactionId,

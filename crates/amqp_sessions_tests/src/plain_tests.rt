@@ -1,8 +1,8 @@
 //! The plain session, called as its users call it.
 
 use amqp_ids::CountIds;
-use amqp_layer::{Answers, LayerBelow, SessionInnerError, take_frame};
-use amqp_session_test_values::{plain_session, relay};
+use amqp_layer::{Answers, LayerBelow, SessionInnerError, Verdict, take_frame};
+use amqp_session_test_values::{judges, plain_session, relay, takes_work};
 use amqp_sessions::*;
 use amqp_test_values::{begin, detach, disposition, flow, gives, refuses, sender_attach, transfer};
 use amqp_txn_types::{
@@ -297,4 +297,44 @@ fn a_plain_session_does_no_transactions(rt: HostRuntime) {
     );
     assert!(rt; refuses(plain.rollback_transaction(&id), TransactionError::UnknownId));
     drop(plain);
+}
+
+#[test]
+fn a_plain_session_takes_what_it_accepted(rt: HostRuntime) {
+    let alloc = rt.alloc();
+    let mut plain = plain_session(alloc, SessionState::Mapped, 9);
+    assert!(rt; is_done(allocate_incoming(alloc, &mut plain)));
+    assert!(rt; judges(alloc, &mut plain, 5, Verdict::Accept));
+    assert!(rt; takes_work(alloc, &mut plain, 5));
+    drop(plain);
+}
+
+#[test]
+fn a_transfer_on_an_unmapped_handle_is_vetoed(rt: HostRuntime) {
+    let alloc = rt.alloc();
+    let mut plain = plain_session(alloc, SessionState::Mapped, 9);
+    assert!(rt; judges(alloc, &mut plain, 4, Verdict::Veto));
+    drop(plain);
+}
+
+#[test]
+fn a_transfer_to_a_sender_is_vetoed(rt: HostRuntime) -> Result<(), Fail> {
+    let alloc = rt.alloc();
+    let mut plain = plain_session(alloc, SessionState::Mapped, 9);
+    let name = Text::from_str(alloc, "a")?;
+    plain.allocate_incoming_link(name, relay(alloc, Role::Sender), InputHandle(5))?;
+    assert!(rt; judges(alloc, &mut plain, 5, Verdict::Veto));
+    Ok(())
+}
+
+#[test]
+fn only_a_mapped_session_accepts(rt: HostRuntime) {
+    let alloc = rt.alloc();
+    let none = Frames::new(alloc);
+    let mut plain = plain_session(alloc, SessionState::Mapped, 9);
+    assert!(rt; gives(plain.review(&none), Verdict::Accept));
+    let mut ended = plain_session(alloc, SessionState::EndSent, 9);
+    assert!(rt; gives(ended.review(&none), Verdict::Veto));
+    drop(plain);
+    drop(ended);
 }

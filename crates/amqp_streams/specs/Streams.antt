@@ -20,7 +20,8 @@ pub record SinkTold : Type 0 where
 -- where the octets are told, these n came first and the others are left
 abbrev pub MovesOn : Option (List ℕ) → Option (List ℕ) → List ℕ → ℕ → Type 0
 MovesOn None new filled n = new ≡ None
-MovesOn (Some octets) new filled n = (n ≤ length octets) × (take n filled ≡ take n octets) × (new ≡ Some (drop n octets))
+MovesOn (Some octets) new filled n =
+    (n ≤ length octets) × (take n filled ≡ take n octets) × (new ≡ Some (drop n octets))
 
 -- where the octets are told, 0 in a buffer that isn't empty comes exactly at the end
 abbrev pub IsEnd : Option (List ℕ) → List ℕ → ℕ → Type 0
@@ -40,7 +41,8 @@ ReadGave old new buffer filled (Ok n) = Gives old new buffer filled n
 ReadGave old new buffer filled (Err failed) = new ≡ old
 
 -- one read
-pub record Reads (old new : Option (List ℕ)) (faults faults_after : ℕ) (buffer filled : List ℕ) (result : Result ℕ Failed) : Type 0 where
+pub record Reads (old new : Option (List ℕ)) (faults faults_after : ℕ) (buffer filled : List ℕ)
+    (result : Result ℕ Failed) : Type 0 where
   pub gave : ReadGave old new buffer filled result
   pub later : faults ≤ faults_after
   pub cause : OnErr result (Rose faults faults_after)
@@ -51,13 +53,15 @@ ReserveGave spare spare_after more (Ok done) = more ≤ spare_after
 ReserveGave spare spare_after more (Err error) = spare_after ≡ spare
 
 -- room was made
-pub record Reserves (old new : Option (List ℕ)) (faults faults_after spare spare_after more : ℕ) (result : Result Unit NoMemory) : Type 0 where
+pub record Reserves (old new : Option (List ℕ)) (faults faults_after spare spare_after more : ℕ)
+    (result : Result Unit NoMemory) : Type 0 where
   pub written : new ≡ old
   pub faults_stay : faults_after ≡ faults
   pub room : ReserveGave spare spare_after more result
 
 -- the first n octets were appended, at least one where there is one
-pub record Appends (old new : Option (List ℕ)) (spare spare_after : ℕ) (octets : List ℕ) (n : ℕ) : Type 0 where
+pub record Appends (old new : Option (List ℕ)) (spare spare_after : ℕ) (octets : List ℕ)
+    (n : ℕ) : Type 0 where
   pub within : n ≤ length octets
   pub moves : 0 < length octets → 0 < n
   pub written : new ≡ grown old (take n octets)
@@ -69,7 +73,8 @@ WriteGave old new spare spare_after octets (Ok n) = Appends old new spare spare_
 WriteGave old new spare spare_after octets (Err failed) = (new ≡ old) × (spare_after ≡ spare)
 
 -- one write
-pub record Writes (old new : Option (List ℕ)) (faults faults_after spare spare_after : ℕ) (octets : List ℕ) (result : Result ℕ Failed) : Type 0 where
+pub record Writes (old new : Option (List ℕ)) (faults faults_after spare spare_after : ℕ)
+    (octets : List ℕ) (result : Result ℕ Failed) : Type 0 where
   pub gave : WriteGave old new spare spare_after octets result
   pub later : faults ≤ faults_after
   pub cause : OnErr result (Rose faults faults_after)

@@ -23,14 +23,16 @@ pub trait ByteSink {
 
     /// Makes room for this many octets.
     fn reserve(&mut self, more: usize) -> Result<(), NoMemory>
-        ensures { Reserves (written self.old) (written self.new) (faults self.old) (faults self.new) (spare self.old) (spare self.new) more result };
+        ensures { Reserves (written self.old) (written self.new) (faults self.old) (faults self.new)
+            (spare self.old) (spare self.new) more result };
 
     /// Appends the first octets of the piece, and answers how many: at least one where there is one.
     ///
     /// A sink that fails appends nothing.
     fn write(&mut self, bytes: &[u8]) -> Result<usize, Failed>
         requires { length bytes.now ≤ spare self.old }
-        ensures { Writes (written self.old) (written self.new) (faults self.old) (faults self.new) (spare self.old) (spare self.new) bytes.now result };
+        ensures { Writes (written self.old) (written self.new) (faults self.old) (faults self.new)
+            (spare self.old) (spare self.new) bytes.now result };
 }
 
 /// Octets in memory: a sink that never fails.

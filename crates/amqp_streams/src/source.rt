@@ -26,7 +26,8 @@ pub trait ByteSource {
     ///
     /// 0 for a buffer that isn't empty is the end. A source that fails keeps what is left.
     fn read(&mut self, buf: &mut [u8]) -> Result<usize, Failed>
-        ensures { Reads (rest self.old) (rest self.new) (faults self.old) (faults self.new) buf.old buf.new result };
+        ensures { Reads (rest self.old) (rest self.new) (faults self.old) (faults self.new) buf.old
+            buf.new result };
 }
 
 /// Octets in memory: a source that never fails.

@@ -1,5 +1,5 @@
 -- The performatives that tests use.
-use Rattle.std.specs.Prelude.{ℕ, true, false, Option, None}
+use Rattle.std.specs.Prelude.{ℕ, true, false, Option, None, List, [], ◌∷◌}
 use Rattle.amqp_txn_types.specs.declared.delivery.DeliveryState.{DeliveryState}
 use Rattle.amqp_txn_types.specs.declared.delivery.DeliveryState.TheVariants as states
 use Rattle.amqp_txn_types.specs.declared.id.TransactionId.{TransactionId}
@@ -8,6 +8,8 @@ use Rattle.amqp_txn_types.specs.declared.performatives.Begin.{Begin}
 use Rattle.amqp_txn_types.specs.declared.performatives.Detach.{Detach}
 use Rattle.amqp_txn_types.specs.declared.performatives.Disposition.{Disposition}
 use Rattle.amqp_txn_types.specs.declared.performatives.Flow.{Flow}
+use Rattle.amqp_txn_types.specs.declared.performatives.Frame.{Frame}
+use Rattle.amqp_txn_types.specs.declared.performatives.Frame.TheVariants as frames
 use Rattle.amqp_txn_types.specs.declared.performatives.TargetArchetype.{TargetArchetype}
 use Rattle.amqp_txn_types.specs.declared.performatives.TargetArchetype.TheVariants as targets
 use Rattle.amqp_txn_types.specs.declared.performatives.Transfer.{Transfer}
@@ -77,6 +79,11 @@ disposition_of delivery = record {
   state = None;
   batchable = false;
 }
+
+-- work as it is handed: a transfer on a handle, of one octet, and a disposition
+abbrev pub work_of : ℕ → List Frame
+work_of handle =
+    frames.Transfer (transfer_of handle) (109 ∷ []) ∷ frames.Disposition (disposition_of 0) ∷ []
 
 -- a detach that closes its link
 abbrev pub detach_of : ℕ → Detach

@@ -1,13 +1,14 @@
 //! Performatives of a session and of a link.
 
-ghost use Rattle.std.specs.Prelude.{◌≡◌, None, Some};
-ghost use Rattle.amqp_test_values.specs.Frames.{attach_of, begin_of, control_target, detach_of, disposition_of, flow_of, state_under, transfer_of};
+ghost use Rattle.std.specs.Prelude.{◌≡◌, IfOk, None, Some};
+ghost use Rattle.amqp_test_values.specs.Frames.{attach_of, begin_of, control_target, detach_of, disposition_of, flow_of, state_under, transfer_of, work_of};
 
 use amqp_txn_types::{
-    Attach, Begin, Coordinator, DeliveryState, Detach, Disposition, Flow, Handle,
-    ReceiverSettleMode, Role, SenderSettleMode, TargetArchetype, Text, TransactionId,
-    TransactionalState, Transfer,
+    Attach, Begin, Coordinator, DeliveryState, Detach, Disposition, Flow, Frame, Frames, Handle,
+    NoMemory, Payload, ReceiverSettleMode, Role, SenderSettleMode, TargetArchetype, Text,
+    TransactionId, TransactionalState, Transfer,
 };
+use std::alloc::Global;
 
 /// A begin with windows of two transfers.
 pub fn begin(handle_max: u32) -> Begin
@@ -84,6 +85,21 @@ pub fn disposition(delivery: u32) -> Disposition
         state: None,
         batchable: false,
     }
+}
+
+/// Work as it is handed: a transfer of one octet on the handle, and a disposition. The only error is
+/// want of memory.
+pub fn work(alloc: Global, handle: u32) -> Result<Frames, NoMemory>
+    ensures { IfOk result (λ frames. frames ≡ work_of handle) }
+{
+    let payload = Payload::from_slice(alloc, &[109])?;
+    let mut frames = Vec::with_capacity(alloc, 2)?;
+    frames.push_reserved(Frame::Transfer {
+        transfer: transfer(handle),
+        payload,
+    });
+    frames.push_reserved(Frame::Disposition(disposition(0)));
+    Ok(Frames::from_vec(frames))
 }
 
 /// A detach that closes its link.

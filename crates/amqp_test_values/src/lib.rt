@@ -12,6 +12,6 @@ mod links;
 pub use answers::{gives, refuses, same};
 pub use errors::{not_allowed, other_text, plain_error, reads};
 pub use frames::{
-    begin, control_attach, detach, disposition, flow, sender_attach, transfer, under,
+    begin, control_attach, detach, disposition, flow, sender_attach, transfer, under, work,
 };
 pub use links::{call_numbers, link_end};

@@ -1,7 +1,8 @@
 //! Runs over plain sessions and listeners, each worked by hand.
 
 use crate::run_over::{A, assert_over};
-use amqp_acceptors::ControlLinkAcceptor;
+use amqp_accepting::AcceptingListener;
+use amqp_acceptors::{ControlLinkAcceptor, LinkAcceptor};
 use amqp_below::PlainSession;
 use amqp_listener::ListenerSession;
 use amqp_txn_types::{Begin, Handle, OutgoingChannel, SessionState};
@@ -32,9 +33,11 @@ fn a_plain_session_refuses_an_unattached_handle(rt: HostRuntime) -> Result<(), F
     assert_over(&rt, below, &["run", A], lines, (1, text))
 }
 
-/// A listener over such a session.
-fn listener_session(alloc: Global) -> ListenerSession<PlainSession> {
-    ListenerSession::new(alloc, plain_session(alloc), ControlLinkAcceptor::default())
+/// A listener over such a session that accepts links at once.
+fn listener_session(alloc: Global) -> AcceptingListener<PlainSession> {
+    let control = ControlLinkAcceptor::default();
+    let listener = ListenerSession::new(alloc, plain_session(alloc), control);
+    AcceptingListener::new(alloc, listener, LinkAcceptor::new())
 }
 
 /// Runs the program over a listener, and compares its status and its text.
@@ -57,7 +60,35 @@ fn what_a_listener_lets_pass_is_taken(rt: HostRuntime) -> Result<(), Fail> {
 }
 
 #[test]
-fn a_listener_answers_the_attach_of_a_control_link(rt: HostRuntime) -> Result<(), Fail> {
+fn a_commit_on_an_attached_link_is_handed(rt: HostRuntime) -> Result<(), Fail> {
+    assert_listen(
+        &rt,
+        &["listen", A],
+        "attach c 4\n\
+         link q 1 sender\n\
+         control 0 00537700533145\n\
+         post 00000000000000000000000000000001 1 7 - - 6869\n\
+         control 0 005377005332c01301a01000000000000000000000000000000001\n",
+        0,
+        "attached 0\n\
+         out attach c 0 receiver\n\
+         out flow 0 200\n\
+         ok\n\
+         out attach q 1 receiver\n\
+         out flow 1 200\n\
+         declared 00000000000000000000000000000001\n\
+         ok\n\
+         out disposition receiver 7 - true txn:00000000000000000000000000000001:accepted\n\
+         accepted\n\
+         stop done\n\
+         handed 0\n\
+         taken attach q 1 sender\n\
+         taken transfer 1 7 - - 6869\n",
+    )
+}
+
+#[test]
+fn a_commit_on_an_unattached_handle_is_vetoed(rt: HostRuntime) -> Result<(), Fail> {
     assert_listen(
         &rt,
         &["listen", A],
@@ -72,10 +103,9 @@ fn a_listener_answers_the_attach_of_a_control_link(rt: HostRuntime) -> Result<()
          declared 00000000000000000000000000000001\n\
          ok\n\
          out disposition receiver 7 - true txn:00000000000000000000000000000001:accepted\n\
-         accepted\n\
+         rejected rollback\n\
          stop done\n\
-         handed 0\n\
-         taken transfer 9 7 - - 6869\n",
+         handed 0\n",
     )
 }
 
@@ -97,13 +127,37 @@ fn a_listener_refuses_a_handle_that_is_in_use(rt: HostRuntime) -> Result<(), Fai
 }
 
 #[test]
-fn a_link_waits_in_the_queue_of_a_listener(rt: HostRuntime) -> Result<(), Fail> {
+fn a_link_is_attached_until_its_detach(rt: HostRuntime) -> Result<(), Fail> {
     assert_listen(
         &rt,
         &["listen", A],
-        "link q 1 sender\nflow 1 9\ndetach 1 true\n",
+        "link q 1 receiver\nflow 1 9\ndetach 1 true\ndetach 1 true\n",
         1,
-        "ok\nok\nstop unattached-handle\nhanded 0\ntaken attach q 1 sender\ntaken flow 1 9\n",
+        "ok\n\
+         out attach q 0 sender\n\
+         ok\n\
+         ok\n\
+         out detach 0 true\n\
+         stop unattached-handle\n\
+         handed 0\n\
+         taken attach q 1 receiver\n\
+         taken flow 1 9\n\
+         taken detach 1 true\n",
+    )
+}
+
+#[test]
+fn a_link_of_a_known_name_is_refused(rt: HostRuntime) -> Result<(), Fail> {
+    assert_listen(
+        &rt,
+        &["listen", A],
+        "attach c 4\nlink c 1 sender\nflow 4 9\n",
+        1,
+        "attached 0\n\
+         out attach c 0 receiver\n\
+         out flow 0 200\n\
+         stop handle-in-use\n\
+         handed 0\n",
     )
 }
 

@@ -5,10 +5,13 @@ use Rattle.amqp_txn_types.specs.declared.small.SessionState.TheVariants as state
 use Rattle.amqp_layer.specs.Told.{Told}
 use Rattle.amqp_layer.specs.declared.open.OpenSession.{OpenSession}
 use Rattle.amqp_sessions.specs.declared.plain_session.PlainSession.{PlainSession}
-use Rattle.amqp_recorder.specs.Recording.{IsFresh, inner_of, is_unused, own_of as refused_by, plan_of}
+use Rattle.amqp_recorder.specs.Recording.{IsFresh, inner_of, is_unused, own_of as refused_by, own_vetoes_of as vetoed_by, plan_of, starved_of}
 use Rattle.amqp_recorder.specs.declared.recorder.Recorder.{Recorder}
 use Rattle.amqp_acceptors.specs.Fields.{default_shared}
 use Rattle.amqp_acceptors.specs.Receivers.{IsDefaultReceiver}
+use Rattle.amqp_acceptors.specs.Senders.{IsDefaultSender}
+use Rattle.amqp_accepting.specs.AtOnce.{Acceptor, acceptor_of, listener_of, own_of as accepting_own}
+use Rattle.amqp_accepting.specs.declared.accepting.AcceptingListener.{AcceptingListener}
 use Rattle.amqp_listener.specs.Listening.{control_of, held_of, inner_of as session_of, own_of, queue_of}
 use Rattle.amqp_listener.specs.declared.listener.ListenerSession.{ListenerSession}
 use Rattle.amqp_session_builder.specs.Builders.{IsNew, begin_built, default_builder}
@@ -21,13 +24,19 @@ use Rattle.txn_main.specs.declared.below.Below.TheVariants as belows
 
 -- the layer that the words ask for
 abbrev pub layer_of : Option Command → Layer
-layer_of (Some (commands.Run layer plan ids)) = layer
+layer_of (Some (commands.Run layer plans ids)) = layer
 layer_of (Some (commands.Make count)) = layers.Open
 layer_of None = layers.Open
 
+-- an acceptor with the default fields
+pub record IsDefaultAcceptor (acceptor : Acceptor) : Type 0 where
+  pub shared : acceptor.shared ≡ default_shared
+  pub sender : IsDefaultSender acceptor.local_sender_acceptor
+  pub receiver : IsDefaultReceiver acceptor.local_receiver_acceptor
+
 -- a Mapped session of the default builder that is listened on, with the default acceptor for
 -- control links, of which nothing has come
-pub record IsNewListener (listener : ListenerSession PlainSession) : Type 0 where
+pub record IsNewSession (listener : ListenerSession PlainSession) : Type 0 where
   pub session : IsNew (session_of listener) (record { 0 = 0 }) states.Mapped
       (begin_built default_builder)
   pub shared : (control_of listener).shared ≡ default_shared
@@ -36,13 +45,21 @@ pub record IsNewListener (listener : ListenerSession PlainSession) : Type 0 wher
   pub held : (input : InputHandle) → held_of listener input ≡ []
   pub own : own_of listener ≡ 0
 
--- a fresh recorder that refuses nothing by a plan and has refused nothing
+-- such a session of which each other link is accepted at once, by the default acceptor
+pub record IsNewListener (listener : AcceptingListener PlainSession) : Type 0 where
+  pub session : IsNewSession (listener_of listener)
+  pub acceptor : IsDefaultAcceptor (acceptor_of listener)
+  pub own : accepting_own listener ≡ 0
+
+-- a fresh recorder that has no plan, and has refused and vetoed nothing
 abbrev pub IsNewRecorder : {S : Type 0} → Told → Recorder S → Type 0
 IsNewRecorder told below =
-    IsFresh (is_unused below) told × (plan_of below ≡ []) × (refused_by below ≡ 0)
+    IsFresh (is_unused below) told × (plan_of below ≡ []) × (starved_of below ≡ [])
+    × (refused_by below ≡ 0) × (vetoed_by below ≡ 0)
 
 -- a new recorder over the layer that is asked for, of which these two say what each tells
-abbrev pub IsOver : (Recorder OpenSession → Told) → (Recorder (ListenerSession PlainSession) → Told)
+abbrev pub IsOver : (Recorder OpenSession → Told)
+    → (Recorder (AcceptingListener PlainSession) → Told)
     → Layer → Below → Type 0
 IsOver open_told listener_told layers.Open (belows.Open below) =
     IsNewRecorder (open_told below) below

@@ -3,7 +3,8 @@
 ghost use Rattle.std.specs.Prelude.{◌≡◌};
 ghost use Rattle.txn_main.specs.Layers.{IsNewListener, IsOver, layer_of};
 
-use amqp_acceptors::ControlLinkAcceptor;
+use amqp_accepting::AcceptingListener;
+use amqp_acceptors::{ControlLinkAcceptor, LinkAcceptor};
 use amqp_below::{OpenSession, PlainSession, Recorder, Tells};
 use amqp_listener::ListenerSession;
 use amqp_session_builder::Builder;
@@ -16,7 +17,7 @@ pub enum Below {
     /// Over a layer that takes everything.
     Open(Recorder<OpenSession>),
     /// Over a session that is listened on.
-    Listener(Recorder<ListenerSession<PlainSession>>),
+    Listener(Recorder<AcceptingListener<PlainSession>>),
 }
 
 /// The layer that a command asks for: `listen` a listener, and every other the open one.
@@ -32,7 +33,7 @@ fn layer_of(command: &Option<Command>) -> Layer
 /// A new recorder over the layer that a command asks for. It takes no memory.
 pub fn below_of(alloc: Global, command: &Option<Command>) -> Below
     ensures { IsOver ⟦<Recorder<OpenSession> as Tells>⟧.told
-        ⟦<Recorder<ListenerSession<PlainSession>> as Tells>⟧.told (layer_of command.now) result }
+        ⟦<Recorder<AcceptingListener<PlainSession>> as Tells>⟧.told (layer_of command.now) result }
 {
     match layer_of(command) {
         Layer::Open => Below::Open(Recorder::new(alloc, OpenSession::new(alloc))),
@@ -41,10 +42,11 @@ pub fn below_of(alloc: Global, command: &Option<Command>) -> Below
 }
 
 /// A listener over a Mapped session of the default builder, with the default acceptor for control
-/// links.
-fn listener(alloc: Global) -> ListenerSession<PlainSession>
+/// links, that accepts each other link at once by the default acceptor.
+fn listener(alloc: Global) -> AcceptingListener<PlainSession>
     ensures { IsNewListener result }
 {
     let session = Builder::new().into_session(alloc, OutgoingChannel(0), SessionState::Mapped);
-    ListenerSession::new(alloc, session, ControlLinkAcceptor::default())
+    let listener = ListenerSession::new(alloc, session, ControlLinkAcceptor::default());
+    AcceptingListener::new(alloc, listener, LinkAcceptor::new())
 }

@@ -149,7 +149,7 @@ posted-entry r e low high number delivery es answer mid =
     let given = subst (λ (s : Step). Answer r s e.drawn.ids e.reply) es answer in
     (midway-post r e low high _ (id_of_number number) es given.1 mid, given.0)
 
--- the discharge of the lowest number's id is accepted
+-- the discharge of the lowest number's id ends it
 discharged-entry : (r : List Entry) (e : Entry) (low high next : ℕ) → e.step ≡ made_discharge low
     → Answer r e.step e.drawn.ids e.reply → next ≡ low + 1 → low < high → low < 2 ^ 64
     → Midway r low high → Midway (r ++ e ∷ []) next high × (e.drawn.ids ≡ [])
@@ -160,7 +160,7 @@ discharged-entry r e low high next es answer more below few mid =
     let given : Answer r (steps.Control 0 (canon m)) e.drawn.ids e.reply = subst (λ (s : Step). Answer r s e.drawn.ids e.reply) es answer in
     let said : AnswerDischarge r 0 (id_of_number low) (made_fail low) e.drawn.ids e.reply = on_link r (canon m) m e.drawn.ids e.reply mid.link read given in
     let replied = discharge-reply r (id_of_number low) (made_fail low) e.drawn.ids e.reply (mid.held low (omega arith) below few) said in
-    (midway-discharge r e low high next (canon m) (made_fail low) replied.0.0 es replied.0.1 read more below few mid, replied.1)
+    (midway-discharge r e low high next (canon m) (made_fail low) es replied.0 read more below few mid, replied.1)
 
 -- ---- the run
 

@@ -198,30 +198,59 @@ midway-declare r e low high next payload es er more few mid =
 
 -- ---- a discharge
 
--- a discharge of an id that is live, on its home, is accepted
+-- the reply ends the id that is discharged: the discharge is accepted, or the commit vetoed
+abbrev pub EndsId : Reply → Type 0
+EndsId (replies.Accepted echoes) = Unit {0}
+EndsId (replies.Rejected transaction_errors.Rollback text) = Unit {0}
+EndsId _ = ⊥
+
+-- a discharge of an id that is live, on its home, ends it
 pub discharge-reply : (r : List Entry) (t : TransactionId) (fail : Option Bool) (d : List TransactionId) (reply : Reply)
-    → is_held_on r 0 t ≡ true → AnswerDischarge r 0 t fail d reply → ((echoes : List Answers) × (reply ≡ replies.Accepted echoes)) × (d ≡ [])
-discharge-reply r t fail d (replies.Accepted echoes) held x = ((echoes, refl), x.1)
+    → is_held_on r 0 t ≡ true → AnswerDischarge r 0 t fail d reply → EndsId reply × (d ≡ [])
+discharge-reply r t fail d (replies.Accepted echoes) held x = (tt, x.1)
+discharge-reply r t fail d (replies.Rejected transaction_errors.Rollback texts.Absent) held x = (tt, x.1)
 discharge-reply r t fail d (replies.Rejected transaction_errors.UnknownId texts.Absent) held x = let dead = x.0 in cc (held, dead)
 discharge-reply r t fail d _ held x = absurd x
 
-accepted-keeps : (e : Entry) (payload : List ℕ) (echoes : List Answers) → e.step ≡ steps.Control 0 payload → e.reply ≡ replies.Accepted echoes → KeepsLinks e
-accepted-keeps e payload echoes es er = record {
-  attached = λ k. ap (reply_attaches k) er;
-  closed = λ k. ap (λ s. step_closes k s e.reply) es ∙ ap (step_closes k (steps.Control 0 payload)) er;
+-- such a reply attaches no link, closes none, declares no id, and ends the one that is discharged
+ends-attaches : (k : ℕ) (reply : Reply) → EndsId reply → reply_attaches k reply ≡ false
+ends-attaches k (replies.Accepted echoes) ends = refl
+ends-attaches k (replies.Rejected transaction_errors.Rollback text) ends = refl
+ends-attaches k _ ends = absurd ends
+
+ends-closes : (k : ℕ) (payload : List ℕ) (reply : Reply) → EndsId reply → step_closes k (steps.Control 0 payload) reply ≡ false
+ends-closes k payload (replies.Accepted echoes) ends = refl
+ends-closes k payload (replies.Rejected transaction_errors.Rollback text) ends = refl
+ends-closes k payload _ ends = absurd ends
+
+ends-declares : (u : TransactionId) (reply : Reply) → EndsId reply → reply_declares u reply ≡ false
+ends-declares u (replies.Accepted echoes) ends = refl
+ends-declares u (replies.Rejected transaction_errors.Rollback text) ends = refl
+ends-declares u _ ends = absurd ends
+
+ends-discharges : (u : TransactionId) (payload : List ℕ) (reply : Reply) → EndsId reply
+    → step_discharges u (steps.Control 0 payload) reply ≡ message_discharges u (message_of payload)
+ends-discharges u payload (replies.Accepted echoes) ends = refl
+ends-discharges u payload (replies.Rejected transaction_errors.Rollback text) ends = refl
+ends-discharges u payload _ ends = absurd ends
+
+ends-keeps : (e : Entry) (payload : List ℕ) → e.step ≡ steps.Control 0 payload → EndsId e.reply → KeepsLinks e
+ends-keeps e payload es ends = record {
+  attached = λ k. ends-attaches k e.reply ends;
+  closed = λ k. ap (λ s. step_closes k s e.reply) es ∙ ends-closes k payload e.reply ends;
 }
 
 -- a discharge of the lowest number's id leaves the others
-pub midway-discharge : (r : List Entry) (e : Entry) (low high next : ℕ) (payload : List ℕ) (fail : Option Bool) (echoes : List Answers)
-    → e.step ≡ steps.Control 0 payload → e.reply ≡ replies.Accepted echoes
+pub midway-discharge : (r : List Entry) (e : Entry) (low high next : ℕ) (payload : List ℕ) (fail : Option Bool)
+    → e.step ≡ steps.Control 0 payload → EndsId e.reply
     → message_of payload ≡ Some (messages.Discharge (record { txn_id = id_of_number low; fail = fail }))
     → next ≡ low + 1 → low < high → low < 2 ^ 64
     → Midway r low high → Midway (r ++ e ∷ []) next high
-midway-discharge r e low high next payload fail echoes es er read more below few mid =
-    let keeps = accepted-keeps e payload echoes es er in
-    let undeclared : (u : TransactionId) → declares u e ≡ false = λ u. ap (reply_declares u) er in
+midway-discharge r e low high next payload fail es ends read more below few mid =
+    let keeps = ends-keeps e payload es ends in
+    let undeclared : (u : TransactionId) → declares u e ≡ false = λ u. ends-declares u e.reply ends in
     let says : (u : TransactionId) → discharges u e ≡ same_id u (id_of_number low) =
-    λ u. ap (λ s. step_discharges u s e.reply) es ∙ ap (step_discharges u (steps.Control 0 payload)) er ∙ ap (message_discharges u) read in
+    λ u. ap (λ s. step_discharges u s e.reply) es ∙ ends-discharges u payload e.reply ends ∙ ap (message_discharges u) read in
     let other : (m : ℕ) → m < 2 ^ 64 → (m ≡ low → ⊥) → discharges (id_of_number m) e ≡ false =
     λ m small apart. says (id_of_number m) ∙ other_id m low small few apart in
     record {

@@ -55,6 +55,6 @@ MadeEnds status = (status ≡ 6) ⊎ (status ≡ 0)
 -- by the words
 abbrev pub Completes : Option Command → Reading → Option Driven → ℕ → Type 0
 Completes None reading driven status = (status ≡ 6) ⊎ (status ≡ 2)
-Completes (Some (commands.Run layer plan ids)) reading driven status =
+Completes (Some (commands.Run layer plans ids)) reading driven status =
     InputEnds reading driven status
 Completes (Some (commands.Make count)) reading driven status = MadeEnds status

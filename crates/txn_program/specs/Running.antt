@@ -4,7 +4,7 @@ use Rattle.std.specs.Fmt.{decimal}
 use Rattle.amqp_txn_types.specs.declared.id.TransactionId.{TransactionId}
 use Rattle.amqp_txn_types.specs.declared.performatives.Frame.{Frame}
 use Rattle.amqp_layer.specs.declared.inner_error.SessionInnerError.TheVariants as faults
-use Rattle.amqp_layer.specs.Told.{Told}
+use Rattle.amqp_layer.specs.Told.{Fixed, Told}
 use Rattle.amqp_ids.specs.Ids.{AreNext}
 use Rattle.amqp_record.specs.declared.step.Step.{Step}
 use Rattle.amqp_record.specs.declared.entry.Entry.{Entry}
@@ -14,6 +14,7 @@ use Rattle.amqp_record.specs.declared.stop.Driven.{Driven}
 use Rattle.amqp_record.specs.Entries.{drawn_of, steps_of}
 use Rattle.amqp_record.specs.Legal.{IsLegal}
 use Rattle.amqp_record.specs.Opened.{opens}
+use Rattle.amqp_record.specs.Vetoed.{vetoes}
 use Rattle.amqp_resource.specs.Drive.{RunTook, RunRefused, StopCause}
 use Rattle.amqp_ids.specs.Counted.{ids_from}
 use Rattle.amqp_streams.specs.Streams.{SourceTold}
@@ -27,6 +28,7 @@ use Rattle.txn_program.specs.declared.running.Written.{Written}
 use Rattle.txn_program.specs.declared.running.Written.TheVariants as kinds
 use Rattle.txn_program.specs.Words.{stream_of_ids}
 use Rattle.txn_program.specs.declared.words.Command.{Command}
+use Rattle.txn_program.specs.declared.words.Plans.{Plans}
 use Rattle.txn_program.specs.declared.words.Command.TheVariants as commands
 
 -- ---- statuses
@@ -60,7 +62,7 @@ input_status (readings.Whole octets) driven = spelled_status (input_steps octets
 -- sink apart
 abbrev pub status_of : Option Command → Reading → Option Driven → ℕ
 status_of None reading driven = 2
-status_of (Some (commands.Run layer plan ids)) reading driven = input_status reading driven
+status_of (Some (commands.Run layer plans ids)) reading driven = input_status reading driven
 status_of (Some (commands.Make count)) reading driven = driven_status driven
 
 -- ---- texts
@@ -102,7 +104,7 @@ text_of kinds.Summary = summary_text
 -- the text that is written, by the words
 abbrev pub written_text : Option Command → Reading → Told → Option Driven → List ℕ
 written_text None reading below driven = codes "usage\n"
-written_text (Some (commands.Run layer plan ids)) reading below driven =
+written_text (Some (commands.Run layer plans ids)) reading below driven =
     input_text reading below driven
 written_text (Some (commands.Make count)) reading below driven = summary_text below driven
 
@@ -113,7 +115,7 @@ written_text (Some (commands.Make count)) reading below driven = summary_text be
 abbrev pub ReadFor :
     Option Command → ℕ → Option Driven → SourceTold → SourceTold → Reading → Type 0
 ReadFor None status driven before after reading = after ≡ before
-ReadFor (Some (commands.Run layer plan ids)) status driven before after reading =
+ReadFor (Some (commands.Run layer plans ids)) status driven before after reading =
     Finds before after reading ⊎ ((status ≡ 6) × IsNone driven)
 ReadFor (Some (commands.Make count)) status driven before after reading = after ≡ before
 
@@ -122,29 +124,37 @@ abbrev pub plan_or : List ℕ → Option (List ℕ) → List ℕ
 plan_or before None = before
 plan_or before (Some plan) = plan
 
--- the plan that the words leave to the recorder
-abbrev pub plan_left : List ℕ → Option Command → List ℕ
-plan_left before None = before
-plan_left before (Some (commands.Run layer plan ids)) = plan_or before plan
-plan_left before (Some (commands.Make count)) = before
+-- the plans of the words in place of those that were there
+abbrev pub under_plans : Plans → Fixed → Fixed
+under_plans plans before = record before {
+  plan = plan_or before.plan plans.refused;
+  starved = plan_or before.starved plans.starved;
+}
 
--- the plan at the end is the LIST of the words, or as it was without one; for want of memory before
--- the drive it may be as it was
-abbrev pub PlanLeft : Option Command → ℕ → Option Driven → List ℕ → List ℕ → Type 0
-PlanLeft command status driven before after =
-    (after ≡ plan_left before command) ⊎ ((status ≡ 6) × IsNone driven × (after ≡ before))
+-- the plans that the words leave to the recorder
+abbrev pub plans_left : Option Command → Fixed → Fixed
+plans_left None before = before
+plans_left (Some (commands.Run layer plans ids)) before = under_plans plans before
+plans_left (Some (commands.Make count)) before = before
 
--- nothing was taken, opened or refused
+-- each plan at the end is its LIST of the words, or as it was without one, and the state stays; for
+-- want of memory before the drive both plans may be as they were
+abbrev pub PlansLeft : Option Command → ℕ → Option Driven → Fixed → Fixed → Type 0
+PlansLeft command status driven before after =
+    (after ≡ plans_left command before) ⊎ ((status ≡ 6) × IsNone driven × (after ≡ before))
+
+-- nothing was taken, opened, refused or vetoed
 pub record Untouched (before after : Told) : Type 0 where
   pub taken : after.taken ≡ before.taken
   pub opened : after.opened ≡ before.opened
   pub refused : after.refused ≡ before.refused
   pub refusals : after.refusals ≡ before.refusals
+  pub reviews : after.reviews ≡ before.reviews
 
 -- ---- a run and its record
 
 -- a legal run over a front of the steps, with the ids of that source, and what the layer below has
--- then taken, opened and refused of it
+-- then taken, opened, refused and vetoed of it
 pub record IsRun (ids : ℕ → TransactionId) (steps : List Step) (below : Told)
     (driven : Driven) : Type 0 where
   -- the record is legal, for the id source
@@ -161,6 +171,8 @@ pub record IsRun (ids : ℕ → TransactionId) (steps : List Step) (below : Told
   pub taken : RunTook (Some []) below.taken steps driven.entries driven.stop driven.handed
   pub opened : below.opened ≡ Some (opens driven.entries)
   pub refused : RunRefused (Some []) below.refused steps driven.entries driven.stop driven.handed
+  -- vetoed is, for each commit that was rolled back instead, what it would have handed
+  pub vetoed : below.reviews.vetoed ≡ Some (vetoes driven.entries)
 
 -- the input was read whole and each of its lines is a step, and of these steps the fact holds
 abbrev pub IsSpelledBy : Reading → (List Step → Type 0) → Type 0
@@ -173,6 +185,6 @@ IsSpelledBy (readings.Whole octets) P = IsOkAnd (input_steps octets) P
 abbrev pub IsRunOf :
     Option Command → Reading → ((ℕ → TransactionId) → List Step → Type 0) → Type 0
 IsRunOf None reading P = ⊥
-IsRunOf (Some (commands.Run layer plan ids)) reading P =
+IsRunOf (Some (commands.Run layer plans ids)) reading P =
     IsSpelledBy reading (P (stream_of_ids ids))
 IsRunOf (Some (commands.Make count)) reading P = P (ids_from 1) (made count)

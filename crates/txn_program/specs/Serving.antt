@@ -5,10 +5,10 @@ use Rattle.amqp_layer.specs.Told.{Told}
 use Rattle.amqp_recorder.specs.declared.recorder.Recorder.{Recorder}
 use Rattle.amqp_record.specs.declared.step.Step.{Step}
 use Rattle.amqp_record.specs.declared.stop.Driven.{Driven}
-use Rattle.amqp_resource.specs.Drive.{RunRose}
+use Rattle.amqp_resource.specs.Drive.{RunRose, RunVetoed}
 use Rattle.amqp_streams.specs.Streams.{SinkTold, SourceTold}
 use Rattle.txn_program.specs.Reading.{Finds}
-use Rattle.txn_program.specs.Running.{IsRun, IsRunOf, IsSpelledBy, PlanLeft, ReadFor, Untouched, driven_status, input_status, input_text, spelled_status, spelled_text, status_of, text_of, written_text}
+use Rattle.txn_program.specs.Running.{IsRun, IsRunOf, IsSpelledBy, PlansLeft, ReadFor, Untouched, driven_status, input_status, input_text, spelled_status, spelled_text, status_of, text_of, written_text}
 use Rattle.txn_program.specs.Completing.{Completes, InputEnds, NoneRose, RunEnds, SpelledEnds}
 use Rattle.txn_program.specs.Writing.{EndsWith, Wrote}
 use Rattle.txn_program.specs.declared.reading.Reading.{Reading}
@@ -37,6 +37,9 @@ pub record Runs {S : Type 0} (output written : SinkTold) (told : Recorder S → 
   -- nothing but want of memory
   pub rose : IfSome ran.driven (λ driven. RunRose before.refusals (told ran.below).refusals
       driven.entries driven.stop)
+  -- so was each veto
+  pub vetoes_rose : IfSome ran.driven (λ driven. RunVetoed before.reviews.vetoes
+      (told ran.below).reviews.vetoes driven.entries)
   pub completes : NoneRose before.refusals (told ran.below).refusals →
       NoneRose output.faults written.faults → Ends ran.driven ran.status
   -- what is written is the report, the summary, or the text of the status
@@ -91,7 +94,5 @@ pub record Serves {S : Type 0} (told : Recorder S → Told) (command : Option Co
   -- the run of the steps that the words ask for, with the ids that they name
   pub run : Runs output written told (told below) (status_of command reading)
       (IsRunOf command reading) (Completes command reading) (written_text command reading) ran
-  -- the plan is that of the words, or as it was
-  pub plan : PlanLeft command ran.status ran.driven (told below).fixed.plan
-      (told ran.below).fixed.plan
-  pub state : (told ran.below).fixed.state ≡ (told below).fixed.state
+  -- the plans are those of the words, or as they were
+  pub plans : PlansLeft command ran.status ran.driven (told below).fixed (told ran.below).fixed

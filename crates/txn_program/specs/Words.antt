@@ -5,6 +5,7 @@ use Rattle.std.specs.Str.{bytes_eq}
 use Rattle.amqp_txn_types.specs.declared.id.TransactionId.{TransactionId}
 use Rattle.txn_program.specs.declared.words.Ids.{Ids}
 use Rattle.txn_program.specs.declared.words.Ids.TheVariants as id_kinds
+use Rattle.txn_program.specs.declared.words.Plans.{Plans}
 use Rattle.txn_program.specs.declared.words.Layer.{Layer}
 use Rattle.txn_program.specs.declared.words.Layer.TheVariants as layers
 use Rattle.txn_program.specs.declared.words.Command.{Command}
@@ -65,25 +66,43 @@ id_words [] = None
 id_words (word ∷ words) =
     if bytes_eq word (codes "--seed") then seed_words words else list_words (word ∷ words)
 
--- the ids, over that layer and under a plan
-abbrev pub run_of : Layer → Option (List ℕ) → List (List ℕ) → Option Command
-run_of layer plan words = do
+-- the ids, over that layer and under these plans
+abbrev pub run_of : Layer → Plans → List (List ℕ) → Option Command
+run_of layer plans words = do
   ids ← id_words words
-  Some (commands.Run layer plan ids)
+  Some (commands.Run layer plans ids)
 
--- LIST and the ids
+-- the plans that were spelled
+abbrev pub plans_of : Option (List ℕ) → Option (List ℕ) → Plans
+plans_of refused starved = record { refused = refused; starved = starved }
+
+-- LIST of the starved calls, and the ids
+abbrev pub starving_words : Layer → Option (List ℕ) → List (List ℕ) → Option Command
+starving_words layer refused [] = None
+starving_words layer refused (word ∷ words) = do
+  starved ← call_list_of word
+  run_of layer (plans_of refused (Some starved)) words
+
+-- `--starve LIST` and the ids, or without such a plan the ids alone
+abbrev pub starving_or : Layer → Option (List ℕ) → List (List ℕ) → Option Command
+starving_or layer refused [] = None
+starving_or layer refused (word ∷ words) =
+    if bytes_eq word (codes "--starve") then starving_words layer refused words
+    else run_of layer (plans_of refused None) (word ∷ words)
+
+-- LIST of the refused calls, and what may follow
 abbrev pub refusing_words : Layer → List (List ℕ) → Option Command
 refusing_words layer [] = None
 refusing_words layer (word ∷ words) = do
-  plan ← call_list_of word
-  run_of layer (Some plan) words
+  refused ← call_list_of word
+  starving_or layer (Some refused) words
 
--- `--refuse LIST` and the ids, or without a plan the ids alone
+-- `--refuse LIST` and what may follow, or without such a plan that alone
 abbrev pub run_words : Layer → List (List ℕ) → Option Command
 run_words layer [] = None
 run_words layer (word ∷ words) =
     if bytes_eq word (codes "--refuse") then refusing_words layer words
-    else run_of layer None (word ∷ words)
+    else starving_or layer None (word ∷ words)
 
 -- `make N`, with N from 1 to 20,000
 abbrev pub make_words : List (List ℕ) → Option Command
@@ -110,7 +129,7 @@ AreSome (id_kinds.Seeded seed) = Unit {0}
 -- transactions are made
 abbrev pub IsWithin : Option Command → Type 0
 IsWithin None = Unit {0}
-IsWithin (Some (commands.Run layer plan ids)) = AreSome ids
+IsWithin (Some (commands.Run layer plans ids)) = AreSome ids
 IsWithin (Some (commands.Make count)) = (1 ≤ count) × (count ≤ 20000)
 
 -- the ids that are drawn, one after another

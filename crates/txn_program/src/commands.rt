@@ -2,7 +2,7 @@
 
 ghost use Rattle.std.specs.Prelude.{◌≡◌};
 ghost use Rattle.amqp_recorder.specs.Recording.{IsFresh, is_unused};
-ghost use Rattle.amqp_layer.specs.Told.{planned};
+ghost use Rattle.amqp_layer.specs.Told.{planned, starving};
 ghost use Rattle.txn_program.specs.Words.{IsWithin, command_of};
 ghost use Rattle.txn_program.specs.Reading.{source_of};
 ghost use Rattle.txn_program.specs.Running.{plan_or};
@@ -87,16 +87,17 @@ pub fn run_command<S: LayerBelow + Send, I: ByteSource, O: ByteSink>(
         (sink_of O.written O.faults O.spare output.new) result }
 {
     match command {
-        Some(Command::Run { plan, ids, .. }) => {
-            run_drawing(alloc, ids, with_plan(below, plan), input, output)
+        Some(Command::Run { plans, ids, .. }) => {
+            let below = with_starved(with_refused(below, plans.refused), plans.starved);
+            run_drawing(alloc, ids, below, input, output)
         }
         Some(Command::Make(count)) => run_made(alloc, count, below, output),
         None => told(status::USAGE, b"usage\n", below, output),
     }
 }
 
-/// The recorder with the plan of the words, where they have one.
-fn with_plan<S: LayerBelow>(below: Recorder<S>, plan: Option<CallNumbers>) -> Recorder<S>
+/// The recorder with the plan of the words for what it refuses, where they have one.
+fn with_refused<S: LayerBelow>(below: Recorder<S>, plan: Option<CallNumbers>) -> Recorder<S>
     requires { IsFresh (is_unused below) (⟦<Recorder<S> as Tells>⟧.told below) }
     ensures fresh { IsFresh (is_unused result) (⟦<Recorder<S> as Tells>⟧.told result) }
     ensures told { ⟦<Recorder<S> as Tells>⟧.told result
@@ -108,5 +109,21 @@ fn with_plan<S: LayerBelow>(below: Recorder<S>, plan: Option<CallNumbers>) -> Re
     };
     let mut below = below;
     below.set_plan(plan);
+    below
+}
+
+/// The recorder with the plan of the words for what it starves, where they have one.
+fn with_starved<S: LayerBelow>(below: Recorder<S>, plan: Option<CallNumbers>) -> Recorder<S>
+    requires { IsFresh (is_unused below) (⟦<Recorder<S> as Tells>⟧.told below) }
+    ensures fresh { IsFresh (is_unused result) (⟦<Recorder<S> as Tells>⟧.told result) }
+    ensures told { ⟦<Recorder<S> as Tells>⟧.told result
+        ≡ starving (plan_or (⟦<Recorder<S> as Tells>⟧.told below).fixed.starved plan)
+        (⟦<Recorder<S> as Tells>⟧.told below) }
+{
+    let Some(plan) = plan else {
+        return below;
+    };
+    let mut below = below;
+    below.set_starved(plan);
     below
 }

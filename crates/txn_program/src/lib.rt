@@ -41,4 +41,4 @@ pub use reporting::report;
 pub use running::Ran;
 pub use std_streams::{StdSink, StdSource};
 pub use txn_lines::{SpellError, spells};
-pub use words::{Command, Ids, Layer, TransactionIds, command_of};
+pub use words::{Command, Ids, Layer, Plans, TransactionIds, command_of};

@@ -3,7 +3,7 @@
 ghost use Rattle.std.specs.Prelude.{◌≡◌, ◌≤◌, Some, None, List, ℕ, IfOk, string_bytes};
 ghost use Rattle.amqp_recorder.specs.Recording.{IsFresh, is_unused};
 ghost use Rattle.amqp_ids.specs.Counted.{ids_from};
-ghost use Rattle.amqp_resource.specs.Drive.{RunRose};
+ghost use Rattle.amqp_resource.specs.Drive.{RunRose, RunVetoed};
 ghost use Rattle.txn_lines.specs.Lines.{input_steps};
 ghost use Rattle.txn_program.specs.Made.{made};
 ghost use Rattle.txn_program.specs.Reading.{source_of};
@@ -328,6 +328,8 @@ fn drive_steps<S: LayerBelow, G: IdSource>(
     ensures rose { RunRose (⟦<Recorder<S> as Tells>⟧.told below).refusals
         (⟦<Recorder<S> as Tells>⟧.told result.below).refusals
         result.driven.entries result.driven.stop }
+    ensures vetoes_rose { RunVetoed (⟦<Recorder<S> as Tells>⟧.told below).reviews.vetoes
+        (⟦<Recorder<S> as Tells>⟧.told result.below).reviews.vetoes result.driven.entries }
     ensures fixed { (⟦<Recorder<S> as Tells>⟧.told result.below).fixed
         ≡ (⟦<Recorder<S> as Tells>⟧.told below).fixed }
 {

@@ -3,7 +3,7 @@
 ghost use Rattle.std.specs.Prelude.{◌≡◌, ◌≤◌, ◌==◌, IfOk, IfSome};
 ghost use Rattle.std.specs.List.{slice_split};
 ghost use Rattle.txn_lines.specs.LineWords.{between};
-ghost use Rattle.txn_program.specs.Words.{AreSome, IsWithin, call_of, command_of, count_of, each, id_of, call_list_of, id_words, list_words, make_words, refusing_words, run_of, run_words, seed_words, some_few};
+ghost use Rattle.txn_program.specs.Words.{AreSome, IsWithin, call_of, command_of, count_of, each, id_of, call_list_of, id_words, list_words, make_words, refusing_words, run_of, run_words, seed_words, some_few, starving_or, starving_words};
 
 use amqp_txn_types::{CallNumbers, Items, NoMemory, Text, TransactionId};
 use hex::FromHexError;
@@ -18,7 +18,7 @@ pub type TransactionIds = Items<TransactionId>;
 pub enum Layer {
     /// `run`: a layer that takes everything.
     Open,
-    /// `listen`: a session that is listened on, of which no link was accepted.
+    /// `listen`: a session that is listened on and accepts links at once.
     Listener,
 }
 
@@ -31,6 +31,16 @@ pub enum Ids {
     Seeded(u64),
 }
 
+/// The two plans of the words, by the numbers, from 1, of the recorder's incoming frame calls.
+/// Without one of them the recorder keeps that plan as it is.
+#[derive(Debug, Drop, PartialEq)]
+pub struct Plans {
+    /// `--refuse LIST`: the calls that it refuses, and whose commits it vetoes.
+    pub refused: Option<CallNumbers>,
+    /// `--starve LIST`: the calls that it answers with want of memory.
+    pub starved: Option<CallNumbers>,
+}
+
 /// What the words ask for.
 #[derive(Debug, Drop, PartialEq)]
 pub enum Command {
@@ -38,9 +48,8 @@ pub enum Command {
     Run {
         /// The layer below that the words ask for; a call does the same over every recorder.
         layer: Layer,
-        /// `--refuse LIST`: the numbers, from 1, of the incoming frame calls that the recorder
-        /// refuses. Without it the recorder keeps the plan that it has.
-        plan: Option<CallNumbers>,
+        /// The plans of the recorder.
+        plans: Plans,
         /// The ids that declares draw.
         ids: Ids,
     },
@@ -76,7 +85,7 @@ fn run_words(alloc: Global, layer: Layer, words: &[Text]) -> Result<Option<Comma
         [word, others @ ..] if is_text(word.as_str().as_bytes(), "--refuse") => {
             refusing_words(alloc, layer, others)
         }
-        _ => run_of(alloc, layer, None, words),
+        _ => starving_or(alloc, layer, None, words),
     }
 }
 
@@ -90,22 +99,67 @@ fn refusing_words(alloc: Global, layer: Layer, words: &[Text]) -> Result<Option<
     let Some(plan) = call_list_of(alloc, word.as_str().as_bytes())? else {
         return Ok(None);
     };
-    run_of(alloc, layer, Some(plan), others)
+    starving_or(alloc, layer, Some(plan), others)
+}
+
+fn starving_or(
+    alloc: Global,
+    layer: Layer,
+    refused: Option<CallNumbers>,
+    words: &[Text],
+) -> Result<Option<Command>, NoMemory>
+    ensures command { IfOk result (λ command. command ≡ starving_or layer refused words.now) }
+    ensures within { IfOk result IsWithin }
+{
+    match words {
+        [word, others @ ..] if is_text(word.as_str().as_bytes(), "--starve") => {
+            starving_words(alloc, layer, refused, others)
+        }
+        _ => {
+            let plans = Plans {
+                refused,
+                starved: None,
+            };
+            run_of(alloc, layer, plans, words)
+        }
+    }
+}
+
+fn starving_words(
+    alloc: Global,
+    layer: Layer,
+    refused: Option<CallNumbers>,
+    words: &[Text],
+) -> Result<Option<Command>, NoMemory>
+    ensures command { IfOk result (λ command. command ≡ starving_words layer refused words.now) }
+    ensures within { IfOk result IsWithin }
+{
+    let [word, others @ ..] = words else {
+        return Ok(None);
+    };
+    let Some(starved) = call_list_of(alloc, word.as_str().as_bytes())? else {
+        return Ok(None);
+    };
+    let plans = Plans {
+        refused,
+        starved: Some(starved),
+    };
+    run_of(alloc, layer, plans, others)
 }
 
 fn run_of(
     alloc: Global,
     layer: Layer,
-    plan: Option<CallNumbers>,
+    plans: Plans,
     words: &[Text],
 ) -> Result<Option<Command>, NoMemory>
-    ensures command { IfOk result (λ command. command ≡ run_of layer plan words.now) }
+    ensures command { IfOk result (λ command. command ≡ run_of layer plans words.now) }
     ensures within { IfOk result IsWithin }
 {
     let Some(ids) = id_words(alloc, words)? else {
         return Ok(None);
     };
-    Ok(Some(Command::Run { layer, plan, ids }))
+    Ok(Some(Command::Run { layer, plans, ids }))
 }
 
 /// The ids that the words name: a seed's, or those of a list.

@@ -40,26 +40,65 @@ const LINES: [(&str, &str); 8] = [
     ),
 ];
 
+/// One transaction of three posts, and its commit.
+const ONE_COMMIT: &str = "attach c 0\n\
+    control 0 00537700533145\n\
+    post 00000000000000000000000000000001 1 1 true - 50\n\
+    post 00000000000000000000000000000001 1 2 true - 51\n\
+    post 00000000000000000000000000000001 1 3 true - 52\n\
+    control 0 005377005332c01301a01000000000000000000000000000000001\n";
+
 #[test]
-fn a_refusal_within_a_commit_tells_what_was_taken(rt: HostRuntime) -> Result<(), Fail> {
+fn a_vetoed_commit_hands_nothing(rt: HostRuntime) -> Result<(), Fail> {
     assert_run(
         &rt,
         &["run", "--refuse", "2", A],
-        "attach c 0\n\
-         control 0 00537700533145\n\
-         post 00000000000000000000000000000001 1 1 true - 50\n\
-         post 00000000000000000000000000000001 1 2 true - 51\n\
-         post 00000000000000000000000000000001 1 3 true - 52\n\
-         control 0 005377005332c01301a01000000000000000000000000000000001\n",
-        1,
+        ONE_COMMIT,
+        0,
         "attached 0\n\
          declared 00000000000000000000000000000001\n\
          ok\n\
          ok\n\
          ok\n\
-         stop illegal-state\n\
+         rejected rollback\n\
+         stop done\n\
+         handed 0\n",
+    )
+}
+
+#[test]
+fn want_of_memory_within_a_commit_tells_what_was_taken(rt: HostRuntime) -> Result<(), Fail> {
+    assert_run(
+        &rt,
+        &["run", "--starve", "2", A],
+        ONE_COMMIT,
+        8,
+        "attached 0\n\
+         declared 00000000000000000000000000000001\n\
+         ok\n\
+         ok\n\
+         ok\n\
+         stop below-no-memory\n\
          handed 1\n\
          taken transfer 1 1 true - 50\n",
+    )
+}
+
+#[test]
+fn a_call_in_both_plans_is_vetoed_first(rt: HostRuntime) -> Result<(), Fail> {
+    assert_run(
+        &rt,
+        &["run", "--refuse", "2", "--starve", "2", A],
+        ONE_COMMIT,
+        0,
+        "attached 0\n\
+         declared 00000000000000000000000000000001\n\
+         ok\n\
+         ok\n\
+         ok\n\
+         rejected rollback\n\
+         stop done\n\
+         handed 0\n",
     )
 }
 
@@ -84,20 +123,22 @@ fn put_answers(answers: &mut String, to: usize, end: &str) -> Result<(), NoMemor
     Ok(())
 }
 
-/// Runs all lines with refusals below: the lines up to a place are answered, and then the run
-/// stops.
-fn assert_refused(
+/// Runs all lines under a plan: the lines up to a place are answered as they are without it, and
+/// then comes that text.
+fn assert_planned(
     rt: &(impl Abort + Alloc<A = Global>),
-    refused: &str,
+    plan: (&str, &str),
     answered: usize,
-    end: &str,
+    ends: (u8, &str),
 ) -> Result<(), Fail> {
+    let (word, numbers) = plan;
+    let (status, end) = ends;
     let mut lines = String::new(rt.alloc());
     let mut answers = String::new(rt.alloc());
     let put = put_lines(&mut lines, 0, 8);
     let told = put_answers(&mut answers, answered, end);
-    let words = ["run", "--refuse", refused, A, B];
-    let run = assert_run(rt, &words, lines.as_str(), 1, answers.as_str());
+    let words = ["run", word, numbers, A, B];
+    let run = assert_run(rt, &words, lines.as_str(), status, answers.as_str());
     drop(lines);
     drop(answers);
     run?;
@@ -107,20 +148,23 @@ fn assert_refused(
 }
 
 #[test]
-fn each_frame_of_two_commits_may_be_refused(rt: HostRuntime) -> Result<(), Fail> {
-    assert_refused(&rt, "1", 6, "stop illegal-state\nhanded 0\n")?;
-    assert_refused(
-        &rt,
-        "2,2",
-        7,
-        "stop illegal-state\nhanded 0\ntaken transfer 1 2 true - 51\n",
-    )?;
-    assert_refused(
-        &rt,
-        "18446744073709551615,3",
-        7,
-        "stop illegal-state\nhanded 1\ntaken transfer 1 2 true - 51\ntaken transfer 1 1 true - 50\n",
-    )
+fn each_frame_of_two_commits_may_be_vetoed(rt: HostRuntime) -> Result<(), Fail> {
+    let one = "rejected rollback\nstop done\nhanded 0\ntaken transfer 1 2 true - 51\n";
+    let both = "rejected rollback\nrejected rollback\nstop done\nhanded 0\n";
+    assert_planned(&rt, ("--refuse", "1"), 6, (0, both))?;
+    assert_planned(&rt, ("--refuse", "2,2"), 7, (0, one))?;
+    assert_planned(&rt, ("--refuse", "18446744073709551615,3"), 7, (0, one))
+}
+
+#[test]
+fn each_frame_of_two_commits_may_want_memory(rt: HostRuntime) -> Result<(), Fail> {
+    let first = "stop below-no-memory\nhanded 0\n";
+    let second = "stop below-no-memory\nhanded 0\ntaken transfer 1 2 true - 51\n";
+    let third = "stop below-no-memory\nhanded 1\ntaken transfer 1 2 true - 51\n\
+                 taken transfer 1 1 true - 50\n";
+    assert_planned(&rt, ("--starve", "1"), 6, (8, first))?;
+    assert_planned(&rt, ("--starve", "2,2"), 7, (8, second))?;
+    assert_planned(&rt, ("--starve", "18446744073709551615,3"), 7, (8, third))
 }
 
 /// What the commits before a place handed.
@@ -170,35 +214,65 @@ fn an_end_in_any_place_hands_nothing_more(rt: HostRuntime) -> Result<(), Fail> {
     Ok(())
 }
 
-/// Whether the recorder of a run has that plan.
-fn has_plan(alloc: Global, words: &[&str], input: &str, plan: &[u64]) -> Result<bool, NoMemory> {
+/// Whether the recorder of a run has these plans of what it refuses and what it starves.
+fn has_plans(
+    alloc: Global,
+    words: &[&str],
+    input: &str,
+    plans: (&[u64], &[u64]),
+) -> Result<bool, NoMemory> {
+    let (refused, starved) = plans;
     let mut sink = SureSink::new(alloc);
     let ran = ran(alloc, words, input, &mut sink);
     drop(sink);
     let ran = ran?;
-    let same = ran.below.plan().as_slice() == plan;
+    let same = ran.below.plan().as_slice() == refused;
+    let same = same && ran.below.starved().as_slice() == starved;
     drop(ran);
     Ok(same)
 }
 
-fn assert_plan(
+fn assert_plans(
     rt: &(impl Abort + Alloc<A = Global>),
     words: &[&str],
     input: &str,
-    plan: &[u64],
+    plans: (&[u64], &[u64]),
 ) -> Result<(), Fail> {
-    let same = has_plan(rt.alloc(), words, input, plan)?;
+    let same = has_plans(rt.alloc(), words, input, plans)?;
     assert!(rt; same);
     Ok(())
 }
 
 #[test]
-fn the_plan_is_that_of_the_words(rt: HostRuntime) -> Result<(), Fail> {
-    assert_plan(&rt, &["run", "--refuse", "3,1,3", A], "", &[3, 1, 3])?;
-    assert_plan(&rt, &["run", "--refuse", "3,1,3", A], "foo", &[3, 1, 3])?;
-    assert_plan(&rt, &["run", A], "", &[])?;
-    assert_plan(&rt, &["run", "--refuse", "3,1,3"], "", &[])?;
-    assert_plan(&rt, &["make", "1"], "", &[])
+fn the_plans_are_those_of_the_words(rt: HostRuntime) -> Result<(), Fail> {
+    assert_plans(&rt, &["run", "--refuse", "3,1,3", A], "", (&[3, 1, 3], &[]))?;
+    assert_plans(
+        &rt,
+        &["run", "--refuse", "3,1,3", A],
+        "foo",
+        (&[3, 1, 3], &[]),
+    )?;
+    assert_plans(
+        &rt,
+        &["run", "--starve", "3,1,3", A],
+        "foo",
+        (&[], &[3, 1, 3]),
+    )?;
+    assert_plans(
+        &rt,
+        &["run", "--refuse", "2", "--starve", "5", A],
+        "",
+        (&[2], &[5]),
+    )?;
+    assert_plans(&rt, &["run", A], "", (&[], &[]))?;
+    assert_plans(
+        &rt,
+        &["run", "--starve", "5", "--refuse", "2", A],
+        "",
+        (&[], &[]),
+    )?;
+    assert_plans(&rt, &["run", "--refuse", "3,1,3"], "", (&[], &[]))?;
+    assert_plans(&rt, &["make", "1"], "", (&[], &[]))
 }
 
 #[test]
@@ -214,6 +288,7 @@ fn words_outside_the_table_are_usage(rt: HostRuntime) -> Result<(), Fail> {
         "18446744073709551616",
     ] {
         assert_run(&rt, &["run", "--refuse", list, A], "foo", 2, "usage\n")?;
+        assert_run(&rt, &["run", "--starve", list, A], "foo", 2, "usage\n")?;
     }
     for count in ["0", "20001", "04", "", "4294967297", "-1"] {
         assert_run(&rt, &["make", count], "foo", 2, "usage\n")?;
@@ -221,6 +296,22 @@ fn words_outside_the_table_are_usage(rt: HostRuntime) -> Result<(), Fail> {
     assert_run(&rt, &["run", "--refuse"], "", 2, "usage\n")?;
     assert_run(&rt, &["--refuse", "1", "run", A], "", 2, "usage\n")?;
     assert_run(&rt, &["run", A, "--refuse", "1"], "", 2, "usage\n")?;
+    assert_run(&rt, &["run", "--starve"], "", 2, "usage\n")?;
+    assert_run(&rt, &["run", "--starve", "1"], "", 2, "usage\n")?;
+    assert_run(
+        &rt,
+        &["run", "--starve", "1", "--refuse", "1", A],
+        "",
+        2,
+        "usage\n",
+    )?;
+    assert_run(
+        &rt,
+        &["run", "--starve", "1", "--starve", "1", A],
+        "",
+        2,
+        "usage\n",
+    )?;
     assert_run(&rt, &["make"], "", 2, "usage\n")?;
     assert_run(&rt, &["make", "1", "2"], "", 2, "usage\n")
 }

@@ -81,6 +81,9 @@ impl<S: Session> Session for ListenerSession<S> {
     ghost check_leaves = { λ old new disposition answer gives.
         S.check_leaves (inner_of old) (inner_of new) disposition answer gives.gave };
 
+    ghost review_leaves = { λ old new list answer gives.
+        S.review_leaves (inner_of old) (inner_of new) list answer gives.gave };
+
     ghost window_leaves = { λ old new flow gives.
         S.window_leaves (inner_of old) (inner_of new) flow gives.gave };
 

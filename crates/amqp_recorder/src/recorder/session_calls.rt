@@ -14,7 +14,7 @@ impl<S: Session> Session for Recorder<S> {
     ghost use Rattle.amqp_sessions.specs.Sessions.{Moves};
     ghost use Rattle.amqp_sessions.specs.SessionStates.{begin_received, begin_sent, end_received, end_sent};
     ghost use Rattle.amqp_recorder.specs.Recording.{Passes, inner_of};
-    ghost use Rattle.amqp_recorder.specs.RecordedSessions.{recorded-leaves, recorded_opening-leaves};
+    ghost use Rattle.amqp_recorder.specs.RecordedSessions.{recorded-leaves, recorded_opening-leaves, recorded_review-leaves};
 
     ghost kept = { λ r. S.kept r.session };
 
@@ -81,6 +81,10 @@ impl<S: Session> Session for Recorder<S> {
 
     ghost check_leaves = { λ old new disposition answer gives.
         S.check_leaves (inner_of old) (inner_of new) disposition answer gives.gave };
+
+    ghost review_leaves = { λ old new list answer gives.
+        recorded_review-leaves S.told S.kept S.names S.review_gives S.review_leaves
+        old new list answer gives };
 
     ghost window_leaves = { λ old new flow gives.
         S.window_leaves (inner_of old) (inner_of new) flow gives.gave };

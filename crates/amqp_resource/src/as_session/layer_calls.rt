@@ -2,16 +2,19 @@
 
 use crate::hearing::count_answer;
 use crate::session::TxnSession;
-use amqp_layer::{LayerBelow, SessionInnerError};
+use crate::transacting::refuse_call;
+use amqp_layer::{LayerBelow, SessionInnerError, Verdict};
 use amqp_txn_types::{
-    Attach, Detach, Disposition, Flow, Frame, Frames, Payload, SessionState, Transfer,
+    Attach, Detach, Disposition, Flow, Frame, Frames, NoMemory, Payload, SessionState, Transfer,
+    count_refusal,
 };
 
 impl<S: LayerBelow> LayerBelow for TxnSession<S> {
-    ghost use Rattle.std.specs.Prelude.{◌≡◌};
+    ghost use Rattle.std.specs.Prelude.{◌≡◌, false};
     ghost use Rattle.amqp_layer.specs.Told.{Checks, Opens};
     ghost use Rattle.amqp_resource.specs.Hearing.{HearsFrame};
     ghost use Rattle.amqp_resource.specs.Passing.{Passes, PassesOn};
+    ghost use Rattle.amqp_resource.specs.Reviewing.{TxnReviews, TxnTakes, check-stays-on, heard-goes-on, window-stays-on};
 
     ghost incoming_gives = { HearsFrame S.told S.incoming_gives S.opening_gives };
 
@@ -25,6 +28,24 @@ impl<S: LayerBelow> LayerBelow for TxnSession<S> {
 
     ghost window_gives = { λ old new flow.
         PassesOn (λ a b. S.told b ≡ S.told a) (λ a b. S.window_gives a b flow) old new };
+
+    ghost review_gives = { TxnReviews S.told S.review_gives };
+
+    ghost takes = { TxnTakes S.takes };
+
+    ghost sure = { false };
+
+    ghost goes_on = { heard-goes-on S.told S.takes S.sure S.incoming_gives S.opening_gives
+        S.goes_on };
+
+    ghost stays_on = { λ old new disposition answer gives.
+        check-stays-on S.told S.takes S.sure (λ a b. Checks (S.told a) (S.told b) answer)
+        S.check_gives S.stays_on old new disposition answer gives };
+
+    ghost window_stays_on = { λ old new flow gives.
+        window-stays-on S.told S.takes S.sure (λ a b. S.told b ≡ S.told a)
+        (λ a b. S.window_gives a b flow)
+        (λ a b. S.window_stays_on a b flow) old new gives };
 
     fn local_state(&self) -> SessionState {
         self.below.local_state()
@@ -72,5 +93,20 @@ impl<S: LayerBelow> LayerBelow for TxnSession<S> {
 
     fn maybe_outgoing_session_flow(&mut self) -> Option<Flow> {
         self.below.maybe_outgoing_session_flow()
+    }
+
+    fn review(&mut self, frames: &Frames) -> Result<Verdict, NoMemory> {
+        if self.stop.is_some() {
+            count_refusal(&mut self.vetoes);
+            return Ok(Verdict::Veto);
+        }
+        match self.below.review(frames) {
+            Ok(Verdict::Accept) => Ok(Verdict::Accept),
+            Ok(Verdict::Veto) => {
+                count_refusal(&mut self.vetoes);
+                Ok(Verdict::Veto)
+            }
+            Err(error) => refuse_call(&mut self.refusals, error),
+        }
     }
 }

@@ -16,7 +16,7 @@ impl<S: Session> Session for TxnSession<S> {
     ghost use Rattle.amqp_sessions.specs.SessionStates.{begin_received, begin_sent, end_received, end_sent};
     ghost use Rattle.amqp_resource.specs.Passing.{Passes, PassesOn};
     ghost use Rattle.amqp_resource.specs.Session.{below_of};
-    ghost use Rattle.amqp_resource.specs.SessionLaws.{heard-leaves};
+    ghost use Rattle.amqp_resource.specs.SessionLaws.{heard-leaves, review-leaves};
 
     ghost kept = { λ x. S.kept (below_of x) };
 
@@ -83,6 +83,8 @@ impl<S: Session> Session for TxnSession<S> {
 
     ghost check_leaves = { λ old new disposition answer gives.
         S.check_leaves (below_of old) (below_of new) disposition answer gives.gave };
+
+    ghost review_leaves = { review-leaves S.told S.kept S.names S.review_gives S.review_leaves };
 
     ghost window_leaves = { λ old new flow gives.
         S.window_leaves (below_of old) (below_of new) flow gives.gave };

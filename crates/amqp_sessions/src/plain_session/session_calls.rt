@@ -62,6 +62,8 @@ impl Session for PlainSession {
 
     ghost check_leaves = { λ old new disposition answer gives. gives.leaves };
 
+    ghost review_leaves = { λ old new list answer gives. gives.leaves };
+
     ghost window_leaves = { λ old new flow gives. gives.leaves };
 
     fn session_stop_reason(&self) -> Option<&SessionStopReason> {

@@ -7,4 +7,4 @@ loop-place-init c = c.new-all.ensures ∙ sym no_work
 
 pub loop-place-preserved : goal.loop-place-preserved
 loop-place-preserved c =
-    work-more c.args.entries.now c.loop-place.place c.index-entries-place.result c.loop-place.all _ _ c.loop-place-test.true c.index-entries-place.is c.loop-place.invariant c.in_ok-hands.ensures c.in_ok-add_all.ensures
+    work-more c.args.entries.now c.loop-place.place c.index-entries-place.result c.loop-place.all _ _ c.loop-place-test.true c.index-entries-place.is c.loop-place.invariant c.in_ok-handed_by.ensures c.in_ok-add_all.ensures

@@ -1,5 +1,5 @@
 use Rattle.std.proofs.Common.{◌≡◌, refl, Err}
-use Rattle.amqp_resource.proofs.Parts.{answers_end, local_error, no_call_holds, remote_error}
+use Rattle.amqp_resource.proofs.Parts.{answers_end, local_error, no_call_holds, remote_error, surely_other}
 use Rattle.amqp_resource.proofs.Keeping.{keeps-end}
 use Rattle.amqp_resource.proofs.Looked.{pays_adds, pays_none}
 use Rattle.amqp_resource.proofs.acting.act.Goals as goal
@@ -8,7 +8,7 @@ pub returns-in-LinkEnd-clause-goes : goal.returns-in-LinkEnd-clause-goes
 returns-in-LinkEnd-clause-goes g c r s = rw c.in-LinkEnd.is (c.link_end_step.ensures.goes r s _)
 
 pub returns-in-LinkEnd-clause-cause : goal.returns-in-LinkEnd-clause-cause
-returns-in-LinkEnd-clause-cause g c = rw c.in-LinkEnd.is (c.link_end_step.ensures.cause _)
+returns-in-LinkEnd-clause-cause g c = rw c.in-LinkEnd.is (c.link_end_step.ensures.cause (g.S.Tells.told c.args.below.now))
 
 pub returns-in-LocalEnd-clause-ended : goal.returns-in-LocalEnd-clause-ended
 returns-in-LocalEnd-clause-ended g c = rw c.in-LocalEnd.is (answers_end _ _ _ (local_error _) c.end_locally.ensures)
@@ -60,3 +60,21 @@ returns-in-RemoteEnd-clause-pays g c = pays_none _ _ _ _
 
 pub returns-in-ConnectionStop-clause-pays : goal.returns-in-ConnectionStop-clause-pays
 returns-in-ConnectionStop-clause-pays g c = pays_none _ _ _ _
+
+pub returns-in-Frame-clause-surely : goal.returns-in-Frame-clause-surely
+returns-in-Frame-clause-surely g c = rw c.in-Frame.is (surely_other (c.frame_step.result))
+
+pub returns-in-LinkEnd-clause-surely : goal.returns-in-LinkEnd-clause-surely
+returns-in-LinkEnd-clause-surely g c = rw c.in-LinkEnd.is (surely_other (c.link_end_step.result))
+
+pub returns-in-LocalEnd-clause-surely : goal.returns-in-LocalEnd-clause-surely
+returns-in-LocalEnd-clause-surely g c = rw c.in-LocalEnd.is (surely_other (Err c.end_locally.result))
+
+pub returns-in-RemoteEnd-clause-surely : goal.returns-in-RemoteEnd-clause-surely
+returns-in-RemoteEnd-clause-surely g c = rw c.in-RemoteEnd.is (surely_other (Err c.end_remotely.result))
+
+pub returns-in-ConnectionStop-clause-surely : goal.returns-in-ConnectionStop-clause-surely
+returns-in-ConnectionStop-clause-surely g c = rw c.in-ConnectionStop.is (surely_other (Err c.end_with_connection.result))
+
+pub returns-in-Control-clause-surely : goal.returns-in-Control-clause-surely
+returns-in-Control-clause-surely g c = rw c.in-Control.is c.control_step.ensures.surely

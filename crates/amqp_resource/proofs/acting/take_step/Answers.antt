@@ -1,5 +1,4 @@
 use Rattle.std.proofs.Common.{refl}
-use Rattle.amqp_resource.specs.declared.held.Held.{Held}
 use Rattle.amqp_resource.specs.Held.{SameHeld}
 use Rattle.amqp_resource.proofs.Looked.{pays_settled}
 use Rattle.amqp_resource.proofs.Moved.{does_moved, keeps_moved, same_moved}

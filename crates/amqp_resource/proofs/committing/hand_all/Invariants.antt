@@ -1,25 +1,24 @@
-use Rattle.std.proofs.Common.{◌≡◌, ◌≤◌, ◌+◌, false, length, take, drop, vec_capacity}
-use Rattle.std.specs.Option.{option_map}
-use Rattle.amqp_txn_types.specs.declared.id.TransactionId.{TransactionId}
-use Rattle.amqp_txn_types.specs.Ids.{same_id}
-use Rattle.amqp_arrivals.specs.Live.{frame_count, frames_kept, home_of, kept, owed}
+use Rattle.std.proofs.Common.{◌≡◌, ◌≤◌, length, take, drop, vec_capacity}
+use Rattle.std.specs.Vec.Iter.{into_iter_items}
 use Rattle.amqp_resource.specs.Committing.{HandedSome}
 use Rattle.amqp_resource.proofs.committing.hand_all.Given as goal
 
-abbrev pub invariant-loop-taken : goal.invariant-loop-taken
-invariant-loop-taken g l = record {
-  handed : HandedSome (g.S.Tells.told l.fn.below) (g.S.Tells.told l.below) (take (length l.echoes.items) (frames_kept (kept l.fn.work l.id))) l.echoes.items;
-  rest : frames_kept (kept l.work l.id) ≡ drop (length l.echoes.items) (frames_kept (kept l.fn.work l.id));
-  count : length l.echoes.items ≤ length (frames_kept (kept l.fn.work l.id));
-  fixed : (g.S.Tells.told l.below).fixed ≡ (g.S.Tells.told l.fn.below).fixed;
-  later : (g.S.Tells.told l.fn.below).refusals ≤ (g.S.Tells.told l.below).refusals;
-  room : length (frames_kept (kept l.fn.work l.id)) ≤ vec_capacity l.echoes;
-  others : (t : TransactionId) → same_id t l.id ≡ false → kept l.work t ≡ kept l.fn.work t;
-  homes : (t : TransactionId) → option_map home_of (kept l.work t) ≡ option_map home_of (kept l.fn.work t);
-  looks : l.looks + length (frames_kept (kept l.work l.id)) ≡ l.fn.looks + length (frames_kept (kept l.fn.work l.id));
-  owed : owed l.work + length (frames_kept (kept l.work l.id)) ≡ owed l.fn.work + length (frames_kept (kept l.fn.work l.id));
-  frames : frame_count l.work + length (frames_kept (kept l.fn.work l.id)) ≡ frame_count l.fn.work + length (frames_kept (kept l.work l.id));
-}
+abbrev pub invariant-loop-frame : goal.invariant-loop-frame
+invariant-loop-frame g l =
+    let old = g.S.Tells.told l.fn.below in
+    let now = g.S.Tells.told l.below in
+    record {
+      handed : HandedSome old now (take (length l.echoes.items) l.fn.frames) l.echoes.items;
+      rest : into_iter_items l.left ≡ drop (length l.echoes.items) l.fn.frames;
+      count : length l.echoes.items ≤ length l.fn.frames;
+      opened : now.opened ≡ old.opened;
+      refused : now.refused ≡ old.refused;
+      reviews : now.reviews ≡ old.reviews;
+      fixed : now.fixed ≡ old.fixed;
+      later : old.refusals ≤ now.refusals;
+      room : length l.fn.frames ≤ vec_capacity l.echoes;
+      accepted : g.S.LayerBelow.takes l.below (into_iter_items l.left);
+    }
 
-abbrev pub decreases-loop-taken : goal.decreases-loop-taken
-decreases-loop-taken g l = length (frames_kept (kept l.work l.id))
+abbrev pub decreases-loop-frame : goal.decreases-loop-frame
+decreases-loop-frame g l = length (into_iter_items l.left)

@@ -1,6 +1,5 @@
 use Rattle.std.proofs.Common.{refl}
 use Rattle.amqp_resource.specs.Held.{SameHeld}
-use Rattle.amqp_resource.specs.Transacting.{CommittedIn}
 use Rattle.amqp_resource.proofs.Keeping.{fits-discharged}
 use Rattle.amqp_resource.proofs.Moved.{committed_moved}
 use Rattle.amqp_resource.proofs.discharging.commit_kept.Given.{Over}

@@ -1,43 +1,20 @@
-use Rattle.std.proofs.Common.{arith, refl, ◌∙◌}
-use Rattle.amqp_resource.specs.declared.held.Held.{Held}
-use Rattle.amqp_resource.proofs.Kept.{ended_handed}
-use Rattle.amqp_resource.proofs.Looked.{pays_none}
+use Rattle.std.proofs.Common.{◌≡◌, arith, sym, subst, map, List, [], Ok}
+use Rattle.amqp_txn_types.specs.Frames.{stripped}
+use Rattle.amqp_txn_types.specs.declared.performatives.Frame.{Frame}
+use Rattle.amqp_arrivals.specs.Live.{frames_kept, kept}
+use Rattle.amqp_resource.specs.Committing.{HandsAll}
+use Rattle.amqp_resource.proofs.Handing.{committed-with, handed-nothing, no-frames}
 use Rattle.amqp_resource.proofs.discharging.commit_live.Goals as goal
 
-pub drop_work-requires : goal.drop_work-requires
-drop_work-requires g c = c.hand_all-handed.ensures.homes c.args.id ∙ c.requires
-
-pub returns-in-Ok-handed-clause-answer : goal.returns-in-Ok-handed-clause-answer
-returns-in-Ok-handed-clause-answer g c =
-    let mid : Held = record c.args.held.now { work = c.hand_all-handed.new.work } in
+pub returns-then-count-eq0-clause-answer : goal.returns-then-count-eq0-clause-answer
+returns-then-count-eq0-clause-answer g c =
+    let told = g.S.Tells.told c.args.below.now in
     let ended = c.drop_work.ensures in
-    (ended_handed c.args.held.now mid c.drop_work.new.held c.args.id c.in-Ok-handed.ensures.others c.in-Ok-handed.ensures.homes refl refl ended.rest ended.links ended.tied ended.opened, c.in-Ok-handed.ensures.hands)
-
-pub returns-in-Err-clause-answer : goal.returns-in-Err-clause-answer
-returns-in-Err-clause-answer g c =
-    let mid : Held = record c.args.held.now { work = c.hand_all-handed.new.work } in
-    let ended = c.drop_work.ensures in (
-      ended_handed c.args.held.now mid c.drop_work.new.held c.args.id c.in-Err.ensures.others c.in-Err.ensures.homes refl refl ended.rest ended.links ended.tied ended.opened,
-      (c.in-Err.refusal.error, c.fault_of.ensures.fault, c.in-Err.ensures.hands),
+    let none : frames_kept (kept c.args.held.now.work c.args.id) ≡ [] = no-frames _ (omega (arith, c.count-count.ensures, c.if-count-eq0.true)) in (
+      record { live = ended.rest; links = ended.links; tied = ended.tied; opened = ended.opened },
+      rw c.new.ensures (subst (λ (fs : List Frame). HandsAll told told (map stripped fs) (Ok (Ok []))) (sym none) (handed-nothing told)),
     )
 
-pub returns-in_default-clause-pays : goal.returns-in_default-clause-pays
-returns-in_default-clause-pays g c = pays_none _ _ _ _
-
-pub returns-in-Ok-handed-clause-pays : goal.returns-in-Ok-handed-clause-pays
-returns-in-Ok-handed-clause-pays g c =
-    let handed = c.in-Ok-handed.ensures in
-    let dropped = c.drop_work.ensures.pays in
-    record {
-      ended = omega (arith, handed.looks, handed.owed, dropped.ended);
-      all = omega (arith, handed.looks, handed.owed, handed.frames, dropped.all);
-    }
-
-pub returns-in-Err-clause-pays : goal.returns-in-Err-clause-pays
-returns-in-Err-clause-pays g c =
-    let handed = c.in-Err.ensures in
-    let dropped = c.drop_work.ensures.pays in
-    record {
-      ended = omega (arith, handed.looks, handed.owed, dropped.ended);
-      all = omega (arith, handed.looks, handed.owed, handed.frames, dropped.all);
-    }
+pub returns-clause-answer : goal.returns-clause-answer
+returns-clause-answer g c =
+    committed-with c.args.held.now c.commit_frames.new.held (g.S.Tells.told c.args.below.now) (g.S.Tells.told c.commit_frames.new.below) c.args.id (frames_kept (kept c.args.held.now.work c.args.id)) _ c.commit_frames.result c.commit_frames.ensures.ended c.commit_frames.ensures.hands

@@ -1,4 +1,4 @@
-use Rattle.std.proofs.Common.{rules, ap, sym, ◌∙◌, refl, ℕ, suc, ◌+◌, ◌<◌, ◌≤◌, List, ◌++◌, ◌∷◌, [], ◌≡◌, arith, length, take, drop, set}
+use Rattle.std.proofs.Common.{rules, ap, ◌∙◌, refl, suc, ◌+◌, ◌<◌, ◌≤◌, List, ◌++◌, ◌∷◌, [], ◌≡◌, arith, length, take, drop, set}
 use Rattle.std.proofs.Math.ListN.{length-set}
 use Rattle.amqp_record.specs.declared.entry.Entry.{Entry}
 use Rattle.amqp_record.specs.declared.step.Step.{Step}
@@ -11,7 +11,7 @@ use Rattle.amqp_resource.proofs.Going.{emptied}
 use Rattle.amqp_resource.proofs.Keeping.{fits-stands}
 use Rattle.amqp_resource.proofs.Looked.{step_spends, work_more}
 use Rattle.amqp_resource.proofs.Parts.{end_is, no_call_weaker}
-use Rattle.amqp_resource.proofs.Running.{Broke, broke_cause, broke_ended, broke_refused, broke_took, broke_unknown, failed, ran-more, ran-nil, steps-first, stops_by}
+use Rattle.amqp_resource.proofs.Running.{Broke, broke_cause, broke_ended, broke_refused, broke_surely, broke_took, broke_unknown, failed, ran-more, ran-nil, steps-first, stops_by}
 use Rattle.amqp_resource.proofs.driving.drive_counted.Given.{Over}
 use Rattle.amqp_resource.proofs.driving.drive_counted.Goals as goal
 
@@ -49,8 +49,11 @@ loop-at-preserved g c =
             taken = said.taken runs r stands;
             opened = said.opened runs r stands;
             refused = said.refused runs r stands;
+            vetoed = said.vetoed runs r stands;
             attach = said.attach_refused runs r stands;
+            veto = said.veto_rose;
             later = said.later;
+            counted = said.counted;
             fixed = said.fixed;
           })
           said.drew);
@@ -61,7 +64,7 @@ loop-at-preserved g c =
     }
 
 -- what the step that stopped the run leaves
-broke : (g : Over) (c : goal.After-driven g) → Broke (held_of c.step_counted.new.self) (g.S.Tells.told (below_of c.loop-at.session)) (g.S.Tells.told (below_of c.step_counted.new.self)) (take c.loop-at.at c.loop-at.entries.items) c.index.result.now.step c.in-Err.error (stop_of c.step_counted.new.self)
+broke : (g : Over) (c : goal.After-driven g) → Broke g.S.LayerBelow.sure (held_of c.step_counted.new.self) (g.S.Tells.told (below_of c.loop-at.session)) (g.S.Tells.told (below_of c.step_counted.new.self)) (take c.loop-at.at c.loop-at.entries.items) c.index.result.now.step c.in-Err.error (stop_of c.step_counted.new.self)
 broke g c =
     let r : List Entry = take c.loop-at.at c.loop-at.entries.items in
     let runs = c.loop-at.invariant.runs in
@@ -75,6 +78,9 @@ broke g c =
       unknown = said.unknown runs r stands;
       unknown_only = said.unknown_only runs r stands;
       refusal = said.refusal runs r stands;
+      surely = said.surely;
+      vetoed = said.vetoed_none runs r stands;
+      counted = said.counted;
       rose = said.refusal_rose;
       ended = λ reason is. end_is _ _ reason (said.ended runs) is;
       ended_only = said.ended_only;
@@ -100,27 +106,32 @@ returns-in-Err-clause-steps g c = rw (c.driven.ensures, c.truncate.ensures.items
 pub returns-in-Err-clause-cause : goal.returns-in-Err-clause-cause
 returns-in-Err-clause-cause g c =
     let by = stops_by c.in-Err.error c.stop_by-stop.result.0 c.stop_by-stop.result.1 c.stop_by-stop.ensures in
-    rw (c.driven.ensures, c.truncate.ensures.items, by.0) (broke_cause _ _ _ (take c.loop-at.at c.loop-at.entries.items) c.index.result.now.step c.in-Err.error _ c.args.steps (rest g c) (left g c) (broke g c))
+    rw (c.driven.ensures, c.truncate.ensures.items, by.0) (broke_cause _ _ _ _ (take c.loop-at.at c.loop-at.entries.items) c.index.result.now.step c.in-Err.error _ c.args.steps (rest g c) (left g c) (broke g c))
 
 pub returns-in-Err-clause-unknown : goal.returns-in-Err-clause-unknown
 returns-in-Err-clause-unknown g c =
     let by = stops_by c.in-Err.error c.stop_by-stop.result.0 c.stop_by-stop.result.1 c.stop_by-stop.ensures in
-    rw (c.driven.ensures, c.truncate.ensures.items, by.0) (broke_unknown _ _ _ (take c.loop-at.at c.loop-at.entries.items) c.index.result.now.step c.in-Err.error _ c.args.steps (rest g c) (left g c) (broke g c))
+    rw (c.driven.ensures, c.truncate.ensures.items, by.0) (broke_unknown _ _ _ _ (take c.loop-at.at c.loop-at.entries.items) c.index.result.now.step c.in-Err.error _ c.args.steps (rest g c) (left g c) (broke g c))
 
 pub returns-in-Err-clause-ended : goal.returns-in-Err-clause-ended
 returns-in-Err-clause-ended g c =
     let by = stops_by c.in-Err.error c.stop_by-stop.result.0 c.stop_by-stop.result.1 c.stop_by-stop.ensures in
-    rw (c.driven.ensures, c.truncate.ensures.items, by.0) (broke_ended _ _ _ (take c.loop-at.at c.loop-at.entries.items) c.index.result.now.step c.in-Err.error _ c.args.steps (rest g c) (left g c) (broke g c))
+    rw (c.driven.ensures, c.truncate.ensures.items, by.0) (broke_ended _ _ _ _ (take c.loop-at.at c.loop-at.entries.items) c.index.result.now.step c.in-Err.error _ c.args.steps (rest g c) (left g c) (broke g c))
 
 pub returns-in-Err-clause-taken : goal.returns-in-Err-clause-taken
 returns-in-Err-clause-taken g c =
     let by = stops_by c.in-Err.error c.stop_by-stop.result.0 c.stop_by-stop.result.1 c.stop_by-stop.ensures in
-    rw (c.driven.ensures, c.truncate.ensures.items, by.0, by.1) (broke_took _ _ _ _ _ _ _ (take c.loop-at.at c.loop-at.entries.items) c.index.result.now.step c.in-Err.error _ c.args.steps (rest g c) (left g c) c.loop-at.invariant.ran (broke g c))
+    rw (c.driven.ensures, c.truncate.ensures.items, by.0, by.1) (broke_took _ _ _ _ _ _ _ _ (take c.loop-at.at c.loop-at.entries.items) c.index.result.now.step c.in-Err.error _ c.args.steps (rest g c) (left g c) c.loop-at.invariant.ran (broke g c))
 
 pub returns-in-Err-clause-refused : goal.returns-in-Err-clause-refused
 returns-in-Err-clause-refused g c =
     let by = stops_by c.in-Err.error c.stop_by-stop.result.0 c.stop_by-stop.result.1 c.stop_by-stop.ensures in
-    rw (c.driven.ensures, c.truncate.ensures.items, by.0, by.1) (broke_refused _ _ _ _ _ _ _ (take c.loop-at.at c.loop-at.entries.items) c.index.result.now.step c.in-Err.error _ c.args.steps (rest g c) (left g c) c.loop-at.invariant.ran (broke g c))
+    rw (c.driven.ensures, c.truncate.ensures.items, by.0, by.1) (broke_refused _ _ _ _ _ _ _ _ (take c.loop-at.at c.loop-at.entries.items) c.index.result.now.step c.in-Err.error _ c.args.steps (rest g c) (left g c) c.loop-at.invariant.ran (broke g c))
+
+pub returns-in-Err-clause-surely : goal.returns-in-Err-clause-surely
+returns-in-Err-clause-surely g c =
+    let by = stops_by c.in-Err.error c.stop_by-stop.result.0 c.stop_by-stop.result.1 c.stop_by-stop.ensures in
+    rw (c.driven.ensures, c.truncate.ensures.items, by.0, by.1) (broke_surely _ _ _ _ (take c.loop-at.at c.loop-at.entries.items) c.index.result.now.step c.in-Err.error _ c.args.steps (rest g c) (left g c) (broke g c))
 
 pub returns-in-Err-clause-fits : goal.returns-in-Err-clause-fits
 returns-in-Err-clause-fits g c = c.in-Err.ensures.says.fits (fits-stands (held_of c.loop-at.session) (take c.loop-at.at c.loop-at.entries.items) c.loop-at.invariant.ran.stands)

@@ -1,4 +1,4 @@
-use Rattle.std.proofs.Common.{◌≡◌, ◌≤◌, ap, sym, ◌∙◌, ◌||◌, cond, length, subst, take, ℕ, Option, None, arith}
+use Rattle.std.proofs.Common.{◌≤◌, ap, sym, ◌∙◌, ◌||◌, cond, length, subst, take, Option, None, arith}
 use Rattle.std.specs.List.{list_any}
 use Rattle.std.proofs.lemmas.List.Folds.{list_any_more}
 use Rattle.amqp_txn_types.specs.Ids.{same_id}

@@ -12,6 +12,7 @@ returns-clause-run g c =
       runs = these;
       untouched = run.untouched;
       rose = run.rose;
+      vetoes_rose = run.vetoes_rose;
       completes =
           λ quiet written. made_run-ends c.args.count c.run_steps.result.driven _ _ _ c.run_steps.result.status
           c.requires.few these run.rose quiet (rw c.in-Ok.ensures at (run.completes quiet written));

@@ -16,6 +16,7 @@ returns-clause-run g c =
       runs = rw (says.driven, says.below) drove.ensures.record;
       untouched = λ none. absurd (some_none _ _ says.driven none);
       rose = rw (says.driven, says.below) drove.ensures.rose;
+      vetoes_rose = rw (says.driven, says.below) drove.ensures.vetoes_rose;
       completes =
           rw (says.driven, says.below)
           (λ quiet written. quiet_run-ends c.args.steps drove.result.driven c.finished.result.status _ _

@@ -8,8 +8,9 @@ returns-clause-run g c =
     record {
       status = says.status;
       runs = rw says.driven tt;
-      untouched = λ none. rw says.below (record { taken = refl; opened = refl; refused = refl; refusals = refl });
+      untouched = λ none. rw says.below (record { taken = refl; opened = refl; refused = refl; refusals = refl; reviews = refl });
       rose = rw says.driven tt;
+      vetoes_rose = rw says.driven tt;
       completes = λ quiet written. without_fault _ _ _ _ says.status written;
       text = says.written;
       entries = says.entries;

@@ -8,7 +8,7 @@ pub returns-in_default-clause-gives : goal.returns-in_default-clause-gives
 returns-in_default-clause-gives g c = record {
   recorded = (true, no_room (search rules), search rules);
   calls = search rules;
-  plan = search rules;
+  plans = search rules;
   used = search rules;
 }
 
@@ -17,7 +17,7 @@ pub returns-in-Err-keep_taken-clause-gives : goal.returns-in-Err-keep_taken-clau
 returns-in-Err-keep_taken-clause-gives g c = record {
   recorded = (true, given_uncopied c.in-Ok-on_control_attach.given (search rules) refl (search rules), search rules);
   calls = search rules;
-  plan = search rules;
+  plans = search rules;
   used = search rules;
 }
 
@@ -26,6 +26,6 @@ pub returns-in-Err-clause-gives : goal.returns-in-Err-clause-gives
 returns-in-Err-clause-gives g c = record {
   recorded = recorded-refusal _ _ _ _ _ _ _ _ c.in-Err.error _ refl (search rules) (search rules) c.keep_refusal.ensures;
   calls = search rules;
-  plan = search rules;
+  plans = search rules;
   used = search rules;
 }

@@ -6,6 +6,7 @@ pub returns-in-Ok-clause-gives : goal.returns-in-Ok-clause-gives
 returns-in-Ok-clause-gives c = takes-transfer _ _ _ _ _ (record {
   fault = search rules;
   counted = search rules;
+  ends = c.in-Ok.ensures.ends;
   rest = search rules;
   given = search rules;
 })
