@@ -49,11 +49,11 @@ fn replies(answer: Result<Frames, SessionInnerError>) -> Option<(Option<Role>, u
         return None;
     };
     let mut role = None;
-    let mut flows = 0;
+    let mut flows = 0usize;
     for frame in frames.as_slice() {
         match frame {
             Frame::Attach(attach) => role = Some(attach.role),
-            Frame::Flow(_) => flows += 1,
+            Frame::Flow(_) => flows = flows.saturating_add(1),
             Frame::Transfer { .. } | Frame::Disposition(_) | Frame::Detach(_) => {}
         }
     }
