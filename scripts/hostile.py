@@ -1,24 +1,29 @@
 #!/usr/bin/env python3
 """Gives the built program what it must not fall over, and says what it did with it.
 
-Words: the parts to run, of `devices endless mutated random`; all of them where there is none.
+Words: the parts to run, of `devices endless picked mutated random`; all of them where there is none.
     scripts/hostile.py devices endless
-The program is the built one (one run of txn_program builds it), or the one that PROGRAM names.
+The program is the built one (one run of txn_program builds it), or the one that PROGRAM names. Needs gcc.
 
 - devices: a read or a write that fails (a folder as input, /dev/full, a closed pipe), and a pipe that
   gives one octet at a time.
 - endless: an input without an end, and lines of a megabyte.
-- mutated: a million lines, each one of the line table with a word, an octet or its place changed.
+- picked: a megabyte of lines under `listen` that ask for the most work: flows that are held and never
+  given to a link, and handles whose look-ups meet.
+- mutated: a million lines of the line table, their words at random; of one line in ten, in a hundred or
+  in a thousand an octet is changed, dropped, put in or moved.
 - random: a million octets at random, in inputs of many lengths.
 
-A run must end within a minute with a status of the table: 0, 1, 3, 7 and 8 with a text, 2 with `usage`,
-4 with `read fault`, 5 only for a sink that fails, and 6 with nothing written. Random numbers start at a
-fixed seed, so that a run can be had again.
+A run must end within a minute, with at most 128 MiB, and with a status of the table: 0, 1, 3, 7 and 8
+with a text, 2 with `usage`, 4 with `read fault`, 5 only for a sink that fails, and 6 with nothing written.
+Lines and octets at random must take at most 8 MiB and half a second a run. Random numbers start at a fixed
+seed, so that a run can be had again.
 """
 
 import os
 import random
 import resource
+import signal
 import subprocess
 import sys
 import tempfile
@@ -29,33 +34,79 @@ PROGRAM = os.environ.get("PROGRAM", f"{TOP}/crates/txn_main/out/txn_main")
 LIMIT = 1_048_576
 RUN = ["run", "00000000000000000000000000000001", "00000000000000000000000000000002"]
 DECLARE = "00537700533145"
+LISTEN = ["listen", *RUN[1:]]
+MOST_SECONDS, MOST_KIB = 60, 128 * 1024
 FAILED = []
+
+# Runs a program, and writes its status and its most memory to a file. A process of its own, since what a
+# forked process has before it runs the program counts as its memory too.
+MEASURE = r"""
+#include <stdio.h>
+#include <sys/resource.h>
+#include <sys/wait.h>
+#include <unistd.h>
+int main(int count, char **words) {
+  struct rusage used;
+  int status;
+  pid_t child = fork();
+  if (child == 0) { execv(words[2], words + 2); _exit(127); }
+  wait4(child, &status, 0, &used);
+  FILE *told = fopen(words[1], "w");
+  fprintf(told, "%d %ld", WIFEXITED(status) ? WEXITSTATUS(status) : -WTERMSIG(status), used.ru_maxrss);
+  return fclose(told);
+}
+"""
+
+# Handles whose look-ups in a table of so many places all begin at one of them, and whose marks there are
+# of so many kinds of 256.
+COLLIDE = r"""
+#include <stdint.h>
+#include <stdio.h>
+#include <stdlib.h>
+static uint64_t fold(uint64_t a, uint64_t b) {
+  unsigned __int128 product = (unsigned __int128)a * b;
+  return (uint64_t)product ^ (uint64_t)(product >> 64);
+}
+int main(int count, char **words) {
+  uint32_t wanted = atoi(words[1]), places = atoi(words[2]), kinds = atoi(words[3]), found = 0;
+  for (uint64_t handle = 0; handle <= 0xffffffff && found < wanted; handle++) {
+    uint64_t hash = fold(0x243f6a8885a308d3 ^ (handle | handle << 32), 0x9e3779b97f4a7c15 ^ 8);
+    uint32_t mixed = hash ^ hash >> 32;
+    if ((mixed & (places - 1)) == 7 && mixed >> 24 < kinds) {
+      printf("%llu\n", (unsigned long long)handle);
+      found++;
+    }
+  }
+}
+"""
+
+
+def built(source):
+    """The program of a C source, built in a folder of its own."""
+    folder = tempfile.mkdtemp()
+    with open(f"{folder}/it.c", "w") as file:
+        file.write(source)
+    subprocess.run(["gcc", "-O2", "-o", f"{folder}/it", f"{folder}/it.c"], check=True)
+    return f"{folder}/it"
 
 
 class End:
     """How a run ended: its status, what it wrote, its seconds and its most memory in KiB."""
 
     def __init__(self, words, source, sink=None):
-        with tempfile.TemporaryFile() as kept:
+        with tempfile.TemporaryFile() as kept, tempfile.NamedTemporaryFile() as told:
             started = time.monotonic()
-            child = subprocess.Popen([PROGRAM, *words], stdin=source, stdout=sink or kept, stderr=subprocess.DEVNULL)
-            self.status, self.memory = self.wait(child)
+            child = subprocess.Popen([MEASURER, told.name, PROGRAM, *words], stdin=source, stdout=sink or kept, stderr=subprocess.DEVNULL, start_new_session=True)
+            try:
+                child.wait(MOST_SECONDS)
+            except subprocess.TimeoutExpired:
+                os.killpg(child.pid, signal.SIGKILL)
+                child.wait()
             self.seconds = time.monotonic() - started
+            found = told.read().split()
+            self.status, self.memory = map(int, found) if found else ("none within a minute", 0)
             kept.seek(0)
             self.text = kept.read()
-
-    @staticmethod
-    def wait(child):
-        """Waits for the child for a minute, and no longer."""
-        for _ in range(60_000):
-            found, status, used = os.wait4(child.pid, os.WNOHANG)
-            if found:
-                child.returncode = os.waitstatus_to_exitcode(status)
-                return child.returncode, used.ru_maxrss
-            time.sleep(0.001)
-        child.kill()
-        child.wait()
-        return "none within a minute", 0
 
 
 def over(octets, words=None):
@@ -68,6 +119,7 @@ def over(octets, words=None):
 
 def say(name, end, holds):
     """Prints a run, and keeps its name where it isn't as it must be."""
+    holds = holds and end.memory <= MOST_KIB
     print(f"{'right' if holds else 'WRONG'}: {name}: status {end.status}, {end.seconds:.2f} s, {end.memory} KiB", flush=True)
     if not holds:
         FAILED.append(name)
@@ -81,6 +133,7 @@ def is_within_the_table(end):
         1: end.text.endswith(b"\n") and b"stop " in end.text,
         3: end.text.startswith(b"not a step: line "),
         7: end.text == b"input too long\n",
+        8: end.text.endswith(b"\n") and b"stop below-no-memory\n" in end.text,
     }
     return shown.get(end.status, False)
 
@@ -144,6 +197,32 @@ def endless():
         say(name, end, holds)
 
 
+def attached():
+    """A megabyte: half of it flows that are held for a handle, half attaches of it that are refused."""
+    held = b"flow 4 9\n" * (LIMIT // 18)
+    return b"attach c 1\n" + held + b"attach c 4\n" * ((LIMIT - len(held) - 11) // 11)
+
+
+def handles(each):
+    """Flows for each of these handles, none of which has a link: at most a megabyte."""
+    lines = b"".join(b"flow %d 9\n" % handle for handle in each)
+    return lines[: lines.rfind(b"\n", 0, LIMIT) + 1]
+
+
+def picked():
+    rng = random.Random(20_261_128)
+    collider = built(COLLIDE)
+    meeting, alike = (subprocess.run([collider, "60000", "8192", kinds], stdout=subprocess.PIPE, check=True).stdout.split() for kinds in ("256", "30"))
+    for name, octets in [
+        ("flows of handles at random", handles(rng.sample(range(2**32), 60_000))),
+        ("flows of handles whose look-ups meet", handles(map(int, meeting))),
+        ("flows of handles whose look-ups meet, of few marks", handles(map(int, alike))),
+        ("flows that are held, and attaches that are refused", attached()),
+    ]:
+        end = over(octets, LISTEN)
+        say(f"{name}, {octets.count(10)} lines", end, end.status == 0 and is_within_the_table(end))
+
+
 def words_of_a_line(rng):
     """A line of the table with words at random, most of them small so that lines meet."""
     small = lambda: str(rng.choice([0, 1, 2, 3, 4, 5, 9, 4_294_967_295]))
@@ -173,9 +252,9 @@ def words_of_a_line(rng):
     return rng.choice(lines if rng.randrange(400) else ends)()
 
 
-def mutation(rng, line):
-    """The line with one octet changed, dropped, put in or moved."""
-    if not line or rng.randrange(1_000):
+def mutation(rng, line, each):
+    """Of one line in so many, the line with one octet changed, dropped, put in or moved."""
+    if not line or rng.randrange(each):
         return line
     at = rng.randrange(len(line))
     octet = bytes([rng.randrange(256)])
@@ -185,44 +264,55 @@ def mutation(rng, line):
 def mutated(count=1_000_000):
     rng = random.Random(20_261_128)
     ids = RUN[1:]
-    commands = [RUN, ["run", "--refuse", "2,5", *ids], ["listen", *ids], ["run", "--seed", "7"]]
+    commands = [RUN, ["run", "--refuse", "2,5", *ids], ["run", "--starve", "3", *ids], LISTEN, ["run", "--seed", "7"]]
     opened = b"attach c 4\ncontrol 0 %s\ncontrol 0 %s\n" % (DECLARE.encode(), DECLARE.encode())
-    told, memory, slowest, left = {}, [], 0.0, count
+    told, ends, left = {}, [], count
     while left > 0:
         length = min(left, rng.choice([10, 100, 1_000]))
         left -= length
-        lines = [mutation(rng, words_of_a_line(rng).encode()) for _ in range(length)]
+        each = rng.choice([10, 100, 1_000])
+        lines = [mutation(rng, words_of_a_line(rng).encode(), each) for _ in range(length)]
         end = over(opened + b"\n".join(lines), rng.choice(commands))
         told[end.status] = told.get(end.status, 0) + 1
-        memory.append(end.memory)
-        slowest = max(slowest, end.seconds)
+        ends.append(end)
         if not is_within_the_table(end):
-            say(f"mutated lines, run {len(memory)}", end, False)
-    print(f"mutated: {count} lines in {len(memory)} runs; statuses {dict(sorted(told.items()))}; at most {max(memory)} KiB and {slowest:.2f} s")
+            say(f"mutated lines, run {len(ends)}", end, False)
+    say_all(f"mutated: {count} lines", ends, told)
+
+
+def say_all(name, ends, told):
+    """Prints what many runs took, and keeps the name where one took more than a small one may."""
+    memory, seconds = max(end.memory for end in ends), max(end.seconds for end in ends)
+    holds = memory <= 8 * 1024 and seconds <= 0.5
+    print(f"{'right' if holds else 'WRONG'}: {name} in {len(ends)} runs; statuses {dict(sorted(told.items()))}; at most {memory} KiB and {seconds:.2f} s", flush=True)
+    if not holds:
+        FAILED.append(name)
 
 
 def random_octets(count=1_000_000):
     rng = random.Random(20_261_128)
-    told, memory, left = {}, [], count
+    told, ends, left = {}, [], count
     while left > 0:
         octets = rng.randbytes(min(left, rng.choice([1, 7, 64, 1_000, 30_000])))
         left -= len(octets)
         end = over(octets)
         told[end.status] = told.get(end.status, 0) + 1
-        memory.append(end.memory)
+        ends.append(end)
         if not is_within_the_table(end):
             say(f"random octets, {len(octets)} of them", end, False)
-    print(f"random: {count} octets in {len(memory)} runs; statuses {dict(sorted(told.items()))}; at most {max(memory)} KiB")
+    say_all(f"random: {count} octets", ends, told)
 
 
 def main():
-    parts = {"devices": devices, "endless": endless, "mutated": mutated, "random": random_octets}
+    global MEASURER
+    parts = {"devices": devices, "endless": endless, "picked": picked, "mutated": mutated, "random": random_octets}
     chosen = sys.argv[1:] or list(parts)
     if any(it not in parts for it in chosen):
         sys.exit(f"usage: hostile.py [{' | '.join(parts)}]..")
     if not os.access(PROGRAM, os.X_OK):
         sys.exit(f"run {TOP}/txn_program make 1 first: it builds the program")
     resource.setrlimit(resource.RLIMIT_CORE, (0, 0))
+    MEASURER = built(MEASURE)
     for it in chosen:
         parts[it]()
     print(f"{len(FAILED)} wrong")

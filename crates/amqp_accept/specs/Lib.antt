@@ -17,4 +17,7 @@ pub use Rattle.amqp_listener.specs.Listening
 pub use Rattle.amqp_listener.specs.Hearing
 pub use Rattle.amqp_listener.specs.Controlling
 pub use Rattle.amqp_listener.specs.ListenerLaws
+pub use Rattle.amqp_listener.specs.ListenerReviews
 pub use Rattle.amqp_accepting.specs.AtOnce
+pub use Rattle.amqp_accepting.specs.AtOnceLaws
+pub use Rattle.amqp_accepting.specs.AtOnceReviews

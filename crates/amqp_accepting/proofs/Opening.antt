@@ -1,5 +1,5 @@
 -- A link that is opened as its attach comes.
-use Rattle.std.proofs.Common.{◌≡◌, ◌≤◌, Result, Ok, Err, List, refl, ap, sym, ◌∙◌, subst, inr, arith}
+use Rattle.std.proofs.Common.{◌≡◌, ◌≤◌, ◌||◌, Bool, true, Result, Ok, Err, List, refl, ap, sym, ◌∙◌, subst, inr, arith}
 use Rattle.std.specs.Prelude.{IfErr}
 use Rattle.amqp_txn_types.specs.Counts.{Rose}
 use Rattle.amqp_txn_types.specs.declared.performatives.Attach.{Attach}
@@ -7,11 +7,12 @@ use Rattle.amqp_txn_types.specs.declared.performatives.Frame.{Frame}
 use Rattle.amqp_txn_types.specs.declared.performatives.Frame.TheVariants as frames
 use Rattle.amqp_txn_types.specs.declared.small.OutputHandle.{OutputHandle}
 use Rattle.amqp_txn_types.specs.declared.text.Text.{Text}
+use Rattle.amqp_txn_types.specs.Frames.{is_coordinator_attach}
 use Rattle.amqp_layer.specs.declared.inner_error.SessionInnerError.{SessionInnerError}
 use Rattle.amqp_layer.specs.Inner.{Took}
 use Rattle.amqp_layer.specs.Told.{Told}
-use Rattle.amqp_sessions.specs.Names.{AttachLeaves, LeftBy, Names, Placed, SameNames}
-use Rattle.amqp_sessions.specs.Sessions.{Kept}
+use Rattle.amqp_sessions.specs.Names.{AttachLeaves, LeftBy, Names, Placed, SameNames, leaves-at_once, left-map}
+use Rattle.amqp_sessions.specs.Sessions.{Kept, LeavesFrame}
 use Rattle.amqp_sessions.specs.declared.relay.NameState.{NameState}
 use Rattle.amqp_sessions.specs.declared.relay.NameState.TheVariants.{Unknown, Waiting, Taken}
 use Rattle.amqp_listener.specs.ListenerLaws.{left-same}
@@ -58,11 +59,25 @@ placed-after old now new name state output same placed = record {
 accepted-names : (old now new : Names) (name : Text)
     (result : Result (List Frame) SessionInnerError) → SameNames old now
     → AcceptsLeaves now new name result
-    → LeftBy (AttachLeaves old new name) (SameNames old new) result
+    → LeftBy (AttachLeaves true old new name) (SameNames old new) result
 accepted-names old now new name (Ok given) same opens =
     inr (opens.0, placed-after old now new name Taken opens.0 same opens.1)
 accepted-names old now new name (Err error) same again =
     left-same _ _ error (same-again old now new same again)
+
+-- what any attach leaves is left by one that is accepted at once
+pub leaves-accepted : (at_once : Bool) (before after : Kept) (old new : Names) (attach : Attach)
+    (result : Result (List Frame) SessionInnerError)
+    → LeavesFrame at_once before after old new (frames.Attach attach) result
+    → LeavesFrame true before after old new (frames.Attach attach) result
+leaves-accepted at_once before after old new attach result left =
+    let opens : Bool = at_once || is_coordinator_attach (frames.Attach attach) in
+    record {
+      kept = left.kept;
+      names = left-map (AttachLeaves opens old new attach.name)
+          (AttachLeaves true old new attach.name) (SameNames old new) result
+          (leaves-at_once opens old new attach.name) left.names;
+    }
 
 module _ {S : Type 0} (told : ListenerSession S → Told) (kept : ListenerSession S → Kept)
     (names : ListenerSession S → Names)

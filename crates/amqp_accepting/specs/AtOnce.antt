@@ -1,6 +1,6 @@
 -- What a listener keeps that accepts links at once, and what its calls do to that. Part 2 of the
 -- standard, section 2.6.3 (establishing a link).
-use Rattle.std.specs.Prelude.{ℕ, ◌≡◌, Bool, false, Option, None, Result, Ok, Err, List, IfErr}
+use Rattle.std.specs.Prelude.{ℕ, ◌≡◌, Bool, true, false, Option, None, Result, Ok, Err, List, IfErr}
 use Rattle.amqp_txn_types.specs.Counts.{Rose}
 use Rattle.amqp_txn_types.specs.Frames.{attaches_coordinator}
 use Rattle.amqp_txn_types.specs.declared.delivery.SessionStopReason.{SessionStopReason}
@@ -203,7 +203,7 @@ pub record OpensAtOnce {S : Type 0} (told : ListenerSession S → Told)
       HearsAttach (λ a b answer. Took told gives a b (frames.Attach attach) answer) Accepts
       ((names old).known attach.name) old new attach result
   pub leaves :
-      LeavesFrame (kept old) (kept new) (names old) (names new) (frames.Attach attach) result
+      LeavesFrame true (kept old) (kept new) (names old) (names new) (frames.Attach attach) result
   pub cause : IfErr result (AttachCause (kept old).stop attach (told old) (told new))
   -- whatever is answered, the queue is as it was
   pub queue : queue_of new ≡ queue_of old

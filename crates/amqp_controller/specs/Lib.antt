@@ -6,6 +6,7 @@ pub use Rattle.amqp_posting.specs.Errors as PostErrors
 pub use Rattle.amqp_posting.specs.Posting
 pub use Rattle.amqp_posting.specs.Retiring
 pub use Rattle.amqp_transactions.specs.Begun
+pub use Rattle.amqp_transactions.specs.Locked
 pub use Rattle.amqp_transactions.specs.Declaring
 pub use Rattle.amqp_transactions.specs.Attaching
 pub use Rattle.amqp_transactions.specs.Owned

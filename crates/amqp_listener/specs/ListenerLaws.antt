@@ -1,15 +1,16 @@
 -- What the calls of a listener leave of the session in it: the laws of `Session` for a listener.
-use Rattle.std.specs.Prelude.{◌≡◌, Result, Ok, Err, List}
+use Rattle.std.specs.Prelude.{◌≡◌, ◌||◌, Bool, Result, Ok, Err, List}
 use Rattle.std.proofs.Common.{refl, ap, inl, inr, sym, ◌∙◌, subst}
 use Rattle.amqp_txn_types.specs.declared.performatives.Attach.{Attach}
 use Rattle.amqp_txn_types.specs.declared.performatives.Frame.{Frame}
 use Rattle.amqp_txn_types.specs.declared.performatives.Frame.TheVariants as frames
 use Rattle.amqp_txn_types.specs.declared.text.Text.{Text}
+use Rattle.amqp_txn_types.specs.Frames.{is_coordinator_attach}
 use Rattle.amqp_layer.specs.declared.inner_error.SessionInnerError.{SessionInnerError}
 use Rattle.amqp_layer.specs.declared.inner_error.SessionInnerError.TheVariants as faults
 use Rattle.amqp_layer.specs.Inner.{Took}
 use Rattle.amqp_layer.specs.Told.{Told}
-use Rattle.amqp_sessions.specs.Names.{Attaches, LeftBy, Names, SameNames, state_attached}
+use Rattle.amqp_sessions.specs.Names.{Attaches, LeftBy, Names, SameNames, attaches-leaves, state_attached}
 use Rattle.amqp_sessions.specs.Sessions.{Kept, LeavesFrame}
 use Rattle.amqp_sessions.specs.declared.relay.NameState.{NameState}
 use Rattle.amqp_sessions.specs.declared.relay.NameState.TheVariants.{Unknown, Waiting, Taken}
@@ -65,19 +66,22 @@ module _ {S : Type 0} (told : S → Told) (kept : S → Kept) (names : S → Nam
     at = λ output. ap (λ s. (names s).at output) same;
   }
 
-  module _ (gives : S → S → Frame → Result (List Frame) SessionInnerError → Type 0)
+  module _ (at_once : Bool)
+      (gives : S → S → Frame → Result (List Frame) SessionInnerError → Type 0)
       (law : (old new : S) (frame : Frame) (answer : Result (List Frame) SessionInnerError)
       → gives old new frame answer
-      → LeavesFrame (kept old) (kept new) (names old) (names new) frame answer) where
+      → LeavesFrame at_once (kept old) (kept new) (names old) (names new) frame answer) where
     -- an attach that isn't the session's
     queued-leaves : (old new : S) (state : NameState) (before after : Queue) (attach : Attach)
         (answer : Result (List Frame) SessionInnerError) → new ≡ old
         → state_attached ((names old).known attach.name) ≡ (names old).known attach.name
         → Queues state before after attach answer
-        → LeavesFrame (kept old) (kept new) (names old) (names new) (frames.Attach attach) answer
+        → LeavesFrame at_once (kept old) (kept new) (names old) (names new) (frames.Attach attach)
+        answer
     queued-leaves old new state before after attach (Ok given) same stays queues = record {
       kept = ap kept same;
-      names = inl (attaches-same old new attach.name same stays);
+      names = attaches-leaves (at_once || is_coordinator_attach (frames.Attach attach)) (names old)
+          (names new) attach.name (attaches-same old new attach.name same stays);
     }
     queued-leaves old new state before after attach (Err error) same stays queues =
         record { kept = ap kept same; names = left-same _ _ error (names-same old new same) }
@@ -87,7 +91,8 @@ module _ {S : Type 0} (told : S → Told) (kept : S → Kept) (names : S → Nam
         (answer : Result (List Frame) SessionInnerError) → (names old).known attach.name ≡ state
         → HearsAttach (Took told gives old new (frames.Attach attach)) state old new before after
         attach answer
-        → LeavesFrame (kept old) (kept new) (names old) (names new) (frames.Attach attach) answer
+        → LeavesFrame at_once (kept old) (kept new) (names old) (names new) (frames.Attach attach)
+        answer
     attach-leaves old new Unknown before after attach answer is hears =
         queued-leaves old new Unknown before after attach answer hears.0
         (ap state_attached is ∙ sym is) hears.1
@@ -114,7 +119,7 @@ module _ {S : Type 0} (told : S → Told) (kept : S → Kept) (names : S → Nam
     pub heard-leaves : (old new : ListenerSession S) (frame : Frame)
         (answer : Result (List Frame) SessionInnerError)
         → HearsFrame told gives names old new frame answer
-        → LeavesFrame (kept (inner_of old)) (kept (inner_of new)) (names (inner_of old))
+        → LeavesFrame at_once (kept (inner_of old)) (kept (inner_of new)) (names (inner_of old))
         (names (inner_of new)) frame answer
     heard-leaves old new (frames.Attach attach) answer heard =
         attach-leaves (inner_of old) (inner_of new) ((names (inner_of old)).known attach.name) _ _

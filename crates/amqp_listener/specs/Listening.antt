@@ -1,5 +1,5 @@
 -- What a listener keeps beside the session in it, and what its calls do to both.
-use Rattle.std.specs.Prelude.{ℕ, ◌≡◌, ◌⊎◌, [], Option, Some, None, Result, Ok, Err, List}
+use Rattle.std.specs.Prelude.{ℕ, ◌≡◌, ◌⊎◌, [], Option, Some, None, Result, Ok, Err, List, OnOk}
 use Rattle.amqp_txn_types.specs.Counts.{one_more}
 use Rattle.amqp_txn_types.specs.declared.small.InputHandle.{InputHandle}
 use Rattle.amqp_txn_types.specs.declared.small.OutputHandle.{OutputHandle}
@@ -96,6 +96,16 @@ pub record Replays {S : Type 0} (told : S → Told)
   pub gave : gives old new name (replaying (held input) relay) input result
   pub held_is : SameHeld (held_after result input held) held_now
 
+-- the session refuses the link, for which nothing was copied; what is held stays
+pub record RefusesUncopied {S : Type 0} (told : S → Told)
+    (gives : S → S → Text → Relay → InputHandle → Result OutputHandle AllocLinkError → Type 0)
+    (old new : S) (held held_now : InputHandle → List LinkFlow) (name : Text) (relay : Relay)
+    (input : InputHandle) (result : Result OutputHandle AllocLinkError) : Type 0 where
+  pub tells : Checks (told old) (told new) result
+  pub gave : gives old new name relay input result
+  pub held_is : SameHeld held held_now
+  pub refused : OnOk result ⊥
+
 -- there was no room for the copies, and the session wasn't asked
 pub record NoRoom {S T E : Type 0} (old new : S) (held held_now : InputHandle → List LinkFlow)
     (fault : E) (result : Result T E) : Type 0 where
@@ -110,6 +120,7 @@ abbrev pub AllocatesHeld : {S : Type 0} → (S → Told)
     → InputHandle → Result OutputHandle AllocLinkError → Type 0
 AllocatesHeld told gives old new held held_now name relay input result =
     Replays told gives old new held held_now name relay input result
+    ⊎ RefusesUncopied told gives old new held held_now name relay input result
     ⊎ NoRoom old new held held_now refusals.NoMemory result
 
 -- such an allocation leaves the queue; an Err is counted

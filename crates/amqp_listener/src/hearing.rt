@@ -158,7 +158,7 @@ pub fn hear_transfer<S: LayerBelow>(
 }
 
 /// Allocates a link that the peer attached. What is held for its handle is replayed to it: on Ok it
-/// is held no more.
+/// is held no more. A name that is known is refused by every session, so nothing is copied for it.
 pub fn allocate_held<S: Session>(
     session: &mut S,
     held: &mut HeldFlows,
@@ -175,6 +175,12 @@ pub fn allocate_held<S: Session>(
     ensures allocates { AllocatesHeld S.told S.allocate_incoming_link_gives session.old session.new
         (flows_for held.old) (flows_for held.new) name relay input result }
 {
+    if let NameState::Waiting | NameState::Taken = session.name_state(&name) {
+        return match session.allocate_incoming_link(name, relay, input) {
+            Ok(_output) => unreachable!(),
+            Err(error) => Err(error),
+        };
+    }
     let Ok(relay) = held.replay(input, relay) else {
         drop(name);
         return Err(AllocLinkError::NoMemory);

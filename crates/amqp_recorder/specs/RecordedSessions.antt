@@ -58,17 +58,18 @@ module _ {S : Type 0} (told : S → Told) (kept : S → Kept) (names : S → Nam
       let left = law (Ok given) inner in (left.0, inl left.1)
 
   -- an incoming frame call
-  pub recorded-leaves : (gives : S → S → Frame → Result (List Frame) SessionInnerError → Type 0)
+  pub recorded-leaves : (at_once : Bool)
+      (gives : S → S → Frame → Result (List Frame) SessionInnerError → Type 0)
       → ((old new : S) (frame : Frame) (answer : Result (List Frame) SessionInnerError)
       → gives old new frame answer
-      → LeavesFrame (kept old) (kept new) (names old) (names new) frame answer)
+      → LeavesFrame at_once (kept old) (kept new) (names old) (names new) frame answer)
       → (old new : Recorder S) (frame : Frame) (answer : Result (List Frame) SessionInnerError)
       → RecordsCall told gives old new frame answer
-      → LeavesFrame (kept (inner_of old)) (kept (inner_of new)) (names (inner_of old))
+      → LeavesFrame at_once (kept (inner_of old)) (kept (inner_of new)) (names (inner_of old))
       (names (inner_of new)) frame answer
-  recorded-leaves gives law old new frame (Ok given) records =
+  recorded-leaves at_once gives law old new frame (Ok given) records =
       law (inner_of old) (inner_of new) frame (Ok given) records.recorded.1.gave
-  recorded-leaves gives law old new frame (Err error) records =
+  recorded-leaves at_once gives law old new frame (Err error) records =
       let left = refused-left (inner_of old) (inner_of new) _ _
       (λ answer took.
       let leaves = law (inner_of old) (inner_of new) frame answer took.gave in

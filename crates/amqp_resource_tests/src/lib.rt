@@ -7,6 +7,8 @@ mod listener_tests;
 #[cfg(test)]
 mod log_tests;
 #[cfg(test)]
+mod review_tests;
+#[cfg(test)]
 mod tests;
 #[cfg(test)]
 mod window_tests;

@@ -305,7 +305,7 @@ fn a_refused_presumptive_disposition_stops_the_session(rt: HostRuntime) {
 }
 
 /// A session over a layer that tells what it took.
-type Recorded = TxnSession<Recorder<OpenSession>>;
+pub(crate) type Recorded = TxnSession<Recorder<OpenSession>>;
 
 /// Attaches control link 0: what that was answered.
 fn attaches(alloc: Global, session: &mut Recorded, ids: &mut CountIds) -> &'static str {
@@ -474,7 +474,7 @@ fn a_recorder_passes_on_a_refused_answer_within_a_commit(rt: HostRuntime) -> Res
 }
 
 /// A session over a recorder that is planned to refuse the call with that number.
-fn planned(alloc: Global, number: u64) -> Result<Recorded, NoMemory> {
+pub(crate) fn planned(alloc: Global, number: u64) -> Result<Recorded, NoMemory> {
     let mut plan = CallNumbers::new(alloc);
     plan.append(number)?;
     let mut below = Recorder::new(alloc, OpenSession::new(alloc));
@@ -485,7 +485,7 @@ fn planned(alloc: Global, number: u64) -> Result<Recorded, NoMemory> {
 }
 
 /// How many frames and how many lists the layer below took and vetoed.
-fn counts_of(session: &Recorded) -> [usize; 2] {
+pub(crate) fn counts_of(session: &Recorded) -> [usize; 2] {
     let below = session.below();
     [below.exchanges().len(), below.vetoed().len()]
 }

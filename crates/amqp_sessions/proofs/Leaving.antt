@@ -1,5 +1,5 @@
 -- What the calls of a layer leave of what a plain session keeps and of its names.
-use Rattle.std.proofs.Common.{◌≡◌, ap, refl, Option, Some, None, ℕ, Ok, List, inl}
+use Rattle.std.proofs.Common.{◌≡◌, ap, refl, Option, Some, None, ℕ, Ok, List}
 use Rattle.amqp_txn_types.specs.declared.performatives.Attach.{Attach}
 use Rattle.amqp_txn_types.specs.declared.performatives.Detach.{Detach}
 use Rattle.amqp_txn_types.specs.declared.performatives.Flow.{Flow}
@@ -9,13 +9,14 @@ use Rattle.amqp_txn_types.specs.declared.performatives.Transfer.{Transfer}
 use Rattle.amqp_txn_types.specs.declared.small.Handle.{Handle}
 use Rattle.amqp_txn_types.specs.declared.small.SessionState.{SessionState}
 use Rattle.amqp_txn_types.specs.declared.small.SessionState.TheVariants as states
+use Rattle.amqp_txn_types.specs.Frames.{is_coordinator_attach}
 use Rattle.amqp_layer.specs.declared.inner_error.SessionInnerError.{SessionInnerError}
 use Rattle.amqp_sessions.specs.declared.plain_session.PlainSession.{PlainSession}
 use Rattle.amqp_sessions.specs.declared.relay.NameState.{NameState}
 use Rattle.amqp_sessions.specs.declared.relay.NameState.TheVariants.{Unknown, Waiting, Taken}
 use Rattle.amqp_sessions.specs.LinkMoves.{FlowsTo, PlacedNext, control_link, link_flow, names_in}
 use Rattle.amqp_sessions.specs.Links.{LinkTable, name_state_of, output_mapped, with_flow, with_transfer}
-use Rattle.amqp_sessions.specs.Names.{SameNames}
+use Rattle.amqp_sessions.specs.Names.{SameNames, attaches-leaves}
 use Rattle.amqp_sessions.specs.Plain.{RefusedBy, attach_fault_by, input_of, mapped_fault}
 use Rattle.amqp_sessions.specs.PlainFrames.{PlainTakes, TakesAttach, TakesDetach, TakesFlow, TakesTransfer}
 use Rattle.amqp_sessions.specs.PlainSessions.{kept_of, names_of, links_of, slots_of}
@@ -46,7 +47,7 @@ takes-attach old new attach given takes = record {
     kept = ap kept_of takes.rest;
     names =
         let waited = name-waited (name_state_of (slots_of old) attach.name) _ given (mapped-only _ _ given takes.fault) in
-        inl (attaches-names (links_of old) (links_of new) attach takes.attached waited);
+        attaches-leaves (is_coordinator_attach (frames.Attach attach)) (names_of old) (names_of new) attach.name (attaches-names (links_of old) (links_of new) attach takes.attached waited);
   };
 }
 

@@ -1,9 +1,11 @@
 -- How a session knows names, and what its calls leave of that.
-use Rattle.std.specs.Prelude.{◌≡◌, ◌≢◌, ◌⊎◌, Option, Some, None, Result, Ok, Err, List}
+use Rattle.std.specs.Prelude.{◌≡◌, ◌≢◌, ◌⊎◌, ◌||◌, Bool, true, false, Option, Some, None, Result, Ok, Err, List}
+use Rattle.std.proofs.Common.{inl, inr}
 use Rattle.amqp_txn_types.specs.declared.text.Text.{Text}
 use Rattle.amqp_txn_types.specs.declared.small.OutputHandle.{OutputHandle}
 use Rattle.amqp_txn_types.specs.declared.performatives.Frame.{Frame}
 use Rattle.amqp_txn_types.specs.declared.performatives.Frame.TheVariants as frames
+use Rattle.amqp_txn_types.specs.Frames.{is_coordinator_attach}
 use Rattle.amqp_layer.specs.declared.inner_error.SessionInnerError.{SessionInnerError}
 use Rattle.amqp_layer.specs.declared.inner_error.SessionInnerError.TheVariants as faults
 use Rattle.amqp_sessions.specs.declared.relay.NameState.{NameState}
@@ -77,18 +79,48 @@ pub record Attaches (old new : Names) (name : Text) : Type 0 where
 abbrev pub OpensLink : Names → Names → Text → Type 0
 OpensLink old new name = (output : OutputHandle) × Placed old new name Taken output
 
--- an attach, which opens its link where the session accepts it at once
-abbrev pub AttachLeaves : Names → Names → Text → Type 0
-AttachLeaves old new name = Attaches old new name ⊎ OpensLink old new name
+-- an attach, by whether it may open its link at once
+abbrev pub AttachLeaves : Bool → Names → Names → Text → Type 0
+AttachLeaves false old new name = Attaches old new name
+AttachLeaves true old new name = Attaches old new name ⊎ OpensLink old new name
 
--- what an incoming frame leaves of the names, where it is taken
-abbrev pub FrameLeaves : Names → Names → Frame → Type 0
-FrameLeaves old new (frames.Attach attach) = AttachLeaves old new attach.name
-FrameLeaves old new (frames.Detach detach) = MayFree old new
-FrameLeaves old new frame = SameNames old new
+-- an attach that opens no link leaves what any attach may
+pub attaches-leaves : (opens : Bool) (old new : Names) (name : Text) → Attaches old new name
+    → AttachLeaves opens old new name
+attaches-leaves false old new name attaches = attaches
+attaches-leaves true old new name attaches = inl attaches
+
+-- an attach that opens its link leaves what an attach may that may open it
+pub opens-leaves : (at_once opens : Bool) (old new : Names) (name : Text) → opens ≡ true
+    → OpensLink old new name → AttachLeaves (at_once || opens) old new name
+opens-leaves true opens old new name may link = inr link
+opens-leaves false true old new name may link = inr link
+opens-leaves false false old new name may link = absurd (cc may)
+
+-- what any attach leaves is left by one that may open its link
+pub leaves-at_once : (opens : Bool) (old new : Names) (name : Text)
+    → AttachLeaves opens old new name → AttachLeaves true old new name
+leaves-at_once false old new name attaches = inl attaches
+leaves-at_once true old new name leaves = leaves
+
+-- what an incoming frame leaves of the names, where it is taken; an attach may open its link where
+-- the session accepts links at once, and where it attaches to a coordinator
+abbrev pub FrameLeaves : Bool → Names → Names → Frame → Type 0
+FrameLeaves at_once old new (frames.Attach attach) =
+    AttachLeaves (at_once || is_coordinator_attach (frames.Attach attach)) old new attach.name
+FrameLeaves at_once old new (frames.Detach detach) = MayFree old new
+FrameLeaves at_once old new frame = SameNames old new
 
 -- a refusal leaves all as it was; want of memory may come after the call was done
 abbrev pub LeftBy : Type 0 → Type 0 → Result (List Frame) SessionInnerError → Type 0
 LeftBy Done Same (Ok given) = Done
 LeftBy Done Same (Err faults.NoMemory) = Done ⊎ Same
 LeftBy Done Same (Err error) = Same
+
+-- an Ok leaves what its fact says
+pub left-map : (Before After Same : Type 0) (result : Result (List Frame) SessionInnerError)
+    → (Before → After) → LeftBy Before Same result → LeftBy After Same result
+left-map Before After Same (Ok given) f left = f left
+left-map Before After Same (Err faults.NoMemory) f left =
+    elim left [ inl before ↦ inl (f before) | inr same ↦ inr same ]
+left-map Before After Same (Err error) f left = left

@@ -1,5 +1,5 @@
 -- What the calls of a layer answer and leave in a plain session.
-use Rattle.std.specs.Prelude.{◌≡◌, cond, Option, Some, None, Result, List, OnOk, IfOk}
+use Rattle.std.specs.Prelude.{◌≡◌, cond, false, Option, Some, None, Result, List, OnOk, IfOk}
 use Rattle.amqp_txn_types.specs.declared.performatives.Attach.{Attach}
 use Rattle.amqp_txn_types.specs.declared.performatives.Detach.{Detach}
 use Rattle.amqp_txn_types.specs.declared.performatives.Flow.{Flow}
@@ -81,7 +81,8 @@ TakesByKind old new (frames.Detach detach) result = TakesDetach old new detach r
 pub record PlainTakes (old new : PlainSession) (frame : Frame)
     (result : Result (List Frame) SessionInnerError) : Type 0 where
   pub takes : TakesByKind old new frame result
-  pub leaves : LeavesFrame (kept_of old) (kept_of new) (names_of old) (names_of new) frame result
+  pub leaves :
+      LeavesFrame false (kept_of old) (kept_of new) (names_of old) (names_of new) frame result
 
 -- the attach of a control link
 pub record PlainOpens (old new : PlainSession) (attach : Attach)

@@ -1,5 +1,5 @@
 -- What the calls of a session do to what it tells and keeps.
-use Rattle.std.specs.Prelude.{◌≡◌, ◌≤◌, List, Option, Some, None, Result, Ok, Err, OnErr}
+use Rattle.std.specs.Prelude.{◌≡◌, ◌≤◌, Bool, List, Option, Some, None, Result, Ok, Err, OnErr}
 use Rattle.amqp_txn_types.specs.declared.small.SessionState.{SessionState}
 use Rattle.amqp_txn_types.specs.declared.small.OutgoingChannel.{OutgoingChannel}
 use Rattle.amqp_txn_types.specs.declared.delivery.SessionStopReason.{SessionStopReason}
@@ -60,11 +60,12 @@ pub record Leaves (before after : Kept) (old new : Names) : Type 0 where
   pub kept : after ≡ before
   pub names : SameNames old new
 
--- what an incoming frame call leaves of what a session keeps and of its names
-pub record LeavesFrame (before after : Kept) (old new : Names) (frame : Frame)
+-- what an incoming frame call leaves of what a session keeps and of its names, by whether the
+-- session accepts links at once
+pub record LeavesFrame (at_once : Bool) (before after : Kept) (old new : Names) (frame : Frame)
     (result : Result (List Frame) SessionInnerError) : Type 0 where
   pub kept : after ≡ before
-  pub names : LeftBy (FrameLeaves old new frame) (SameNames old new) result
+  pub names : LeftBy (FrameLeaves at_once old new frame) (SameNames old new) result
 
 -- what the attach of a control link leaves of what a session keeps and of its names
 pub record LeavesOpening (before after : Kept) (old new : Names) (attach : Attach)

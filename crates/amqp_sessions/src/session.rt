@@ -65,6 +65,10 @@ pub trait Session: LayerBelow {
     /// How it knows each name, and the name of the link under each output handle.
     ghost names: { Self → Names };
 
+    /// Whether an attach that comes may open its link at once, whatever its target is. The attach
+    /// of a control link may do so in every session.
+    ghost accepts_at_once: { Bool };
+
     /// What keeping a reason why the session stopped leaves: the session before and after, the
     /// reason.
     ghost stop_gives: { Self → Self → Stop → Type 0 };
@@ -248,7 +252,7 @@ pub trait Session: LayerBelow {
     /// An incoming frame call leaves what is kept, and of the names what a frame of its kind may.
     ghost incoming_leaves: { (old new : Self) (frame : Came) (answer : Result (List Came) Fault)
         → Self.incoming_gives old new frame answer
-        → LeavesFrame (kept old) (kept new) (names old) (names new) frame answer };
+        → LeavesFrame accepts_at_once (kept old) (kept new) (names old) (names new) frame answer };
 
     /// The attach of a control link leaves what is kept, and where it is opened its name is taken.
     ghost opening_leaves: { (old new : Self) (attach : Opening) (answer : Result (List Came) Fault)

@@ -19,9 +19,9 @@ fn failing(alloc: Global, call: u64) -> Result<CallNumbers, NoMemory> {
 }
 
 /// The status of `run A` over a source and a sink.
-fn status_over<O: ByteSink>(
+fn status_over<I: ByteSource, O: ByteSink>(
     alloc: Global,
-    source: &mut MemorySource,
+    source: &mut I,
     sink: &mut O,
 ) -> Result<u8, NoMemory> {
     let mut texts = Items::new(alloc);
@@ -148,6 +148,111 @@ fn asked_by_a_run(alloc: Global) -> Result<(u32, usize), NoMemory> {
 #[test]
 fn a_sink_is_asked_once_for_the_room_of_the_text(rt: HostRuntime) -> Result<(), Fail> {
     assert_eq!(rt; asked_by_a_run(rt.alloc())?, (1, DONE.len()));
+    Ok(())
+}
+
+/// A source that gives one octet a call, and tells none of them.
+#[derive(Drop)]
+struct OctetSource {
+    octets: Binary,
+    at: usize,
+}
+
+impl ByteSource for OctetSource {
+    ghost use Rattle.std.specs.Prelude.{None};
+
+    ghost rest = { λ _. None };
+
+    ghost faults = { λ _. 0 };
+
+    fn read(&mut self, buf: &mut [u8]) -> Result<usize, Failed> {
+        let Some(octet) = self.octets.as_slice().get(self.at) else {
+            return Ok(0);
+        };
+        if buf.is_empty() {
+            return Ok(0);
+        }
+        buf[0] = *octet;
+        self.at = self.at.saturating_add(1);
+        Ok(1)
+    }
+}
+
+/// Whether an input that comes an octet at a time is run to its end.
+fn runs_octet_by_octet(alloc: Global) -> Result<(u8, bool), NoMemory> {
+    let octets = Binary::from_slice(alloc, b"attach c 0\nlink-end 0\n")?;
+    let mut source = OctetSource { octets, at: 0 };
+    let mut sink = SureSink::new(alloc);
+    let status = status_over(alloc, &mut source, &mut sink);
+    drop(source);
+    let text = "attached 0\nlink-ended\nstop done\nhanded 0\n";
+    let written = sink.as_slice() == text.as_bytes();
+    drop(sink);
+    Ok((status?, written))
+}
+
+#[test]
+fn an_input_may_come_an_octet_at_a_time(rt: HostRuntime) -> Result<(), Fail> {
+    assert_eq!(rt; runs_octet_by_octet(rt.alloc())?, (0, true));
+    Ok(())
+}
+
+/// A sink in memory that takes seven octets a call at most, and fails once it took so many pieces.
+/// It tells none of what was written.
+#[derive(Drop)]
+struct PieceSink {
+    sink: SureSink,
+    pieces: u32,
+    faults: u64,
+}
+
+impl ByteSink for PieceSink {
+    ghost use Rattle.std.specs.Prelude.{None};
+
+    ghost written = { λ _. None };
+
+    ghost faults = { λ s. s.faults };
+
+    ghost spare = { λ s. s.sink.spare };
+
+    fn reserve(&mut self, more: usize) -> Result<(), NoMemory> {
+        self.sink.reserve(more)
+    }
+
+    fn write(&mut self, bytes: &[u8]) -> Result<usize, Failed> {
+        if self.pieces == 0 {
+            self.faults = self.faults.saturating_add(1);
+            return Err(Failed);
+        }
+        self.pieces -= 1;
+        let count = bytes.len().min(7);
+        self.sink.write(&bytes[..count])
+    }
+}
+
+/// How an empty run ends over a sink that fails once it took so many pieces, and whether just these
+/// were written.
+fn pieces_end(alloc: Global, pieces: u32, text: &str) -> Result<(u8, bool), NoMemory> {
+    let mut source = MemorySource::new(Binary::from_slice(alloc, b"")?, CallNumbers::new(alloc));
+    let mut sink = PieceSink {
+        sink: SureSink::new(alloc),
+        pieces,
+        faults: 0,
+    };
+    let status = status_over(alloc, &mut source, &mut sink);
+    drop(source);
+    let written = sink.sink.as_slice() == text.as_bytes();
+    drop(sink);
+    Ok((status?, written))
+}
+
+#[test]
+fn a_write_that_fails_leaves_a_front_of_the_text(rt: HostRuntime) -> Result<(), Fail> {
+    let alloc = rt.alloc();
+    assert_eq!(rt; pieces_end(alloc, 0, "")?, (5, true));
+    assert_eq!(rt; pieces_end(alloc, 1, "stop do")?, (5, true));
+    assert_eq!(rt; pieces_end(alloc, 2, "stop done\nhand")?, (5, true));
+    assert_eq!(rt; pieces_end(alloc, 3, DONE)?, (0, true));
     Ok(())
 }
 

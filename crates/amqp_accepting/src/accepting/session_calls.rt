@@ -10,7 +10,7 @@ use amqp_txn_types::{
 };
 
 impl<S: Session> Session for AcceptingListener<S> {
-    ghost use Rattle.std.specs.Prelude.{is_some};
+    ghost use Rattle.std.specs.Prelude.{is_some, true};
     ghost use Rattle.amqp_sessions.specs.SessionStates.{begin_received, begin_sent, end_received, end_sent};
     ghost use Rattle.amqp_accepting.specs.AtOnce.{AcceptsOver, PassesCheck, PassesMove, PassesSame, listener_of};
     ghost use Rattle.amqp_listener.specs.Listening.{inner_of};
@@ -20,6 +20,8 @@ impl<S: Session> Session for AcceptingListener<S> {
     ghost kept = { λ l. ⟦<ListenerSession<S> as Session>⟧.kept (listener_of l) };
 
     ghost names = { λ l. ⟦<ListenerSession<S> as Session>⟧.names (listener_of l) };
+
+    ghost accepts_at_once = { true };
 
     ghost stop_gives = { λ old new reason. PassesSame ⟦<ListenerSession<S> as Tells>⟧.told
         (λ a b. ⟦<ListenerSession<S> as Session>⟧.stop_gives a b reason) old new };
@@ -77,10 +79,10 @@ impl<S: Session> Session for AcceptingListener<S> {
 
     ghost incoming_leaves = { λ old new frame answer gives. heard-leaves
         ⟦<ListenerSession<S> as Tells>⟧.told ⟦<ListenerSession<S> as Session>⟧.kept
-        ⟦<ListenerSession<S> as Session>⟧.names
+        ⟦<ListenerSession<S> as Session>⟧.names S.accepts_at_once
         ⟦<ListenerSession<S> as LayerBelow>⟧.incoming_gives
-        (λ a b came given gave. listener-leaves S.told S.kept S.names S.incoming_gives
-        S.incoming_leaves a b came given gave)
+        (λ a b came given gave. listener-leaves S.told S.kept S.names S.accepts_at_once
+        S.incoming_gives S.incoming_leaves a b came given gave)
         (AcceptsOver ⟦<ListenerSession<S> as Session>⟧.kept
         ⟦<ListenerSession<S> as Session>⟧.allocate_incoming_link_gives
         ⟦<ListenerSession<S> as Session>⟧.outgoing_flow_gives

@@ -21,6 +21,8 @@ impl<S: Session> Session for ListenerSession<S> {
 
     ghost names = { λ l. S.names l.session };
 
+    ghost accepts_at_once = { S.accepts_at_once };
+
     ghost stop_gives = { λ old new reason.
         PassesOn (λ a b. S.told b ≡ S.told a) (λ a b. S.stop_gives a b reason) old new };
 
@@ -73,7 +75,7 @@ impl<S: Session> Session for ListenerSession<S> {
         (λ a b. S.outgoing_detach_gives a b detach answer) old new answer };
 
     ghost incoming_leaves = { λ old new frame answer gives.
-        heard-leaves S.told S.kept S.names S.incoming_gives S.incoming_leaves
+        heard-leaves S.told S.kept S.names S.accepts_at_once S.incoming_gives S.incoming_leaves
         old new frame answer gives };
 
     ghost opening_leaves = { λ old new attach answer gives. gives.leaves };

@@ -20,6 +20,8 @@ impl<S: Session> Session for Recorder<S> {
 
     ghost names = { λ r. S.names r.session };
 
+    ghost accepts_at_once = { S.accepts_at_once };
+
     ghost stop_gives = { λ old new reason.
         Passes (λ a b. S.told b ≡ S.told a) (λ a b. S.stop_gives a b reason) old new };
 
@@ -72,8 +74,8 @@ impl<S: Session> Session for Recorder<S> {
         (λ a b. S.outgoing_detach_gives a b detach answer) old new };
 
     ghost incoming_leaves = { λ old new frame answer gives.
-        recorded-leaves S.told S.kept S.names S.incoming_gives S.incoming_leaves
-        old new frame answer gives };
+        recorded-leaves S.told S.kept S.names S.accepts_at_once S.incoming_gives
+        S.incoming_leaves old new frame answer gives };
 
     ghost opening_leaves = { λ old new attach answer gives.
         recorded_opening-leaves S.told S.kept S.names S.opening_gives S.opening_leaves

@@ -22,6 +22,8 @@ impl<S: Session> Session for TxnSession<S> {
 
     ghost names = { λ x. S.names (below_of x) };
 
+    ghost accepts_at_once = { S.accepts_at_once };
+
     ghost stop_gives = { λ old new reason.
         PassesOn (λ a b. S.told b ≡ S.told a) (λ a b. S.stop_gives a b reason) old new };
 
@@ -75,8 +77,8 @@ impl<S: Session> Session for TxnSession<S> {
         (λ a b. S.outgoing_detach_gives a b detach answer) old new answer };
 
     ghost incoming_leaves = { λ old new frame answer gives.
-        heard-leaves S.told S.kept S.names S.opening_gives S.opening_leaves S.incoming_gives
-        S.incoming_leaves old new frame answer gives };
+        heard-leaves S.told S.kept S.names S.accepts_at_once S.opening_gives S.opening_leaves
+        S.incoming_gives S.incoming_leaves old new frame answer gives };
 
     ghost opening_leaves = { λ old new attach answer gives.
         S.opening_leaves (below_of old) (below_of new) attach answer gives.gave };
@@ -84,7 +86,7 @@ impl<S: Session> Session for TxnSession<S> {
     ghost check_leaves = { λ old new disposition answer gives.
         S.check_leaves (below_of old) (below_of new) disposition answer gives.gave };
 
-    ghost review_leaves = { review-leaves S.told S.kept S.names S.review_gives S.review_leaves };
+    ghost review_leaves = { review-leaves S.told S.kept S.names S.accepts_at_once S.review_gives S.review_leaves };
 
     ghost window_leaves = { λ old new flow gives.
         S.window_leaves (below_of old) (below_of new) flow gives.gave };

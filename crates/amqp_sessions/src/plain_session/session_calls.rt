@@ -1,6 +1,6 @@
 //! The calls of a plain session beside those of a layer below.
 
-ghost use Rattle.std.specs.Prelude.{◌≡◌, None, Some, cond, option_map};
+ghost use Rattle.std.specs.Prelude.{◌≡◌, None, Some, cond, false, option_map};
 ghost use Rattle.amqp_sessions.specs.Numbers.{numbered};
 ghost use Rattle.amqp_sessions.specs.Plain.{IsStopFault, RefusedOnlyBy, mapped_fault, outgoing_fault};
 ghost use Rattle.amqp_sessions.specs.Sessions.{first_of};
@@ -27,6 +27,8 @@ impl Session for PlainSession {
     ghost kept = { kept_of };
 
     ghost names = { names_of };
+
+    ghost accepts_at_once = { false };
 
     ghost stop_gives = { PlainStops };
 
