@@ -14,6 +14,7 @@ use Rattle.amqp_txn_types.specs.declared.small.Role.{Role}
 use Rattle.amqp_txn_types.specs.declared.small.Role.TheVariants as roles
 use Rattle.amqp_txn_types.specs.declared.text.Text.{Text}
 use Rattle.amqp_layer.specs.declared.inner_error.SessionInnerError.{SessionInnerError}
+use Rattle.amqp_sessions.specs.Names.{Names}
 use Rattle.amqp_sessions.specs.declared.relay.Relay.{Relay}
 use Rattle.amqp_sessions.specs.declared.session_errors.AllocLinkError.{AllocLinkError}
 use Rattle.amqp_endpoints.specs.declared.attach_errors.ReceiverAttachError.{ReceiverAttachError}
@@ -157,7 +158,7 @@ module _ {L K : Type 0} (of : L → K)
       (λ answer sends. source-keeps acceptor attach old new answer sends) ends) accepts
 
 -- an acceptor's answer leaves the queue of the listener that it was lent
-pub queue-kept : {S : Type 0} (told : S → Told)
+pub queue-kept : {S : Type 0} (told : S → Told) (names : S → Names)
     (allocates : S → S → Text → Relay → InputHandle → Result OutputHandle AllocLinkError → Type 0)
     (flows : S → S → LinkFlow → Result Flow SessionInnerError → Type 0)
     (frees : S → S → OutputHandle → Bool → Type 0) (acceptor : Acceptor)
@@ -165,16 +166,16 @@ pub queue-kept : {S : Type 0} (told : S → Told)
     (accepted : Accepted)
     → AcceptsLink makes_none makes_none acceptor stop attach
     (OpensThrough (λ a b name relay input answer.
-    Allocates told allocates a b name relay input answer)
+    Allocates told names allocates a b name relay input answer)
     (λ a b flow answer. Passes (λ x y. Checks (told x) (told y) answer)
     (λ x y. flows x y flow answer) a b answer)
     (λ a b output freed. PassesOn (λ x y. told y ≡ told x) (λ x y. frees x y output freed) a b))
     old new accepted
     → queue_of new ≡ queue_of old
-queue-kept {S} told allocates flows frees acceptor stop attach old new accepted accepts =
+queue-kept {S} told names allocates flows frees acceptor stop attach old new accepted accepts =
     accepts-keeps queue_of
     (λ (a b : ListenerSession S) name relay input answer.
-    Allocates told allocates a b name relay input answer)
+    Allocates told names allocates a b name relay input answer)
     (λ (a b : ListenerSession S) flow answer. Passes (λ x y. Checks (told x) (told y) answer)
     (λ x y. flows x y flow answer) a b answer)
     (λ (a b : ListenerSession S) output freed.

@@ -52,37 +52,38 @@ pub record Replies {S : Type 0} (told : S → Told)
 
 -- a link is opened: the session allocates it, with what is held for its handle, and then sends its
 -- reply
-abbrev pub OpensHeld : {S : Type 0} → (S → Told)
+abbrev pub OpensHeld : {S : Type 0} → (S → Told) → (S → Names)
     → (S → S → Text → Relay → InputHandle → Result OutputHandle AllocLinkError → Type 0)
     → (S → S → LinkFlow → Result Flow SessionInnerError → Type 0)
     → (S → S → OutputHandle → Bool → Type 0) → S → S → (InputHandle → List LinkFlow)
     → (InputHandle → List LinkFlow) → Opening → Result (OutputHandle × List Frame) OpenError
     → Type 0
-OpensHeld {S} told allocates flows frees old new held held_now opening (Ok opened) =
+OpensHeld {S} told names allocates flows frees old new held held_now opening (Ok opened) =
     (allocated : S)
-    × AllocatesHeld told allocates old allocated held held_now opening.name opening.relay
-    opening.input (Ok opened.0)
+    × AllocatesHeld told allocates old allocated ((names old).known opening.name) held held_now
+    opening.name opening.relay opening.input (Ok opened.0)
     × Replies told flows frees allocated new opening opened.0 (Ok opened.1)
-OpensHeld told allocates flows frees old new held held_now opening (Err (errors.Alloc error)) =
-    AllocatesHeld told allocates old new held held_now opening.name opening.relay opening.input
-    (Err error)
-OpensHeld {S} told allocates flows frees old new held held_now opening
+OpensHeld told names allocates flows frees old new held held_now opening
+    (Err (errors.Alloc error)) =
+    AllocatesHeld told allocates old new ((names old).known opening.name) held held_now
+    opening.name opening.relay opening.input (Err error)
+OpensHeld {S} told names allocates flows frees old new held held_now opening
     (Err (errors.Session error)) =
     (allocated : S) × (output : OutputHandle)
-    × AllocatesHeld told allocates old allocated held held_now opening.name opening.relay
-    opening.input (Ok output)
+    × AllocatesHeld told allocates old allocated ((names old).known opening.name) held held_now
+    opening.name opening.relay opening.input (Ok output)
     × Replies told flows frees allocated new opening output (Err error)
 
 -- a control link is made ready by the acceptor and opened, and answered by that; or there was no
 -- room to make it ready
-abbrev pub OpensControl : {S : Type 0} → (S → Told)
+abbrev pub OpensControl : {S : Type 0} → (S → Told) → (S → Names)
     → (S → S → Text → Relay → InputHandle → Result OutputHandle AllocLinkError → Type 0)
     → (S → S → LinkFlow → Result Flow SessionInnerError → Type 0)
     → (S → S → OutputHandle → Bool → Type 0) → S → S → (InputHandle → List LinkFlow)
     → (InputHandle → List LinkFlow) → Opening → Result (List Frame) SessionInnerError → Type 0
-OpensControl told allocates flows frees old new held held_now opening result =
+OpensControl told names allocates flows frees old new held held_now opening result =
     ((opened : Result (OutputHandle × List Frame) OpenError)
-    × OpensHeld told allocates flows frees old new held held_now opening opened
+    × OpensHeld told names allocates flows frees old new held held_now opening opened
     × (result ≡ control_answer opened))
     ⊎ NoRoom old new held held_now faults.NoMemory result
 
@@ -93,7 +94,7 @@ pub record HearsControl {S : Type 0} (told : S → Told) (kept : S → Kept) (na
     (frees : S → S → OutputHandle → Bool → Type 0) (old new : ListenerSession S) (attach : Attach)
     (result : Result (List Frame) SessionInnerError) : Type 0 where
   pub opens :
-      OpensControl told allocates flows frees (inner_of old) (inner_of new) (held_of old)
+      OpensControl told names allocates flows frees (inner_of old) (inner_of new) (held_of old)
       (held_of new) (control_opening (control_of old) attach) result
   pub steady : Steady (told (inner_of old)) (told (inner_of new))
   pub cause : IfErr result (λ error. CausedBelow error (told (inner_of old)) (told (inner_of new)))

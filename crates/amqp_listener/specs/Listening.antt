@@ -7,6 +7,9 @@ use Rattle.amqp_txn_types.specs.declared.performatives.Attach.{Attach}
 use Rattle.amqp_txn_types.specs.declared.performatives.LinkFlow.{LinkFlow}
 use Rattle.amqp_txn_types.specs.declared.text.Text.{Text}
 use Rattle.amqp_layer.specs.Told.{Checks, Told}
+use Rattle.amqp_sessions.specs.Names.{Names}
+use Rattle.amqp_sessions.specs.declared.relay.NameState.{NameState}
+use Rattle.amqp_sessions.specs.declared.relay.NameState.TheVariants.{Unknown}
 use Rattle.amqp_sessions.specs.declared.relay.Relay.{Relay}
 use Rattle.amqp_sessions.specs.declared.session_errors.AllocLinkError.{AllocLinkError}
 use Rattle.amqp_sessions.specs.declared.session_errors.AllocLinkError.TheVariants as refusals
@@ -113,24 +116,27 @@ pub record NoRoom {S T E : Type 0} (old new : S) (held held_now : InputHandle �
   pub held_is : SameHeld held held_now
   pub result_is : result ≡ Err fault
 
--- an allocation of a link that the peer attached, through a listener
+-- an allocation of a link that the peer attached, through a listener, by how its name was known: of
+-- an unknown name what is held is replayed, if there is room for the copies; a name that is known is
+-- refused, and nothing is copied for it
 abbrev pub AllocatesHeld : {S : Type 0} → (S → Told)
     → (S → S → Text → Relay → InputHandle → Result OutputHandle AllocLinkError → Type 0)
-    → S → S → (InputHandle → List LinkFlow) → (InputHandle → List LinkFlow) → Text → Relay
-    → InputHandle → Result OutputHandle AllocLinkError → Type 0
-AllocatesHeld told gives old new held held_now name relay input result =
+    → S → S → NameState → (InputHandle → List LinkFlow) → (InputHandle → List LinkFlow) → Text
+    → Relay → InputHandle → Result OutputHandle AllocLinkError → Type 0
+AllocatesHeld told gives old new Unknown held held_now name relay input result =
     Replays told gives old new held held_now name relay input result
-    ⊎ RefusesUncopied told gives old new held held_now name relay input result
     ⊎ NoRoom old new held held_now refusals.NoMemory result
+AllocatesHeld told gives old new state held held_now name relay input result =
+    RefusesUncopied told gives old new held held_now name relay input result
 
 -- such an allocation leaves the queue; an Err is counted
-pub record Allocates {S : Type 0} (told : S → Told)
+pub record Allocates {S : Type 0} (told : S → Told) (names : S → Names)
     (gives : S → S → Text → Relay → InputHandle → Result OutputHandle AllocLinkError → Type 0)
     (old new : ListenerSession S) (name : Text) (relay : Relay) (input : InputHandle)
     (result : Result OutputHandle AllocLinkError) : Type 0 where
   pub allocates :
-      AllocatesHeld told gives (inner_of old) (inner_of new) (held_of old) (held_of new) name relay
-      input result
+      AllocatesHeld told gives (inner_of old) (inner_of new) ((names (inner_of old)).known name)
+      (held_of old) (held_of new) name relay input result
   pub queue : queue_of new ≡ queue_of old
   pub control : control_of new ≡ control_of old
   pub counts : own_of new ≡ counted result (own_of old)

@@ -38,7 +38,7 @@ fn open_held<S: Session>(
     ensures steady { Steady (S.told session.old) (S.told session.new) }
     ensures cause { IfErr result (λ error. CausedBelow (control_refusal error)
         (S.told session.old) (S.told session.new)) }
-    ensures opens { OpensHeld S.told S.allocate_incoming_link_gives S.outgoing_flow_gives
+    ensures opens { OpensHeld S.told S.names S.allocate_incoming_link_gives S.outgoing_flow_gives
         S.deallocate_link_gives session.old session.new (flows_for held.old) (flows_for held.new)
         opening result }
 {
@@ -67,8 +67,8 @@ pub fn open_control<S: Session>(
         (S.told session.new)) }
     ensures leaves { LeavesOpening (S.kept session.old) (S.kept session.new) (S.names session.old)
         (S.names session.new) attach.now result }
-    ensures opens { OpensControl S.told S.allocate_incoming_link_gives S.outgoing_flow_gives
-        S.deallocate_link_gives session.old session.new (flows_for held.old) (flows_for held.new)
+    ensures opens { OpensControl S.told S.names S.allocate_incoming_link_gives
+        S.outgoing_flow_gives S.deallocate_link_gives session.old session.new (flows_for held.old) (flows_for held.new)
         (control_opening control.now attach.now) result }
 {
     let opening = control.prepare(alloc, attach)?;

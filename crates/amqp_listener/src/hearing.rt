@@ -173,7 +173,8 @@ pub fn allocate_held<S: Session>(
     ensures cause { IfErr result (λ error. CausedBelow (control_error error) (S.told session.old)
         (S.told session.new)) }
     ensures allocates { AllocatesHeld S.told S.allocate_incoming_link_gives session.old session.new
-        (flows_for held.old) (flows_for held.new) name relay input result }
+        ((S.names session.old).known name) (flows_for held.old) (flows_for held.new)
+        name relay input result }
 {
     if let NameState::Waiting | NameState::Taken = session.name_state(&name) {
         return match session.allocate_incoming_link(name, relay, input) {

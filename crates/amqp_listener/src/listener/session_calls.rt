@@ -34,7 +34,7 @@ impl<S: Session> Session for ListenerSession<S> {
         (λ a b. S.allocate_link_gives a b name relay answer) old new answer };
 
     ghost allocate_incoming_link_gives = { λ old new name relay input answer.
-        Allocates S.told S.allocate_incoming_link_gives old new name relay input answer };
+        Allocates S.told S.names S.allocate_incoming_link_gives old new name relay input answer };
 
     ghost deallocate_link_gives = { λ old new output answer.
         PassesOn (λ a b. S.told b ≡ S.told a)

@@ -24,7 +24,7 @@ returns-clause-opens g c =
     c.args.attach c.in_ok-attach.attach c.accept.result took.attach c.requires
     (ap (λ s. kept s) took.same) (names-same g.S.Tells.told kept g.S.Session.names _ _ took.same)
     took.steady.later took.takes says.kept says.names says.cause says.accepts
-    (queue-kept g.S.Tells.told g.S.Session.allocate_incoming_link_gives
+    (queue-kept g.S.Tells.told g.S.Session.names g.S.Session.allocate_incoming_link_gives
     g.S.Session.outgoing_flow_gives g.S.Session.deallocate_link_gives c.args.acceptor.now _
     c.in_ok-attach.attach c.take_queued.new.listener c.accept.new.listener says.accepts.0
     says.accepts.1 ∙ took.queue)
