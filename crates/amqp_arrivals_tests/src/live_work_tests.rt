@@ -8,34 +8,29 @@ use amqp_arrivals::{LiveWork, Looks};
 use std::marker::Brand;
 use std::process::Abort;
 use std::sync::ledger::{Blank, Ledger};
-use std::test::Fail;
 
-fn add<R: Abort>(rt: &R, live: &mut LiveWork, octet: u8, home: Option<u64>) -> Result<(), Fail> {
+fn add<R: Abort>(rt: &R, live: &mut LiveWork, octet: u8, home: Option<u64>) {
     let txn_id = id(octet);
-    live.make_room()?;
+    live.make_room().expect(rt, "an Ok");
     assert!(rt; !live.is_live(&txn_id));
     live.add(txn_id, home);
     assert!(rt; live.is_live(&txn_id));
-    Ok(())
 }
 
-fn keep<R: Abort>(rt: &R, live: &mut LiveWork, octet: u8, number: u32) -> Result<(), Fail> {
+fn keep<R: Abort>(rt: &R, live: &mut LiveWork, octet: u8, number: u32) {
     let txn_id = id(octet);
     assert!(rt; live.is_live(&txn_id));
-    match live.keep(&txn_id, work(number)) {
-        Ok(()) => Ok(()),
-        Err(unkept) => Err(Fail::from(unkept.1)),
-    }
+    live.keep(&txn_id, work(number)).expect(rt, "an Ok");
 }
 
 /// Works 1 to 3: the odd ones under the id 1, of the link 7, and the even one under the id 2, of no
 /// link.
-fn two_ids<R: Abort>(rt: &R, live: &mut LiveWork) -> Result<(), Fail> {
-    add(rt, live, 1, Some(7))?;
-    add(rt, live, 2, None)?;
-    keep(rt, live, 1, 1)?;
-    keep(rt, live, 2, 2)?;
-    keep(rt, live, 1, 3)
+fn two_ids<R: Abort>(rt: &R, live: &mut LiveWork) {
+    add(rt, live, 1, Some(7));
+    add(rt, live, 2, None);
+    keep(rt, live, 1, 1);
+    keep(rt, live, 2, 2);
+    keep(rt, live, 1, 3);
 }
 
 #[test]
@@ -48,16 +43,15 @@ fn new_value_keeps_nothing(rt: HostRuntime) {
 }
 
 #[test]
-fn ids_have_their_links(rt: HostRuntime) -> Result<(), Fail> {
+fn ids_have_their_links(rt: HostRuntime) {
     let mut live = LiveWork::new(rt.alloc());
-    two_ids(&rt, &mut live)?;
+    two_ids(&rt, &mut live);
     assert_eq!(rt; live.home(&id(1)), Some(Some(7)));
     assert_eq!(rt; live.home(&id(2)), Some(None));
     assert_eq!(rt; live.home(&id(3)), None);
     assert_eq!(rt; live.len(), 2);
     assert_eq!(rt; live.count(&id(1)), 2);
     assert_eq!(rt; live.frame_count(), 3);
-    Ok(())
 }
 
 fn drops<L: Ledger, R: Abort>(rt: &R, live: &mut LiveWork, blank: Blank)
@@ -77,9 +71,8 @@ fn drops<L: Ledger, R: Abort>(rt: &R, live: &mut LiveWork, blank: Blank)
 }
 
 #[test]
-fn dropped_id_leaves_the_other(rt: HostRuntime) -> Result<(), Fail> {
+fn dropped_id_leaves_the_other(rt: HostRuntime) {
     let mut live = LiveWork::new(rt.alloc());
-    two_ids(&rt, &mut live)?;
+    two_ids(&rt, &mut live);
     drops::<Brand, HostRuntime>(&rt, &mut live, Blank::new(1));
-    Ok(())
 }

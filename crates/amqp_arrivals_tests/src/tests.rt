@@ -8,36 +8,30 @@ use amqp_arrivals::{ArrivalLog, Looks};
 use std::marker::Brand;
 use std::process::Abort;
 use std::sync::ledger::{Blank, Ledger};
-use std::test::Fail;
 
-fn open<R: Abort>(rt: &R, log: &mut ArrivalLog, octet: u8) -> Result<(), Fail> {
+fn open<R: Abort>(rt: &R, log: &mut ArrivalLog, octet: u8) {
     let txn_id = id(octet);
-    log.make_room()?;
+    log.make_room().expect(rt, "an Ok");
     assert!(rt; !log.is_opened(&txn_id));
-    log.open_id(txn_id)?;
+    log.open_id(txn_id).expect(rt, "an Ok");
     assert!(rt; log.is_opened(&txn_id));
-    Ok(())
 }
 
-fn keep<R: Abort>(rt: &R, log: &mut ArrivalLog, octet: u8, number: u32) -> Result<(), Fail> {
+fn keep<R: Abort>(rt: &R, log: &mut ArrivalLog, octet: u8, number: u32) {
     let txn_id = id(octet);
     assert!(rt; log.is_opened(&txn_id));
-    match log.append(&txn_id, work(number)) {
-        Ok(()) => Ok(()),
-        Err(unkept) => Err(Fail::from(unkept.1)),
-    }
+    log.append(&txn_id, work(number)).expect(rt, "an Ok");
 }
 
 /// Works 1 to 5, the odd ones under the id 1 and the even ones under the id 2.
-fn two_ids<R: Abort>(rt: &R, log: &mut ArrivalLog) -> Result<(), Fail> {
-    open(rt, log, 1)?;
-    open(rt, log, 2)?;
-    keep(rt, log, 1, 1)?;
-    keep(rt, log, 2, 2)?;
-    keep(rt, log, 1, 3)?;
-    keep(rt, log, 2, 4)?;
-    keep(rt, log, 1, 5)?;
-    Ok(())
+fn two_ids<R: Abort>(rt: &R, log: &mut ArrivalLog) {
+    open(rt, log, 1);
+    open(rt, log, 2);
+    keep(rt, log, 1, 1);
+    keep(rt, log, 2, 2);
+    keep(rt, log, 1, 3);
+    keep(rt, log, 2, 4);
+    keep(rt, log, 1, 5);
 }
 
 #[test]
@@ -50,15 +44,14 @@ fn new_log_keeps_nothing(rt: HostRuntime) {
 }
 
 #[test]
-fn ids_interleave(rt: HostRuntime) -> Result<(), Fail> {
+fn ids_interleave(rt: HostRuntime) {
     let mut log = ArrivalLog::new(rt.alloc());
-    two_ids(&rt, &mut log)?;
+    two_ids(&rt, &mut log);
     assert_eq!(rt; log.live(), 5);
     assert_eq!(rt; log.count(&id(1)), 3);
     assert_eq!(rt; log.count(&id(2)), 2);
     assert_eq!(rt; log.first(&id(1)), Some(0));
     assert_eq!(rt; log.first(&id(2)), Some(1));
-    Ok(())
 }
 
 fn takes<L: Ledger, R: Abort>(rt: &R, log: &mut ArrivalLog, blank: Blank)
@@ -77,11 +70,10 @@ fn takes<L: Ledger, R: Abort>(rt: &R, log: &mut ArrivalLog, blank: Blank)
 }
 
 #[test]
-fn work_is_taken_in_order(rt: HostRuntime) -> Result<(), Fail> {
+fn work_is_taken_in_order(rt: HostRuntime) {
     let mut log = ArrivalLog::new(rt.alloc());
-    two_ids(&rt, &mut log)?;
+    two_ids(&rt, &mut log);
     takes::<Brand, HostRuntime>(&rt, &mut log, Blank::new(1));
-    Ok(())
 }
 
 fn closes_up<L: Ledger, R: Abort>(rt: &R, log: &mut ArrivalLog, blank: Blank)
@@ -101,11 +93,10 @@ fn closes_up<L: Ledger, R: Abort>(rt: &R, log: &mut ArrivalLog, blank: Blank)
 }
 
 #[test]
-fn closed_up_log_keeps_its_order(rt: HostRuntime) -> Result<(), Fail> {
+fn closed_up_log_keeps_its_order(rt: HostRuntime) {
     let mut log = ArrivalLog::new(rt.alloc());
-    two_ids(&rt, &mut log)?;
+    two_ids(&rt, &mut log);
     closes_up::<Brand, HostRuntime>(&rt, &mut log, Blank::new(1));
-    Ok(())
 }
 
 fn settles<L: Ledger, R: Abort>(rt: &R, log: &mut ArrivalLog, blank: Blank)
@@ -144,17 +135,15 @@ fn ends<L: Ledger, R: Abort>(rt: &R, log: &mut ArrivalLog, blank: Blank)
 }
 
 #[test]
-fn ended_id_is_opened_no_more(rt: HostRuntime) -> Result<(), Fail> {
+fn ended_id_is_opened_no_more(rt: HostRuntime) {
     let mut log = ArrivalLog::new(rt.alloc());
-    two_ids(&rt, &mut log)?;
+    two_ids(&rt, &mut log);
     ends::<Brand, HostRuntime>(&rt, &mut log, Blank::new(1));
-    Ok(())
 }
 
 #[test]
-fn log_is_closed_up_once_more_is_dead_than_live(rt: HostRuntime) -> Result<(), Fail> {
+fn log_is_closed_up_once_more_is_dead_than_live(rt: HostRuntime) {
     let mut log = ArrivalLog::new(rt.alloc());
-    two_ids(&rt, &mut log)?;
+    two_ids(&rt, &mut log);
     settles::<Brand, HostRuntime>(&rt, &mut log, Blank::new(1));
-    Ok(())
 }

@@ -4,9 +4,8 @@ use amqp_endpoints::*;
 use amqp_layer::SessionInnerError;
 use amqp_links::Poll;
 use amqp_sessions::{AllocLinkError, BeginError};
-use amqp_test_values::{begin, other_text};
+use amqp_test_values::{begin, other_text, same};
 use amqp_txn_types::{ConnectionStopReason, OutgoingChannel, SessionStopReason, TryClone};
-use std::test::Fail;
 
 fn incoming(channel: u16) -> IncomingSession {
     IncomingSession {
@@ -16,28 +15,39 @@ fn incoming(channel: u16) -> IncomingSession {
 }
 
 #[test]
-fn sessions_come_in_order(rt: HostRuntime) -> Result<(), Fail> {
+fn sessions_come_in_order(rt: HostRuntime) {
     let mut connection = MemoryConnection::new(rt.alloc(), 1);
-    assert!(rt; connection.next_incoming_session() == Poll::Pending);
-    connection.push_session(incoming(3))?;
-    connection.push_session(incoming(4))?;
-    assert!(rt; connection.next_incoming_session() == Poll::Ready(Some(incoming(3))));
-    assert!(rt; connection.next_incoming_session() == Poll::Ready(Some(incoming(4).try_clone()?)));
+    assert!(rt; same(connection.next_incoming_session(), Poll::Pending));
+    connection.push_session(incoming(3)).expect(&rt, "an Ok");
+    connection.push_session(incoming(4)).expect(&rt, "an Ok");
+    assert!(rt;
+        same(
+            connection.next_incoming_session(),
+            Poll::Ready(Some(incoming(3)))
+        )
+    );
+    assert!(rt;
+        connection.next_incoming_session()
+            == Poll::Ready(Some(incoming(4).try_clone().expect(&rt, "an Ok")))
+    );
     connection.set_stop_reason(ConnectionStopReason::Closed);
-    assert!(rt; connection.next_incoming_session() == Poll::Ready(None));
-    Ok(())
+    assert!(rt; same(connection.next_incoming_session(), Poll::Ready(None)));
 }
 
 #[test]
-fn channels_are_given_once(rt: HostRuntime) -> Result<(), Fail> {
+fn channels_are_given_once(rt: HostRuntime) {
     let mut connection = MemoryConnection::new(rt.alloc(), 1);
-    assert!(rt; connection.allocate_session() == Ok(OutgoingChannel(0)));
-    assert!(rt; connection.allocate_session() == Ok(OutgoingChannel(1)));
-    assert!(rt; connection.allocate_session() == Err(AllocSessionError::ChannelMaxReached));
+    assert!(rt; same(connection.allocate_session(), Ok(OutgoingChannel(0))));
+    assert!(rt; same(connection.allocate_session(), Ok(OutgoingChannel(1))));
+    assert!(rt;
+        same(
+            connection.allocate_session(),
+            Err(AllocSessionError::ChannelMaxReached)
+        )
+    );
     connection.set_stop_reason(ConnectionStopReason::RemoteClosed);
     let stopped = AllocSessionError::ConnectionStopped(ConnectionStopReason::RemoteClosed);
-    assert!(rt; connection.allocate_session() == Err(stopped));
-    Ok(())
+    assert!(rt; same(connection.allocate_session(), Err(stopped)));
 }
 
 #[test]
@@ -60,19 +70,18 @@ fn refusals_go_on_by_name(rt: HostRuntime) {
 }
 
 #[test]
-fn errors_of_channels_have_their_texts(rt: HostRuntime) -> Result<(), Fail> {
+fn errors_of_channels_have_their_texts(rt: HostRuntime) {
     let stopped = AllocSessionError::ConnectionStopped(ConnectionStopReason::Closed);
     let table = [
         (AllocSessionError::ChannelMaxReached, "no channel is left"),
         (stopped, "the connection stopped: Closed"),
         (AllocSessionError::NoMemory, "out of memory"),
     ];
-    assert_eq!(rt; other_text(rt.alloc(), &table)?, None);
-    Ok(())
+    assert_eq!(rt; other_text(rt.alloc(), &table).expect(&rt, "an Ok"), None);
 }
 
 #[test]
-fn errors_of_senders_have_their_texts(rt: HostRuntime) -> Result<(), Fail> {
+fn errors_of_senders_have_their_texts(rt: HostRuntime) {
     let table = [
         (
             SenderAttachError::Alloc(AllocLinkError::HandleMaxReached),
@@ -88,12 +97,11 @@ fn errors_of_senders_have_their_texts(rt: HostRuntime) -> Result<(), Fail> {
         ),
         (SenderAttachError::NoMemory, "out of memory"),
     ];
-    assert_eq!(rt; other_text(rt.alloc(), &table)?, None);
-    Ok(())
+    assert_eq!(rt; other_text(rt.alloc(), &table).expect(&rt, "an Ok"), None);
 }
 
 #[test]
-fn errors_of_receivers_have_their_texts(rt: HostRuntime) -> Result<(), Fail> {
+fn errors_of_receivers_have_their_texts(rt: HostRuntime) {
     let table = [
         (
             ReceiverAttachError::Alloc(AllocLinkError::DuplicatedLinkName),
@@ -109,6 +117,5 @@ fn errors_of_receivers_have_their_texts(rt: HostRuntime) -> Result<(), Fail> {
         ),
         (ReceiverAttachError::NoMemory, "out of memory"),
     ];
-    assert_eq!(rt; other_text(rt.alloc(), &table)?, None);
-    Ok(())
+    assert_eq!(rt; other_text(rt.alloc(), &table).expect(&rt, "an Ok"), None);
 }

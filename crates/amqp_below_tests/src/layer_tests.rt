@@ -2,17 +2,15 @@
 
 use amqp_layer::*;
 use amqp_session_test_values::{judges, takes_work};
-use amqp_test_values::{detach, not_allowed, other_text};
+use amqp_test_values::{detach, not_allowed, other_text, same};
 use amqp_txn_types::{ConnectionStopReason, Frame, TryClone};
-use std::test::Fail;
 
 #[test]
-fn an_open_session_takes_everything(rt: HostRuntime) -> Result<(), Fail> {
+fn an_open_session_takes_everything(rt: HostRuntime) {
     let mut below = OpenSession::new(rt.alloc());
-    let answers = take_frame(&mut below, Frame::Detach(detach(3)))?;
+    let answers = take_frame(&mut below, Frame::Detach(detach(3))).expect(&rt, "an Ok");
     assert_eq!(rt; answers.given.len(), 0);
     assert!(rt; answers.window.is_none());
-    Ok(())
 }
 
 #[test]
@@ -25,7 +23,7 @@ fn an_open_session_accepts_everything(rt: HostRuntime) {
 }
 
 #[test]
-fn errors_have_their_texts(rt: HostRuntime) -> Result<(), Fail> {
+fn errors_have_their_texts(rt: HostRuntime) {
     let table = [
         (
             SessionInnerError::UnattachedHandle,
@@ -60,15 +58,13 @@ fn errors_have_their_texts(rt: HostRuntime) -> Result<(), Fail> {
         ),
         (SessionInnerError::NoMemory, "out of memory"),
     ];
-    assert_eq!(rt; other_text(rt.alloc(), &table)?, None);
-    Ok(())
+    assert_eq!(rt; other_text(rt.alloc(), &table).expect(&rt, "an Ok"), None);
 }
 
 #[test]
-fn errors_are_copied(rt: HostRuntime) -> Result<(), Fail> {
+fn errors_are_copied(rt: HostRuntime) {
     let ended = SessionInnerError::RemoteEndedWithError(not_allowed());
-    assert!(rt; ended.try_clone()? == ended);
+    assert!(rt; same(ended.try_clone().expect(&rt, "an Ok"), ended));
     let stopped = SessionInnerError::ConnectionStopped(ConnectionStopReason::Closed);
-    assert!(rt; stopped.try_clone()? == stopped);
-    Ok(())
+    assert!(rt; same(stopped.try_clone().expect(&rt, "an Ok"), stopped));
 }

@@ -5,38 +5,42 @@ use amqp_layer::{Exchanges, LayerBelow, OpenSession, SessionInnerError, Verdict}
 use amqp_recorder::*;
 use amqp_session_test_values::{judges, plain_session, relay, takes_work};
 use amqp_sessions::{AllocTxnIdError, HandleDeclare, HandleDischarge, NameState, Session};
-use amqp_test_values::{call_numbers, control_attach, detach, refuses, transfer};
+use amqp_test_values::{call_numbers, control_attach, detach, gives, refuses, transfer};
 use amqp_txn_types::{
     Frame, Frames, OutgoingChannel, Payload, Role, SessionState, SessionStopReason, Text,
     TransactionError, TransactionId,
 };
-use std::test::Fail;
 
 #[test]
-fn a_recorder_keeps_what_was_taken(rt: HostRuntime) -> Result<(), Fail> {
+fn a_recorder_keeps_what_was_taken(rt: HostRuntime) {
     let alloc = rt.alloc();
     let mut below = Recorder::new(alloc, OpenSession::new(alloc));
     assert!(rt; below.is_fresh());
-    let given = below.on_incoming_detach(detach(3))?;
+    let given = below.on_incoming_detach(detach(3)).expect(&rt, "an Ok");
     assert_eq!(rt; given.len(), 0);
     assert!(rt; !below.is_fresh());
     let mut exchanges = Exchanges::new(alloc);
-    exchanges.push((Frame::Detach(detach(3)), Frames::new(alloc)))?;
+    exchanges
+        .push((Frame::Detach(detach(3)), Frames::new(alloc)))
+        .expect(&rt, "an Ok");
     assert!(rt; *below.exchanges() == exchanges);
-    Ok(())
 }
 
 #[test]
-fn a_plan_refuses_its_calls(rt: HostRuntime) -> Result<(), Fail> {
+fn a_plan_refuses_its_calls(rt: HostRuntime) {
     let alloc = rt.alloc();
     let mut below = Recorder::new(alloc, OpenSession::new(alloc));
-    below.set_plan(call_numbers(alloc, &[2])?);
-    below.on_incoming_detach(detach(1))?;
-    assert!(rt; below.on_incoming_detach(detach(2)) == Err(SessionInnerError::IllegalState));
-    below.on_incoming_detach(detach(3))?;
+    below.set_plan(call_numbers(alloc, &[2]).expect(&rt, "an Ok"));
+    below.on_incoming_detach(detach(1)).expect(&rt, "an Ok");
+    assert!(rt;
+        refuses(
+            below.on_incoming_detach(detach(2)),
+            SessionInnerError::IllegalState
+        )
+    );
+    below.on_incoming_detach(detach(3)).expect(&rt, "an Ok");
     assert_eq!(rt; below.exchanges().len(), 2);
     assert_eq!(rt; below.refused().len(), 1);
-    Ok(())
 }
 
 /// How many lists a recorder vetoed, and how many frames the last of them has.
@@ -49,24 +53,23 @@ fn vetoed<S: LayerBelow>(below: &Recorder<S>) -> (usize, usize) {
 }
 
 #[test]
-fn a_plan_vetoes_its_calls(rt: HostRuntime) -> Result<(), Fail> {
+fn a_plan_vetoes_its_calls(rt: HostRuntime) {
     let alloc = rt.alloc();
     let mut below = Recorder::new(alloc, OpenSession::new(alloc));
-    below.set_plan(call_numbers(alloc, &[2])?);
+    below.set_plan(call_numbers(alloc, &[2]).expect(&rt, "an Ok"));
     assert!(rt; judges(alloc, &mut below, 3, Verdict::Veto));
     assert!(rt; vetoed(&below) == (1, 2));
     assert!(rt; !below.is_fresh());
     assert_eq!(rt; below.exchanges().len(), 0);
-    Ok(())
 }
 
 #[test]
-fn a_veto_uses_up_no_number(rt: HostRuntime) -> Result<(), Fail> {
+fn a_veto_uses_up_no_number(rt: HostRuntime) {
     let alloc = rt.alloc();
     let mut below = Recorder::new(alloc, OpenSession::new(alloc));
-    below.set_plan(call_numbers(alloc, &[2])?);
+    below.set_plan(call_numbers(alloc, &[2]).expect(&rt, "an Ok"));
     assert!(rt; judges(alloc, &mut below, 3, Verdict::Veto));
-    below.on_incoming_detach(detach(1))?;
+    below.on_incoming_detach(detach(1)).expect(&rt, "an Ok");
     assert!(rt;
         refuses(
             below.on_incoming_detach(detach(2)),
@@ -74,7 +77,6 @@ fn a_veto_uses_up_no_number(rt: HostRuntime) -> Result<(), Fail> {
         )
     );
     assert!(rt; judges(alloc, &mut below, 3, Verdict::Accept));
-    Ok(())
 }
 
 #[test]
@@ -100,10 +102,10 @@ fn a_recorder_keeps_what_its_session_vetoed(rt: HostRuntime) {
 }
 
 #[test]
-fn a_starved_call_wants_memory(rt: HostRuntime) -> Result<(), Fail> {
+fn a_starved_call_wants_memory(rt: HostRuntime) {
     let alloc = rt.alloc();
     let mut below = Recorder::new(alloc, OpenSession::new(alloc));
-    below.set_starved(call_numbers(alloc, &[1])?);
+    below.set_starved(call_numbers(alloc, &[1]).expect(&rt, "an Ok"));
     assert!(rt; judges(alloc, &mut below, 3, Verdict::Accept));
     assert!(rt;
         refuses(
@@ -111,29 +113,27 @@ fn a_starved_call_wants_memory(rt: HostRuntime) -> Result<(), Fail> {
             SessionInnerError::NoMemory
         )
     );
-    below.on_incoming_detach(detach(2))?;
+    below.on_incoming_detach(detach(2)).expect(&rt, "an Ok");
     assert_eq!(rt; below.exchanges().len(), 1);
     assert_eq!(rt; below.refused().len(), 0);
     assert_eq!(rt; below.starved().len(), 1);
-    Ok(())
 }
 
 #[test]
-fn a_review_vetoes_a_call_of_both_plans(rt: HostRuntime) -> Result<(), Fail> {
+fn a_review_vetoes_a_call_of_both_plans(rt: HostRuntime) {
     let alloc = rt.alloc();
     let mut below = Recorder::new(alloc, OpenSession::new(alloc));
-    below.set_plan(call_numbers(alloc, &[1])?);
-    below.set_starved(call_numbers(alloc, &[1])?);
+    below.set_plan(call_numbers(alloc, &[1]).expect(&rt, "an Ok"));
+    below.set_starved(call_numbers(alloc, &[1]).expect(&rt, "an Ok"));
     assert!(rt; judges(alloc, &mut below, 3, Verdict::Veto));
-    Ok(())
 }
 
 #[test]
-fn a_call_of_both_plans_is_starved(rt: HostRuntime) -> Result<(), Fail> {
+fn a_call_of_both_plans_is_starved(rt: HostRuntime) {
     let alloc = rt.alloc();
     let mut below = Recorder::new(alloc, OpenSession::new(alloc));
-    below.set_plan(call_numbers(alloc, &[1])?);
-    below.set_starved(call_numbers(alloc, &[1])?);
+    below.set_plan(call_numbers(alloc, &[1]).expect(&rt, "an Ok"));
+    below.set_starved(call_numbers(alloc, &[1]).expect(&rt, "an Ok"));
     assert!(rt;
         refuses(
             below.on_incoming_detach(detach(1)),
@@ -141,46 +141,46 @@ fn a_call_of_both_plans_is_starved(rt: HostRuntime) -> Result<(), Fail> {
         )
     );
     assert_eq!(rt; below.refused().len(), 0);
-    Ok(())
 }
 
 #[test]
-fn a_recorder_keeps_what_was_opened(rt: HostRuntime) -> Result<(), Fail> {
+fn a_recorder_keeps_what_was_opened(rt: HostRuntime) {
     let alloc = rt.alloc();
-    let attach = control_attach(Text::from_str(alloc, "c")?, 0);
+    let attach = control_attach(Text::from_str(alloc, "c").expect(&rt, "an Ok"), 0);
     let mut below = Recorder::new(alloc, OpenSession::new(alloc));
-    let given = below.on_control_attach(&attach)?;
+    let given = below.on_control_attach(&attach).expect(&rt, "an Ok");
     assert_eq!(rt; given.len(), 0);
     assert_eq!(rt; below.opened().len(), 1);
     assert_eq!(rt; below.exchanges().len(), 0);
-    Ok(())
 }
 
 #[test]
-fn a_recorder_keeps_a_refusal_of_a_plain_session(rt: HostRuntime) -> Result<(), Fail> {
+fn a_recorder_keeps_a_refusal_of_a_plain_session(rt: HostRuntime) {
     let alloc = rt.alloc();
     let mut below = Recorder::new(alloc, plain_session(alloc, SessionState::Mapped, 9));
-    let payload = Payload::from_slice(alloc, b"m")?;
+    let payload = Payload::from_slice(alloc, b"m").expect(&rt, "an Ok");
     let refused = below.on_incoming_transfer(transfer(4), payload);
-    assert!(rt; refused == Err(SessionInnerError::UnattachedHandle));
+    assert!(rt; refuses(refused, SessionInnerError::UnattachedHandle));
     assert_eq!(rt; below.exchanges().len(), 0);
     assert_eq!(rt; below.refused().len(), 1);
-    Ok(())
 }
 
 #[test]
-fn a_recorder_over_a_session_is_one(rt: HostRuntime) -> Result<(), Fail> {
+fn a_recorder_over_a_session_is_one(rt: HostRuntime) {
     let alloc = rt.alloc();
     let mut session = Recorder::new(alloc, plain_session(alloc, SessionState::Mapped, 9));
     assert!(rt; session.outgoing_channel() == OutgoingChannel(7));
-    let name = Text::from_str(alloc, "a")?;
-    let output = session.allocate_link(name, relay(alloc, Role::Receiver))?;
-    assert!(rt; session.name_state(&Text::from_str(alloc, "a")?) == NameState::Waiting);
+    let name = Text::from_str(alloc, "a").expect(&rt, "an Ok");
+    let output = session
+        .allocate_link(name, relay(alloc, Role::Receiver))
+        .expect(&rt, "an Ok");
+    assert!(rt;
+        session.name_state(&Text::from_str(alloc, "a").expect(&rt, "an Ok")) == NameState::Waiting
+    );
     assert!(rt; session.deallocate_link(output));
     assert!(rt; session.is_fresh());
     session.set_session_stop_reason(SessionStopReason::Ended);
     assert!(rt; session.session_stop_reason().is_some());
-    Ok(())
 }
 
 #[test]
@@ -189,8 +189,8 @@ fn a_recorder_over_a_plain_session_does_no_transactions(rt: HostRuntime) {
     let mut session = Recorder::new(alloc, plain_session(alloc, SessionState::Mapped, 9));
     let id = TransactionId::from([7; 16]);
     let allocated = session.allocate_transaction_id(&mut CountIds::new());
-    assert!(rt; allocated == Err(AllocTxnIdError::NotImplemented));
+    assert!(rt; refuses(allocated, AllocTxnIdError::NotImplemented));
     let unknown = TransactionError::UnknownId;
-    assert!(rt; session.commit_transaction(&id) == Ok(Err(unknown)));
-    assert!(rt; session.rollback_transaction(&id) == Err(unknown));
+    assert!(rt; gives(session.commit_transaction(&id), Err(unknown)));
+    assert!(rt; refuses(session.rollback_transaction(&id), unknown));
 }

@@ -4,14 +4,13 @@ use amqp_coordinator::*;
 use amqp_ids::{Drawn, IdSource, ListIds};
 use amqp_layer::{Answers, Echoes, SessionInnerError, Tells};
 use amqp_sessions::{AllocTxnIdError, CommitFault, HandleDeclare, HandleDischarge};
-use amqp_test_values::{other_text, transfer};
+use amqp_test_values::{other_text, same, transfer};
 use amqp_txn_codec::{ControlMessageBody, Declare, Discharge};
 use amqp_txn_types::{
     Accepted, Declared, DeliveryState, Disposition, Frames, NoMemory, Payload, TransactionError,
     TransactionId, Transfer,
 };
 use std::alloc::Global;
-use std::test::Fail;
 
 /// A session that allocates whatever is drawn first, and accepts each discharge: a commit with one
 /// answer, so that it shows which of the two was asked; or it rolls each commit back instead.
@@ -117,10 +116,10 @@ fn declare(global_id: Option<TransactionId>) -> ControlMessageBody {
 }
 
 #[test]
-fn a_coordinator_holds_what_it_declared(rt: HostRuntime) -> Result<(), Fail> {
+fn a_coordinator_holds_what_it_declared(rt: HostRuntime) {
     let alloc = rt.alloc();
-    let id = TransactionId::new(b"\x01")?;
-    let mut ids = ListIds::new(alloc, &[id])?;
+    let id = TransactionId::new(b"\x01").expect(&rt, "an Ok");
+    let mut ids = ListIds::new(alloc, &[id]).expect(&rt, "an Ok");
     let mut session = accepting_all(alloc);
     let mut coordinator = TxnCoordinator::new(alloc);
     let unheld = size(coordinator.on_delivery(&discharge(id, None), &mut session, &mut ids));
@@ -134,14 +133,13 @@ fn a_coordinator_holds_what_it_declared(rt: HostRuntime) -> Result<(), Fail> {
     let committed = size(coordinator.on_delivery(&discharge(id, None), &mut session, &mut ids));
     assert_eq!(rt; committed, 1);
     assert!(rt; !coordinator.holds(&id));
-    Ok(())
 }
 
 #[test]
-fn a_vetoed_id_is_held_no_more(rt: HostRuntime) -> Result<(), Fail> {
+fn a_vetoed_id_is_held_no_more(rt: HostRuntime) {
     let alloc = rt.alloc();
-    let id = TransactionId::new(b"\x01")?;
-    let mut ids = ListIds::new(alloc, &[id])?;
+    let id = TransactionId::new(b"\x01").expect(&rt, "an Ok");
+    let mut ids = ListIds::new(alloc, &[id]).expect(&rt, "an Ok");
     let mut session = accepting_none(alloc);
     let mut coordinator = TxnCoordinator::new(alloc);
     let declared = size(coordinator.on_delivery(&declare(None), &mut session, &mut ids));
@@ -149,14 +147,13 @@ fn a_vetoed_id_is_held_no_more(rt: HostRuntime) -> Result<(), Fail> {
     let committed = size(coordinator.on_delivery(&discharge(id, None), &mut session, &mut ids));
     assert_eq!(rt; committed, 100);
     assert!(rt; !coordinator.holds(&id));
-    Ok(())
 }
 
 #[test]
-fn a_rollback_has_no_echoes(rt: HostRuntime) -> Result<(), Fail> {
+fn a_rollback_has_no_echoes(rt: HostRuntime) {
     let alloc = rt.alloc();
-    let id = TransactionId::new(b"\x01")?;
-    let mut ids = ListIds::new(alloc, &[id])?;
+    let id = TransactionId::new(b"\x01").expect(&rt, "an Ok");
+    let mut ids = ListIds::new(alloc, &[id]).expect(&rt, "an Ok");
     let mut session = accepting_all(alloc);
     let mut coordinator = TxnCoordinator::new(alloc);
     let declared = size(coordinator.on_delivery(&declare(None), &mut session, &mut ids));
@@ -164,7 +161,6 @@ fn a_rollback_has_no_echoes(rt: HostRuntime) -> Result<(), Fail> {
     let rollback = discharge(id, Some(true));
     let rolled_back = size(coordinator.on_delivery(&rollback, &mut session, &mut ids));
     assert_eq!(rt; rolled_back, 0);
-    Ok(())
 }
 
 fn post(delivery_id: Option<u32>, settled: Option<bool>) -> Transfer {
@@ -212,16 +208,21 @@ fn count_work(transaction: Option<ResourceTransaction>) -> usize {
 }
 
 #[test]
-fn a_manager_keeps_work(rt: HostRuntime) -> Result<(), Fail> {
+fn a_manager_keeps_work(rt: HostRuntime) {
     let alloc = rt.alloc();
-    let id = TransactionId::new(b"\x01")?;
+    let id = TransactionId::new(b"\x01").expect(&rt, "an Ok");
     let mut manager = TransactionManager::new(alloc);
-    manager.insert(id)?;
-    assert_eq!(rt; answer_of(&mut manager, alloc, id, Some(7), None)?, 7);
-    assert_eq!(rt; answer_of(&mut manager, alloc, id, None, None)?, 100);
+    manager.insert(id).expect(&rt, "an Ok");
+    assert_eq!(rt;
+        answer_of(&mut manager, alloc, id, Some(7), None).expect(&rt, "an Ok"),
+        7
+    );
+    assert_eq!(rt;
+        answer_of(&mut manager, alloc, id, None, None).expect(&rt, "an Ok"),
+        100
+    );
     assert_eq!(rt; count_work(manager.remove(&id)), 2);
     assert_eq!(rt; count_work(manager.remove(&id)), 100);
-    Ok(())
 }
 
 fn refused_frame() -> CommitFault {
@@ -232,7 +233,7 @@ fn refused_frame() -> CommitFault {
 }
 
 #[test]
-fn each_error_has_its_text(rt: HostRuntime) -> Result<(), Fail> {
+fn each_error_has_its_text(rt: HostRuntime) {
     let rows = [
         (
             CoordinatorError::GlobalIdNotImplemented,
@@ -256,24 +257,22 @@ fn each_error_has_its_text(rt: HostRuntime) -> Result<(), Fail> {
         ),
         (CoordinatorError::NoMemory, "out of memory"),
     ];
-    assert_eq!(rt; other_text(rt.alloc(), &rows)?, None);
-    Ok(())
+    assert_eq!(rt; other_text(rt.alloc(), &rows).expect(&rt, "an Ok"), None);
 }
 
 #[test]
-fn a_declare_has_its_state(rt: HostRuntime) -> Result<(), Fail> {
-    let txn_id = TransactionId::new(b"\x01")?;
+fn a_declare_has_its_state(rt: HostRuntime) {
+    let txn_id = TransactionId::new(b"\x01").expect(&rt, "an Ok");
     let state = DeliveryState::from(SuccessfulOutcome::Declared(Declared { txn_id }));
-    assert!(rt; state == DeliveryState::Declared(Declared { txn_id }));
-    Ok(())
+    assert!(rt; same(state, DeliveryState::Declared(Declared { txn_id })));
 }
 
 #[test]
-fn a_second_id_is_held_beside_the_first(rt: HostRuntime) -> Result<(), Fail> {
+fn a_second_id_is_held_beside_the_first(rt: HostRuntime) {
     let alloc = rt.alloc();
-    let first = TransactionId::new(b"\x01")?;
-    let second = TransactionId::new(b"\x02")?;
-    let mut ids = ListIds::new(alloc, &[first, second])?;
+    let first = TransactionId::new(b"\x01").expect(&rt, "an Ok");
+    let second = TransactionId::new(b"\x02").expect(&rt, "an Ok");
+    let mut ids = ListIds::new(alloc, &[first, second]).expect(&rt, "an Ok");
     let mut session = accepting_all(alloc);
     let mut coordinator = TxnCoordinator::new(alloc);
     let one = size(coordinator.on_delivery(&declare(None), &mut session, &mut ids));
@@ -285,7 +284,6 @@ fn a_second_id_is_held_beside_the_first(rt: HostRuntime) -> Result<(), Fail> {
     assert_eq!(rt; committed, 1);
     assert!(rt; !coordinator.holds(&first));
     assert!(rt; coordinator.holds(&second));
-    Ok(())
 }
 
 /// Adds a transaction, where there is none under the id.
@@ -297,28 +295,29 @@ fn add(manager: &mut TransactionManager, id: TransactionId) -> Result<(), NoMemo
 }
 
 #[test]
-fn a_manager_keeps_the_work_of_each_id(rt: HostRuntime) -> Result<(), Fail> {
+fn a_manager_keeps_the_work_of_each_id(rt: HostRuntime) {
     let alloc = rt.alloc();
-    let first = TransactionId::new(b"\x01")?;
-    let second = TransactionId::new(b"\x02")?;
+    let first = TransactionId::new(b"\x01").expect(&rt, "an Ok");
+    let second = TransactionId::new(b"\x02").expect(&rt, "an Ok");
     let mut manager = TransactionManager::new(alloc);
-    add(&mut manager, first)?;
-    add(&mut manager, second)?;
-    assert_eq!(rt; answer_of(&mut manager, alloc, second, Some(8), None)?, 8);
+    add(&mut manager, first).expect(&rt, "an Ok");
+    add(&mut manager, second).expect(&rt, "an Ok");
+    assert_eq!(rt;
+        answer_of(&mut manager, alloc, second, Some(8), None).expect(&rt, "an Ok"),
+        8
+    );
     assert_eq!(rt; count_work(manager.remove(&first)), 0);
     assert_eq!(rt; count_work(manager.remove(&second)), 1);
-    Ok(())
 }
 
 #[test]
-fn a_post_is_answered_by_whether_it_is_settled(rt: HostRuntime) -> Result<(), Fail> {
+fn a_post_is_answered_by_whether_it_is_settled(rt: HostRuntime) {
     let alloc = rt.alloc();
-    let id = TransactionId::new(b"\x01")?;
+    let id = TransactionId::new(b"\x01").expect(&rt, "an Ok");
     let mut manager = TransactionManager::new(alloc);
-    manager.insert(id)?;
-    let unsettled = answer_of(&mut manager, alloc, id, Some(7), Some(false))?;
+    manager.insert(id).expect(&rt, "an Ok");
+    let unsettled = answer_of(&mut manager, alloc, id, Some(7), Some(false)).expect(&rt, "an Ok");
     assert_eq!(rt; unsettled, 7);
-    let settled = answer_of(&mut manager, alloc, id, Some(7), Some(true))?;
+    let settled = answer_of(&mut manager, alloc, id, Some(7), Some(true)).expect(&rt, "an Ok");
     assert_eq!(rt; settled, 100);
-    Ok(())
 }

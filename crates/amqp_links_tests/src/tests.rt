@@ -7,7 +7,6 @@ use amqp_txn_types::{
     Text, Token, TryClone, Value,
 };
 use std::alloc::Global;
-use std::test::Fail;
 
 fn end(alloc: Global, role: Role) -> Result<LinkEnd, NoMemory> {
     Ok(link_end(Text::from_str(alloc, "q")?, role, 3))
@@ -127,14 +126,13 @@ fn answers_once(wire: &mut WireSender, token: Token) -> [bool; 6] {
 }
 
 #[test]
-fn an_answer_is_given_once(rt: HostRuntime) -> Result<(), Fail> {
-    let mut wire = sender(rt.alloc())?;
+fn an_answer_is_given_once(rt: HostRuntime) {
+    let mut wire = sender(rt.alloc()).expect(&rt, "an Ok");
     let sent = send(&mut wire, rt.alloc(), None);
     let facts = answers_once(&mut wire, Token(0));
     drop(wire);
     assert!(rt; sent == Some(Sent::Unsettled(Token(0))));
     assert!(rt; facts == [true; 6]);
-    Ok(())
 }
 
 fn want_message(
@@ -170,8 +168,8 @@ fn are_messages(alloc: Global, put: &SentMessages) -> Result<bool, NoMemory> {
 }
 
 #[test]
-fn what_was_sent_is_put(rt: HostRuntime) -> Result<(), Fail> {
-    let mut wire = sender(rt.alloc())?;
+fn what_was_sent_is_put(rt: HostRuntime) {
+    let mut wire = sender(rt.alloc()).expect(&rt, "an Ok");
     let first = send(&mut wire, rt.alloc(), None);
     let second = send(&mut wire, rt.alloc(), Some(true));
     let third = send(&mut wire, rt.alloc(), Some(false));
@@ -180,8 +178,7 @@ fn what_was_sent_is_put(rt: HostRuntime) -> Result<(), Fail> {
     assert!(rt; first == Some(Sent::Unsettled(Token(0))));
     assert!(rt; second == Some(Sent::Settled));
     assert!(rt; third == Some(Sent::Unsettled(Token(1))));
-    assert!(rt; put?);
-    Ok(())
+    assert!(rt; put.expect(&rt, "an Ok"));
 }
 
 /// The message that is put by a send with a state that may not be answered with others.
@@ -219,16 +216,15 @@ fn is_only(put: &SentMessages, want: &SentMessage) -> bool {
 }
 
 #[test]
-fn a_send_keeps_its_state(rt: HostRuntime) -> Result<(), Fail> {
-    let mut wire = sender(rt.alloc())?;
+fn a_send_keeps_its_state(rt: HostRuntime) {
+    let mut wire = sender(rt.alloc()).expect(&rt, "an Ok");
     let sent = sends_with_state(&mut wire, rt.alloc());
-    let want = want_with_state(rt.alloc())?;
+    let want = want_with_state(rt.alloc()).expect(&rt, "an Ok");
     let put = is_only(wire.put(), &want);
     drop(want);
     drop(wire);
-    assert!(rt; sent?);
+    assert!(rt; sent.expect(&rt, "an Ok"));
     assert!(rt; put);
-    Ok(())
 }
 
 /// Answers to two tokens and to none, and looks: each whether it went as it must.
@@ -248,8 +244,8 @@ fn answers_by_token(wire: &mut WireSender) -> [bool; 6] {
 }
 
 #[test]
-fn an_answer_goes_to_its_token(rt: HostRuntime) -> Result<(), Fail> {
-    let mut wire = sender(rt.alloc())?;
+fn an_answer_goes_to_its_token(rt: HostRuntime) {
+    let mut wire = sender(rt.alloc()).expect(&rt, "an Ok");
     let first = send(&mut wire, rt.alloc(), None);
     let second = send(&mut wire, rt.alloc(), None);
     let facts = answers_by_token(&mut wire);
@@ -257,7 +253,6 @@ fn an_answer_goes_to_its_token(rt: HostRuntime) -> Result<(), Fail> {
     assert!(rt; first.is_some());
     assert!(rt; second.is_some());
     assert!(rt; facts == [true; 6]);
-    Ok(())
 }
 
 /// A sender whose calls of these numbers are to fail.
@@ -285,8 +280,8 @@ fn fails_as_listed(wire: &mut WireSender, alloc: Global) -> [bool; 6] {
 }
 
 #[test]
-fn listed_calls_of_a_sender_fail(rt: HostRuntime) -> Result<(), Fail> {
-    let mut wire = failing_sender(rt.alloc(), &[1, 3, 5])?;
+fn listed_calls_of_a_sender_fail(rt: HostRuntime) {
+    let mut wire = failing_sender(rt.alloc(), &[1, 3, 5]).expect(&rt, "an Ok");
     let facts = fails_as_listed(&mut wire, rt.alloc());
     let put = wire.put().len();
     let closes = wire.closes().len();
@@ -294,7 +289,6 @@ fn listed_calls_of_a_sender_fail(rt: HostRuntime) -> Result<(), Fail> {
     assert!(rt; facts == [true; 6]);
     assert_eq!(rt; put, 1);
     assert_eq!(rt; closes, 0);
-    Ok(())
 }
 
 fn want_closes(want: &mut Closes) -> Result<(), NoMemory> {
@@ -313,8 +307,8 @@ fn are_closes(alloc: Global, closes: &Closes) -> Result<bool, NoMemory> {
 }
 
 #[test]
-fn a_close_keeps_its_error(rt: HostRuntime) -> Result<(), Fail> {
-    let mut wire = sender(rt.alloc())?;
+fn a_close_keeps_its_error(rt: HostRuntime) {
+    let mut wire = sender(rt.alloc()).expect(&rt, "an Ok");
     let first = same(wire.close(Some(not_allowed())), Ok(()));
     let second = same(wire.close(None), Ok(()));
     let closes = are_closes(rt.alloc(), wire.closes());
@@ -322,9 +316,8 @@ fn a_close_keeps_its_error(rt: HostRuntime) -> Result<(), Fail> {
     drop(wire);
     assert!(rt; first);
     assert!(rt; second);
-    assert!(rt; closes?);
-    assert!(rt; end?);
-    Ok(())
+    assert!(rt; closes.expect(&rt, "an Ok"));
+    assert!(rt; end.expect(&rt, "an Ok"));
 }
 
 /// Whether a disposition of delivery 4 is put.
@@ -399,17 +392,16 @@ fn are_dispositions(alloc: Global, put: &ReceiverMessages) -> Result<bool, NoMem
 }
 
 #[test]
-fn dispositions_are_put(rt: HostRuntime) -> Result<(), Fail> {
-    let mut wire = receiver(rt.alloc())?;
+fn dispositions_are_put(rt: HostRuntime) {
+    let mut wire = receiver(rt.alloc()).expect(&rt, "an Ok");
     let disposed = puts_dispositions(&mut wire, rt.alloc());
     let put = are_dispositions(rt.alloc(), wire.put());
     let end = is_end(rt.alloc(), wire.end(), Role::Receiver);
     drop(wire);
-    let disposed = disposed?;
+    let disposed = disposed.expect(&rt, "an Ok");
     assert!(rt; disposed == [true; 3]);
-    assert!(rt; put?);
-    assert!(rt; end?);
-    Ok(())
+    assert!(rt; put.expect(&rt, "an Ok"));
+    assert!(rt; end.expect(&rt, "an Ok"));
 }
 
 /// The property `a`, null.
@@ -460,15 +452,14 @@ fn are_flows(alloc: Global, put: &ReceiverMessages) -> Result<bool, NoMemory> {
 }
 
 #[test]
-fn flows_are_put(rt: HostRuntime) -> Result<(), Fail> {
-    let mut wire = receiver(rt.alloc())?;
+fn flows_are_put(rt: HostRuntime) {
+    let mut wire = receiver(rt.alloc()).expect(&rt, "an Ok");
     let flowed = puts_flows(&mut wire, rt.alloc());
     let put = are_flows(rt.alloc(), wire.put());
     drop(wire);
-    let flowed = flowed?;
+    let flowed = flowed.expect(&rt, "an Ok");
     assert!(rt; flowed == [true; 3]);
-    assert!(rt; put?);
-    Ok(())
+    assert!(rt; put.expect(&rt, "an Ok"));
 }
 
 fn deliver(wire: &mut WireReceiver, alloc: Global, delivery_id: u32) -> Result<(), NoMemory> {
@@ -507,13 +498,12 @@ fn gives_in_order(wire: &mut WireReceiver, alloc: Global) -> Result<[bool; 4], N
 }
 
 #[test]
-fn deliveries_come_in_order(rt: HostRuntime) -> Result<(), Fail> {
-    let mut wire = receiver(rt.alloc())?;
+fn deliveries_come_in_order(rt: HostRuntime) {
+    let mut wire = receiver(rt.alloc()).expect(&rt, "an Ok");
     let facts = gives_in_order(&mut wire, rt.alloc());
     drop(wire);
-    let facts = facts?;
+    let facts = facts.expect(&rt, "an Ok");
     assert!(rt; facts == [true; 4]);
-    Ok(())
 }
 
 fn failed_receive() -> Poll<Result<Delivery, RecvError>> {
@@ -529,8 +519,8 @@ fn failing_receiver(alloc: Global, listed: &[u64]) -> Result<WireReceiver, NoMem
 }
 
 #[test]
-fn listed_calls_of_a_receiver_fail(rt: HostRuntime) -> Result<(), Fail> {
-    let mut wire = failing_receiver(rt.alloc(), &[1, 2, 3])?;
+fn listed_calls_of_a_receiver_fail(rt: HostRuntime) {
+    let mut wire = failing_receiver(rt.alloc(), &[1, 2, 3]).expect(&rt, "an Ok");
     let disposed = disposes(&mut wire, rt.alloc(), None, DeliveryState::Accepted);
     let failed = receives(&mut wire, failed_receive());
     let flowed = flows(&mut wire, 5, false);
@@ -538,13 +528,12 @@ fn listed_calls_of_a_receiver_fail(rt: HostRuntime) -> Result<(), Fail> {
     let set = wire.set_credit(7).is_ok();
     let credit = wire.credit();
     drop(wire);
-    assert!(rt; !disposed?);
+    assert!(rt; !disposed.expect(&rt, "an Ok"));
     assert!(rt; failed);
     assert!(rt; !flowed);
     assert_eq!(rt; put, 0);
     assert!(rt; set);
     assert_eq!(rt; credit, 7);
-    Ok(())
 }
 
 /// Whether the link has the property `a`, null, and no other.
@@ -570,20 +559,19 @@ fn change_properties<L: ReceiverLink>(link: &mut L, alloc: Global) -> Result<(),
 }
 
 #[test]
-fn properties_change_by_their_two_calls(rt: HostRuntime) -> Result<(), Fail> {
-    let mut wire = receiver(rt.alloc())?;
+fn properties_change_by_their_two_calls(rt: HostRuntime) {
+    let mut wire = receiver(rt.alloc()).expect(&rt, "an Ok");
     let none = wire.properties().is_none();
     let changed = change_properties(&mut wire, rt.alloc());
     let has = has_property(&wire, rt.alloc());
     drop(wire);
     assert!(rt; none);
-    changed?;
-    assert!(rt; has?);
-    Ok(())
+    changed.expect(&rt, "an Ok");
+    assert!(rt; has.expect(&rt, "an Ok"));
 }
 
 #[test]
-fn link_state_errors_have_texts(rt: HostRuntime) -> Result<(), Fail> {
+fn link_state_errors_have_texts(rt: HostRuntime) {
     let table = [
         (
             LinkStateError::IllegalState,
@@ -611,12 +599,11 @@ fn link_state_errors_have_texts(rt: HostRuntime) -> Result<(), Fail> {
         ),
         (LinkStateError::NoMemory, "out of memory"),
     ];
-    assert_eq!(rt; other_text(rt.alloc(), &table)?, None);
-    Ok(())
+    assert_eq!(rt; other_text(rt.alloc(), &table).expect(&rt, "an Ok"), None);
 }
 
 #[test]
-fn detach_errors_have_texts(rt: HostRuntime) -> Result<(), Fail> {
+fn detach_errors_have_texts(rt: HostRuntime) {
     let table = [
         (
             DetachError::IllegalState,
@@ -640,12 +627,11 @@ fn detach_errors_have_texts(rt: HostRuntime) -> Result<(), Fail> {
         ),
         (DetachError::NoMemory, "out of memory"),
     ];
-    assert_eq!(rt; other_text(rt.alloc(), &table)?, None);
-    Ok(())
+    assert_eq!(rt; other_text(rt.alloc(), &table).expect(&rt, "an Ok"), None);
 }
 
 #[test]
-fn errors_of_flows_and_dispositions_have_texts(rt: HostRuntime) -> Result<(), Fail> {
+fn errors_of_flows_and_dispositions_have_texts(rt: HostRuntime) {
     let table = [
         (
             IllegalLinkStateError::IllegalState,
@@ -657,12 +643,11 @@ fn errors_of_flows_and_dispositions_have_texts(rt: HostRuntime) -> Result<(), Fa
         ),
         (IllegalLinkStateError::NoMemory, "out of memory"),
     ];
-    assert_eq!(rt; other_text(rt.alloc(), &table)?, None);
-    Ok(())
+    assert_eq!(rt; other_text(rt.alloc(), &table).expect(&rt, "an Ok"), None);
 }
 
 #[test]
-fn errors_of_receives_have_texts(rt: HostRuntime) -> Result<(), Fail> {
+fn errors_of_receives_have_texts(rt: HostRuntime) {
     let table = [
         (
             RecvError::LinkStateError(LinkStateError::RemoteDetached),
@@ -674,12 +659,11 @@ fn errors_of_receives_have_texts(rt: HostRuntime) -> Result<(), Fail> {
         ),
         (RecvError::NoMemory, "out of memory"),
     ];
-    assert_eq!(rt; other_text(rt.alloc(), &table)?, None);
-    Ok(())
+    assert_eq!(rt; other_text(rt.alloc(), &table).expect(&rt, "an Ok"), None);
 }
 
 #[test]
-fn errors_of_sends_have_texts(rt: HostRuntime) -> Result<(), Fail> {
+fn errors_of_sends_have_texts(rt: HostRuntime) {
     let table = [
         (
             SendError::LinkStateError(LinkStateError::IllegalState),
@@ -710,6 +694,5 @@ fn errors_of_sends_have_texts(rt: HostRuntime) -> Result<(), Fail> {
         ),
         (SendError::NoMemory, "out of memory"),
     ];
-    assert_eq!(rt; other_text(rt.alloc(), &table)?, None);
-    Ok(())
+    assert_eq!(rt; other_text(rt.alloc(), &table).expect(&rt, "an Ok"), None);
 }

@@ -11,7 +11,6 @@ use amqp_txn_types::{
 };
 use std::alloc::Global;
 use std::process::Abort;
-use std::test::Fail;
 
 fn control_attach(alloc: Global) -> Result<Frame, NoMemory> {
     let attach = Attach {
@@ -136,43 +135,41 @@ fn is_reply_copied(reply: &Reply) -> Result<bool, NoMemory> {
 }
 
 #[test]
-fn a_link_that_is_closed_is_not_opened_again(rt: HostRuntime) -> Result<(), Fail> {
+fn a_link_that_is_closed_is_not_opened_again(rt: HostRuntime) {
     let mut entries = Entries::new(rt.alloc());
     let added = add_all(rt.alloc(), &mut entries);
     let facts = facts_of(entries.as_slice());
     drop(entries);
     assert!(rt; facts == [true, false, true, false]);
-    Ok(added?)
+    added.expect(&rt, "an Ok")
 }
 
 #[test]
-fn the_first_link_has_the_number_0(rt: HostRuntime) -> Result<(), Fail> {
+fn the_first_link_has_the_number_0(rt: HostRuntime) {
     let mut entries = Entries::new(rt.alloc());
     let added = add_attached(rt.alloc(), &mut entries, 1);
     let legal = is_legal(entries.as_slice());
     drop(entries);
     assert!(rt; !legal);
-    Ok(added?)
+    added.expect(&rt, "an Ok")
 }
 
 #[test]
-fn a_plain_frame_is_handed(rt: HostRuntime) -> Result<(), Fail> {
+fn a_plain_frame_is_handed(rt: HostRuntime) {
     let entry = plain(rt.alloc());
     let count = hands_count(rt.alloc(), &entry.step);
     drop(entry);
-    assert_eq!(rt; count?, 1);
-    Ok(())
+    assert_eq!(rt; count.expect(&rt, "an Ok"), 1);
 }
 
 #[test]
-fn the_work_of_a_record_is_its_plain_frame(rt: HostRuntime) -> Result<(), Fail> {
+fn the_work_of_a_record_is_its_plain_frame(rt: HostRuntime) {
     let mut entries = Entries::new(rt.alloc());
     let added = add_all(rt.alloc(), &mut entries);
     let count = work_count(rt.alloc(), entries.as_slice());
     drop(entries);
-    added?;
-    assert_eq!(rt; count?, 1);
-    Ok(())
+    added.expect(&rt, "an Ok");
+    assert_eq!(rt; count.expect(&rt, "an Ok"), 1);
 }
 
 #[test]
@@ -190,14 +187,13 @@ fn a_rejection_has_its_text(rt: HostRuntime) {
 }
 
 #[test]
-fn steps_and_replies_are_copied(rt: HostRuntime) -> Result<(), Fail> {
-    let entry = closed(rt.alloc(), 0)?;
+fn steps_and_replies_are_copied(rt: HostRuntime) {
+    let entry = closed(rt.alloc(), 0).expect(&rt, "an Ok");
     let step = is_step_copied(&entry.step);
     let reply = is_reply_copied(&entry.reply);
     drop(entry);
-    assert!(rt; step?);
-    assert!(rt; reply?);
-    Ok(())
+    assert!(rt; step.expect(&rt, "an Ok"));
+    assert!(rt; reply.expect(&rt, "an Ok"));
 }
 
 /// The ends of links 0 and 1.
@@ -216,14 +212,13 @@ fn are_steps_copied(steps: &Steps) -> Result<bool, NoMemory> {
 }
 
 #[test]
-fn a_list_of_steps_is_copied(rt: HostRuntime) -> Result<(), Fail> {
-    let steps = two_ends(rt.alloc())?;
+fn a_list_of_steps_is_copied(rt: HostRuntime) {
+    let steps = two_ends(rt.alloc()).expect(&rt, "an Ok");
     let copied = are_steps_copied(&steps);
     let count = steps.len();
     let entries = steps.into_entries();
     assert_eq!(rt; entries.len(), count);
-    assert!(rt; copied?);
-    Ok(())
+    assert!(rt; copied.expect(&rt, "an Ok"));
 }
 
 #[test]
@@ -235,28 +230,27 @@ fn a_step_is_pushed(rt: HostRuntime) {
 }
 
 #[test]
-fn a_control_attach_is_not_plain(rt: HostRuntime) -> Result<(), Fail> {
-    let frame = control_attach(rt.alloc())?;
+fn a_control_attach_is_not_plain(rt: HostRuntime) {
+    let frame = control_attach(rt.alloc()).expect(&rt, "an Ok");
     let plain = is_plain(&frame);
     let under = is_under(&frame, &TransactionId::from([1; 16]));
     drop(frame);
     assert!(rt; !plain);
     assert!(rt; !under);
-    Ok(())
 }
 
-fn is_text(alloc: Global, error: &StepError, text: &str) -> Result<bool, Fail> {
-    let shown = format!(in alloc; "{error}")?;
-    Ok(shown.as_str() == text)
+fn is_text(rt: &impl Abort, alloc: Global, error: &StepError, text: &str) -> bool {
+    let shown = format!(in alloc; "{error}").expect(rt, "an Ok");
+    shown.as_str() == text
 }
 
-fn is_text_of_stop(alloc: Global, stop: &Stop, text: &str) -> Result<bool, Fail> {
-    let shown = format!(in alloc; "{stop}")?;
-    Ok(shown.as_str() == text)
+fn is_text_of_stop(rt: &impl Abort, alloc: Global, stop: &Stop, text: &str) -> bool {
+    let shown = format!(in alloc; "{stop}").expect(rt, "an Ok");
+    shown.as_str() == text
 }
 
 #[test]
-fn each_error_of_a_step_has_its_text(rt: HostRuntime) -> Result<(), Fail> {
+fn each_error_of_a_step_has_its_text(rt: HostRuntime) {
     let fault = StepError::Fault {
         error: SessionInnerError::HandleInUse,
         handed: 1,
@@ -274,13 +268,12 @@ fn each_error_of_a_step_has_its_text(rt: HostRuntime) -> Result<(), Fail> {
         (StepError::NoMemory, "out of memory"),
     ];
     for (error, text) in rows {
-        assert!(rt; is_text(rt.alloc(), &error, text)?);
+        assert!(rt; is_text(&rt, rt.alloc(), &error, text));
     }
-    Ok(())
 }
 
 #[test]
-fn each_stop_has_its_text(rt: HostRuntime) -> Result<(), Fail> {
+fn each_stop_has_its_text(rt: HostRuntime) {
     let rows = [
         (Stop::Done, "every step was answered"),
         (
@@ -294,7 +287,6 @@ fn each_stop_has_its_text(rt: HostRuntime) -> Result<(), Fail> {
         (Stop::NoMemory, "out of memory"),
     ];
     for (stop, text) in rows {
-        assert!(rt; is_text_of_stop(rt.alloc(), &stop, text)?);
+        assert!(rt; is_text_of_stop(&rt, rt.alloc(), &stop, text));
     }
-    Ok(())
 }

@@ -10,7 +10,6 @@ use amqp_resource::*;
 use amqp_sessions::PlainSession;
 use amqp_txn_types::{Flow, Frame, Handle, NoMemory, Text};
 use std::alloc::Global;
-use std::test::Fail;
 
 /// A session over a recorder of a listener.
 type Listening = TxnSession<Recorder<ListenerSession<PlainSession>>>;
@@ -82,14 +81,13 @@ fn took_all(session: &Listening) -> bool {
 }
 
 #[test]
-fn what_a_listener_lets_pass_is_taken(rt: HostRuntime) -> Result<(), Fail> {
+fn what_a_listener_lets_pass_is_taken(rt: HostRuntime) {
     let alloc = rt.alloc();
-    let steps = steps(alloc)?;
+    let steps = steps(alloc).expect(&rt, "an Ok");
     let mut session = listening(alloc);
     let count = count_answered(&mut session, steps);
     let took = took_all(&session);
     drop(session);
     assert_eq!(rt; count, 3);
     assert!(rt; took);
-    Ok(())
 }

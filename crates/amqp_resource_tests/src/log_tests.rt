@@ -5,7 +5,6 @@ use amqp_layer::{LayerBelow, OpenSession};
 use amqp_resource::*;
 use amqp_sessions::{HandleDeclare, HandleDischarge};
 use amqp_txn_types::TransactionId;
-use std::test::Fail;
 
 /// Makes so many posts under the id.
 fn make_posts<S: LayerBelow>(
@@ -20,11 +19,11 @@ fn make_posts<S: LayerBelow>(
 }
 
 #[test]
-fn what_is_owed_is_never_more_than_what_is_kept(rt: HostRuntime) -> Result<(), Fail> {
+fn what_is_owed_is_never_more_than_what_is_kept(rt: HostRuntime) {
     let alloc = rt.alloc();
     let mut ids = CountIds::new();
     let mut session = TxnSession::new(alloc, OpenSession::new(alloc));
-    begin_transaction(alloc, &mut session, &mut ids)?;
+    begin_transaction(alloc, &mut session, &mut ids).expect(&rt, "an Ok");
     drop(session.allocate_transaction_id(&mut ids));
     make_posts(&mut session, numbered_id(1), 2, &mut ids);
     make_posts(&mut session, numbered_id(2), 3, &mut ids);
@@ -37,5 +36,4 @@ fn what_is_owed_is_never_more_than_what_is_kept(rt: HostRuntime) -> Result<(), F
     assert_eq!(rt; before, 0);
     assert_eq!(rt; two_taken, 2);
     assert_eq!(rt; all_taken, 0);
-    Ok(())
 }

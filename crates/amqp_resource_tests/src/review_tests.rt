@@ -6,7 +6,6 @@ use amqp_recorder::Recorder;
 use amqp_resource::*;
 use amqp_session_test_values::{judges, takes_work};
 use std::alloc::Global;
-use std::test::Fail;
 
 /// A session over a recorder without a plan.
 fn recorded(alloc: Global) -> Recorded {
@@ -27,15 +26,14 @@ fn a_review_that_is_accepted_below_is_accepted(rt: HostRuntime) {
 }
 
 #[test]
-fn a_review_that_is_vetoed_below_is_vetoed(rt: HostRuntime) -> Result<(), Fail> {
+fn a_review_that_is_vetoed_below_is_vetoed(rt: HostRuntime) {
     let alloc = rt.alloc();
-    let mut session = planned(alloc, 2)?;
+    let mut session = planned(alloc, 2).expect(&rt, "an Ok");
     let vetoed = judges(alloc, &mut session, 1, Verdict::Veto);
     let counts = counts_of(&session);
     drop(session);
     assert!(rt; vetoed);
     assert_eq!(rt; counts, [0, 1]);
-    Ok(())
 }
 
 #[test]

@@ -13,7 +13,6 @@ use amqp_txn_types::{
 };
 use std::alloc::Global;
 use std::mem::replace;
-use std::test::Fail;
 
 /// A layer that takes every frame and wants memory for each disposition that goes out. It gives
 /// these back for its first transfer and its second one, and no frame for any other.
@@ -438,50 +437,46 @@ fn commit_is_refused<S: LayerBelow + Drop>(
 }
 
 #[test]
-fn a_frame_whose_answer_is_refused_was_taken(rt: HostRuntime) -> Result<(), Fail> {
+fn a_frame_whose_answer_is_refused_was_taken(rt: HostRuntime) {
     let alloc = rt.alloc();
-    let below = echoing_first(alloc)?;
+    let below = echoing_first(alloc).expect(&rt, "an Ok");
     let refused = plain_is_refused(TxnSession::new(alloc, below));
     assert!(rt; refused);
-    Ok(())
 }
 
 #[test]
-fn a_frame_whose_answer_is_refused_was_taken_by_a_recorder(rt: HostRuntime) -> Result<(), Fail> {
+fn a_frame_whose_answer_is_refused_was_taken_by_a_recorder(rt: HostRuntime) {
     let alloc = rt.alloc();
-    let below = Recorder::new(alloc, echoing_first(alloc)?);
+    let below = Recorder::new(alloc, echoing_first(alloc).expect(&rt, "an Ok"));
     let refused = plain_is_refused(TxnSession::new(alloc, below));
     assert!(rt; refused);
-    Ok(())
 }
 
 #[test]
-fn a_refused_answer_within_a_commit_counts_its_frame(rt: HostRuntime) -> Result<(), Fail> {
+fn a_refused_answer_within_a_commit_counts_its_frame(rt: HostRuntime) {
     let alloc = rt.alloc();
-    let below = echoing_second(alloc)?;
-    let refused = commit_is_refused(alloc, TxnSession::new(alloc, below))?;
+    let below = echoing_second(alloc).expect(&rt, "an Ok");
+    let refused = commit_is_refused(alloc, TxnSession::new(alloc, below)).expect(&rt, "an Ok");
     assert!(rt; refused);
-    Ok(())
 }
 
 #[test]
-fn a_recorder_passes_on_a_refused_answer_within_a_commit(rt: HostRuntime) -> Result<(), Fail> {
+fn a_recorder_passes_on_a_refused_answer_within_a_commit(rt: HostRuntime) {
     let alloc = rt.alloc();
-    let below = Recorder::new(alloc, echoing_second(alloc)?);
-    let refused = commit_is_refused(alloc, TxnSession::new(alloc, below))?;
+    let below = Recorder::new(alloc, echoing_second(alloc).expect(&rt, "an Ok"));
+    let refused = commit_is_refused(alloc, TxnSession::new(alloc, below)).expect(&rt, "an Ok");
     assert!(rt; refused);
-    Ok(())
 }
 
 /// A session over a recorder that is planned to refuse the call with that number.
 pub(crate) fn planned(alloc: Global, number: u64) -> Result<Recorded, NoMemory> {
     let mut plan = CallNumbers::new(alloc);
-    plan.append(number)?;
+    plan.append(number).expect(&rt, "an Ok");
     let mut below = Recorder::new(alloc, OpenSession::new(alloc));
     if below.is_fresh() {
         below.set_plan(plan);
     }
-    Ok(TxnSession::new(alloc, below))
+    TxnSession::new(alloc, below)
 }
 
 /// How many frames and how many lists the layer below took and vetoed.
@@ -491,12 +486,12 @@ pub(crate) fn counts_of(session: &Recorded) -> [usize; 2] {
 }
 
 #[test]
-fn a_vetoed_commit_hands_nothing_and_ends_its_id(rt: HostRuntime) -> Result<(), Fail> {
+fn a_vetoed_commit_hands_nothing_and_ends_its_id(rt: HostRuntime) {
     let alloc = rt.alloc();
     let id = numbered_id(1);
     let mut ids = CountIds::new();
-    let mut session = planned(alloc, 2)?;
-    begin_transaction(alloc, &mut session, &mut ids)?;
+    let mut session = planned(alloc, 2).expect(&rt, "an Ok");
+    begin_transaction(alloc, &mut session, &mut ids).expect(&rt, "an Ok");
     let _word = answer_of(&mut session, post(true, id), &mut ids);
     let _word = answer_of(&mut session, post(true, id), &mut ids);
     let vetoed = discharges(alloc, &mut session, id, &mut ids);
@@ -510,22 +505,20 @@ fn a_vetoed_commit_hands_nothing_and_ends_its_id(rt: HostRuntime) -> Result<(), 
     assert_eq!(rt; plain, "no frames");
     assert_eq!(rt; counts, [1, 1]);
     assert!(rt; !live);
-    Ok(())
 }
 
 #[test]
-fn a_commit_without_frames_is_accepted_unasked(rt: HostRuntime) -> Result<(), Fail> {
+fn a_commit_without_frames_is_accepted_unasked(rt: HostRuntime) {
     let alloc = rt.alloc();
     let id = numbered_id(1);
     let mut ids = CountIds::new();
-    let mut session = planned(alloc, 1)?;
-    begin_transaction(alloc, &mut session, &mut ids)?;
+    let mut session = planned(alloc, 1).expect(&rt, "an Ok");
+    begin_transaction(alloc, &mut session, &mut ids).expect(&rt, "an Ok");
     let committed = discharges(alloc, &mut session, id, &mut ids);
     let counts = counts_of(&session);
     drop(session);
     assert_eq!(rt; committed, "accepted");
     assert_eq!(rt; counts, [0, 0]);
-    Ok(())
 }
 
 /// Whether a commit of the id by a call was rolled back instead.
@@ -537,11 +530,11 @@ fn is_rolled_back(session: &mut Recorded, id: TransactionId) -> bool {
 }
 
 #[test]
-fn a_vetoed_call_ends_its_id(rt: HostRuntime) -> Result<(), Fail> {
+fn a_vetoed_call_ends_its_id(rt: HostRuntime) {
     let alloc = rt.alloc();
     let id = numbered_id(1);
     let mut ids = CountIds::new();
-    let mut session = planned(alloc, 1)?;
+    let mut session = planned(alloc, 1).expect(&rt, "an Ok");
     let allocated = allocates_first(&mut session, &mut ids);
     let _word = answer_of(&mut session, post(true, id), &mut ids);
     let rolled_back = is_rolled_back(&mut session, id);
@@ -554,5 +547,4 @@ fn a_vetoed_call_ends_its_id(rt: HostRuntime) -> Result<(), Fail> {
     assert_eq!(rt; counts, [0, 1]);
     assert!(rt; !live);
     assert_eq!(rt; code, None);
-    Ok(())
 }

@@ -9,7 +9,6 @@ use amqp_txn_types::{
     Begin, Handle, Items, NoMemory, OutgoingChannel, ReceiverSettleMode, Role, SessionState, Text,
 };
 use std::alloc::Global;
-use std::test::Fail;
 
 /// A mapped session with an incoming window of 2.
 pub(crate) fn mapped(alloc: Global) -> PlainSession {
@@ -97,27 +96,25 @@ fn count_windows<S: LayerBelow>(
 }
 
 #[test]
-fn a_plain_transfer_tells_the_window(rt: HostRuntime) -> Result<(), Fail> {
+fn a_plain_transfer_tells_the_window(rt: HostRuntime) {
     let mut ids = CountIds::new();
-    let mut session = windowed(rt.alloc(), &mut ids)?;
+    let mut session = windowed(rt.alloc(), &mut ids).expect(&rt, "an Ok");
     let count = count_windows(&mut session, Step::Frame(transfer(true, None)), &mut ids);
     drop(session);
     assert_eq!(rt; count, 1);
-    Ok(())
 }
 
 #[test]
-fn a_commit_tells_the_window_after_each_transfer(rt: HostRuntime) -> Result<(), Fail> {
+fn a_commit_tells_the_window_after_each_transfer(rt: HostRuntime) {
     let alloc = rt.alloc();
     let id = numbered_id(1);
     let mut ids = CountIds::new();
-    let mut session = windowed(alloc, &mut ids)?;
-    begin_transaction(alloc, &mut session, &mut ids)?;
+    let mut session = windowed(alloc, &mut ids).expect(&rt, "an Ok");
+    begin_transaction(alloc, &mut session, &mut ids).expect(&rt, "an Ok");
     let _word = answer_of(&mut session, post(true, id), &mut ids);
     let _word = answer_of(&mut session, post(true, id), &mut ids);
-    let commit = discharge(alloc, id)?;
+    let commit = discharge(alloc, id).expect(&rt, "an Ok");
     let count = count_windows(&mut session, commit, &mut ids);
     drop(session);
     assert_eq!(rt; count, 2);
-    Ok(())
 }

@@ -13,7 +13,6 @@ use amqp_txn_types::{
 };
 use std::alloc::Global;
 use std::process::Abort;
-use std::test::Fail;
 
 /// Whether the engine answers a control so.
 fn answers(mut engine: SessionEngine<PlainSession>, control: SessionControl, wanted: Turn) -> bool {
@@ -92,8 +91,8 @@ fn a_plain_session_allocates_no_ids(rt: HostRuntime) {
 }
 
 #[test]
-fn a_plain_session_discharges_nothing(rt: HostRuntime) -> Result<(), Fail> {
-    let txn_id = TransactionId::new(b"t")?;
+fn a_plain_session_discharges_nothing(rt: HostRuntime) {
+    let txn_id = TransactionId::new(b"t").expect(&rt, "an Ok");
     let uncommitted = ControlReply::Committed(Err(TransactionError::UnknownId));
     assert!(rt;
         replies(
@@ -112,16 +111,14 @@ fn a_plain_session_discharges_nothing(rt: HostRuntime) -> Result<(), Fail> {
             unended
         )
     );
-    Ok(())
 }
 
 #[test]
-fn some_controls_have_no_reply(rt: HostRuntime) -> Result<(), Fail> {
-    let abort = SessionControl::AbortTransaction(TransactionId::new(b"t")?);
+fn some_controls_have_no_reply(rt: HostRuntime) {
+    let abort = SessionControl::AbortTransaction(TransactionId::new(b"t").expect(&rt, "an Ok"));
     assert!(rt; replies(&rt, rt.alloc(), abort, ControlReply::Nothing));
     let free = SessionControl::DeallocateLink(OutputHandle(0));
     assert!(rt; replies(&rt, rt.alloc(), free, ControlReply::Nothing));
-    Ok(())
 }
 
 #[test]

@@ -5,10 +5,9 @@ use amqp_layer::SessionInnerError;
 use amqp_sessions::*;
 use amqp_test_values::{not_allowed, other_text};
 use amqp_txn_types::{ConnectionStopReason, SessionStopReason};
-use std::test::Fail;
 
 #[test]
-fn errors_have_their_texts(rt: HostRuntime) -> Result<(), Fail> {
+fn errors_have_their_texts(rt: HostRuntime) {
     let alloc = rt.alloc();
     let unallocated = [
         (
@@ -23,7 +22,7 @@ fn errors_have_their_texts(rt: HostRuntime) -> Result<(), Fail> {
         (AllocLinkError::HandleMaxReached, "no handle is left"),
         (AllocLinkError::NoMemory, "out of memory"),
     ];
-    assert_eq!(rt; other_text(alloc, &unallocated)?, None);
+    assert_eq!(rt; other_text(alloc, &unallocated).expect(&rt, "an Ok"), None);
     let unbegun = [
         (
             BeginError::ConnectionStopped(ConnectionStopReason::Closed),
@@ -39,7 +38,7 @@ fn errors_have_their_texts(rt: HostRuntime) -> Result<(), Fail> {
         (BeginError::IllegalState, "the state does not allow it"),
         (BeginError::NoMemory, "out of memory"),
     ];
-    assert_eq!(rt; other_text(alloc, &unbegun)?, None);
+    assert_eq!(rt; other_text(alloc, &unbegun).expect(&rt, "an Ok"), None);
     let undrawn = [
         (
             AllocTxnIdError::NotImplemented,
@@ -51,7 +50,7 @@ fn errors_have_their_texts(rt: HostRuntime) -> Result<(), Fail> {
         ),
         (AllocTxnIdError::NoMemory, "out of memory"),
     ];
-    assert_eq!(rt; other_text(alloc, &undrawn)?, None);
+    assert_eq!(rt; other_text(alloc, &undrawn).expect(&rt, "an Ok"), None);
     let uncommitted = [
         (CommitFault::NoMemory, "out of memory"),
         (
@@ -62,6 +61,5 @@ fn errors_have_their_texts(rt: HostRuntime) -> Result<(), Fail> {
             "a frame of the commit was refused: the handle is in use",
         ),
     ];
-    assert_eq!(rt; other_text(alloc, &uncommitted)?, None);
-    Ok(())
+    assert_eq!(rt; other_text(alloc, &uncommitted).expect(&rt, "an Ok"), None);
 }

@@ -11,7 +11,7 @@ use amqp_txn_types::{
     TransactionError, TransactionId,
 };
 use std::alloc::Global;
-use std::test::Fail;
+use std::process::Abort;
 
 fn link_flow(handle: u32) -> LinkFlow {
     LinkFlow {
@@ -146,29 +146,28 @@ fn an_incoming_link_is_taken_at_once(rt: HostRuntime) {
 }
 
 #[test]
-fn the_relay_keeps_a_flow(rt: HostRuntime) -> Result<(), Fail> {
+fn the_relay_keeps_a_flow(rt: HostRuntime) {
     let alloc = rt.alloc();
     let mut plain = plain_session(alloc, SessionState::Mapped, 9);
-    let output = allocate_incoming(alloc, &mut plain)?;
+    let output = allocate_incoming(alloc, &mut plain).expect(&rt, "an Ok");
     let mut came = flow(Some(Handle(5)));
     came.link_credit = Some(10);
-    plain.on_incoming_flow(came)?;
+    plain.on_incoming_flow(came).expect(&rt, "an Ok");
     let mut wanted = LinkFlows::new(alloc);
-    wanted.push(link_flow(5))?;
+    wanted.push(link_flow(5)).expect(&rt, "an Ok");
     let kept = match plain.relay(output) {
         None => false,
         Some(relay) => relay.flows == wanted,
     };
     assert!(rt; kept);
-    Ok(())
 }
 
 /// A transfer of one octet, which is no work of a transaction.
-fn plain_transfer(alloc: Global, handle: u32) -> Result<Frame, Fail> {
-    Ok(Frame::Transfer {
+fn plain_transfer(rt: &impl Abort, alloc: Global, handle: u32) -> Frame {
+    Frame::Transfer {
         transfer: transfer(handle),
-        payload: Payload::from_slice(alloc, b"m")?,
-    })
+        payload: Payload::from_slice(alloc, b"m").expect(rt, "an Ok"),
+    }
 }
 
 /// The answer to a plain transfer after which the peer's next one has this id.
@@ -182,16 +181,17 @@ fn told_window(alloc: Global, next_incoming_id: u32) -> Answers {
 }
 
 #[test]
-fn each_transfer_of_a_run_tells_a_window_of_two(rt: HostRuntime) -> Result<(), Fail> {
+fn each_transfer_of_a_run_tells_a_window_of_two(rt: HostRuntime) {
     let alloc = rt.alloc();
     let mut plain = plain_session(alloc, SessionState::BeginSent, 9);
-    plain.on_incoming_begin(IncomingChannel(3), begin(9))?;
-    allocate_incoming(alloc, &mut plain)?;
-    let first = take_frame(&mut plain, plain_transfer(alloc, 5)?);
+    plain
+        .on_incoming_begin(IncomingChannel(3), begin(9))
+        .expect(&rt, "an Ok");
+    allocate_incoming(alloc, &mut plain).expect(&rt, "an Ok");
+    let first = take_frame(&mut plain, plain_transfer(&rt, alloc, 5));
     assert!(rt; gives(first, told_window(alloc, 1)));
-    let second = take_frame(&mut plain, plain_transfer(alloc, 5)?);
+    let second = take_frame(&mut plain, plain_transfer(&rt, alloc, 5));
     assert!(rt; gives(second, told_window(alloc, 2)));
-    Ok(())
 }
 
 #[test]
@@ -318,13 +318,14 @@ fn a_transfer_on_an_unmapped_handle_is_vetoed(rt: HostRuntime) {
 }
 
 #[test]
-fn a_transfer_to_a_sender_is_vetoed(rt: HostRuntime) -> Result<(), Fail> {
+fn a_transfer_to_a_sender_is_vetoed(rt: HostRuntime) {
     let alloc = rt.alloc();
     let mut plain = plain_session(alloc, SessionState::Mapped, 9);
-    let name = Text::from_str(alloc, "a")?;
-    plain.allocate_incoming_link(name, relay(alloc, Role::Sender), InputHandle(5))?;
+    let name = Text::from_str(alloc, "a").expect(&rt, "an Ok");
+    plain
+        .allocate_incoming_link(name, relay(alloc, Role::Sender), InputHandle(5))
+        .expect(&rt, "an Ok");
     assert!(rt; judges(alloc, &mut plain, 5, Verdict::Veto));
-    Ok(())
 }
 
 #[test]

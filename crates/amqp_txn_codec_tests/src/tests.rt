@@ -5,7 +5,6 @@ use amqp_txn_codec::{ControlMessageBody, Declare, Discharge, NotControl, decode,
 use amqp_txn_types::{IdTooLong, TransactionId};
 use std::alloc::{Alloc, Global};
 use std::process::Abort;
-use std::test::Fail;
 
 fn declare() -> ControlMessageBody {
     ControlMessageBody::Declare(Declare { global_id: None })
@@ -44,14 +43,13 @@ fn declares_are_read_in_every_form(rt: HostRuntime) {
 }
 
 #[test]
-fn a_global_id_is_read(rt: HostRuntime) -> Result<(), Fail> {
+fn a_global_id_is_read(rt: HostRuntime) {
     // qpid-proton 0.37.0
     let octets =
         b"\x00SpE\x00SsE\x00Sw\x00S\x31\xd0\x00\x00\x00\x0e\x00\x00\x00\x01\xa0\x08global-\x31";
-    let global_id = Some(TransactionId::new(b"global-1")?);
+    let global_id = Some(TransactionId::new(b"global-1").expect(&rt, "an Ok"));
     let message = ControlMessageBody::Declare(Declare { global_id });
     assert_eq!(rt; decode(octets), Ok(message));
-    Ok(())
 }
 
 fn reads_discharge(
@@ -66,69 +64,75 @@ fn reads_discharge(
 }
 
 #[test]
-fn discharges_are_read_in_every_form(rt: HostRuntime) -> Result<(), Fail> {
+fn discharges_are_read_in_every_form(rt: HostRuntime) {
     // No fail.
     reads_discharge(
         &rt,
         b"\x00Sw\x00S\x32\xc0\x06\x01\xa0\x03\x01\x02\x03",
         b"\x01\x02\x03",
         None,
-    )?;
+    )
+    .expect(&rt, "an Ok");
     // A fail that is null.
     reads_discharge(
         &rt,
         b"\x00Sw\x00S\x32\xc0\x07\x02\xa0\x03\x01\x02\x03\x40",
         b"\x01\x02\x03",
         None,
-    )?;
+    )
+    .expect(&rt, "an Ok");
     // A rollback.
     reads_discharge(
         &rt,
         b"\x00Sw\x00S\x32\xc0\x07\x02\xa0\x03\x01\x02\x03A",
         b"\x01\x02\x03",
         Some(true),
-    )?;
+    )
+    .expect(&rt, "an Ok");
     // The long forms of list, id and fail.
     reads_discharge(
         &rt,
         b"\x00Sw\x00S\x32\xd0\x00\x00\x00\x0e\x00\x00\x00\x02\xb0\x00\x00\x00\x03\x01\x02\x03V\x00",
         b"\x01\x02\x03",
         Some(false),
-    )?;
+    )
+    .expect(&rt, "an Ok");
     // An id of 32 octets.
     reads_discharge(
         &rt,
         b"\x00Sw\x00S\x32\xc0\x23\x01\xa0\x20\x11\x11\x11\x11\x11\x11\x11\x11\x11\x11\x11\x11\x11\x11\x11\x11\x11\x11\x11\x11\x11\x11\x11\x11\x11\x11\x11\x11\x11\x11\x11\x11",
         b"\x11\x11\x11\x11\x11\x11\x11\x11\x11\x11\x11\x11\x11\x11\x11\x11\x11\x11\x11\x11\x11\x11\x11\x11\x11\x11\x11\x11\x11\x11\x11\x11",
         None,
-    )?;
-    Ok(())
+    )
+    .expect(&rt, "an Ok");
 }
 
 #[test]
-fn discharges_of_other_libraries_are_read(rt: HostRuntime) -> Result<(), Fail> {
+fn discharges_of_other_libraries_are_read(rt: HostRuntime) {
     // Qpid-proton 0.37.0: an abort.
     reads_discharge(
         &rt,
         b"\x00SpE\x00SsE\x00Sw\x00\xa3\x13amqp:discharge:list\xd0\x00\x00\x00\x0f\x00\x00\x00\x02\xa0\x08\x00\x00\x00\x00\x00\x00\x00\x02A",
         b"\x00\x00\x00\x00\x00\x00\x00\x02",
         Some(true),
-    )?;
+    )
+    .expect(&rt, "an Ok");
     // Azure _pyamqp 20230112: a fail in two octets.
     reads_discharge(
         &rt,
         b"\x00Sw\x00S\x32\xc0\x15\x02\xa0\x10\x00\x00\x00\x00\x00\x00\x00\x00\x00\x00\x00\x00\x00\x00\x00\x01V\x01",
         b"\x00\x00\x00\x00\x00\x00\x00\x00\x00\x00\x00\x00\x00\x00\x00\x01",
         Some(true),
-    )?;
+    )
+    .expect(&rt, "an Ok");
     // Azure _pyamqp 20230112: a footer.
     reads_discharge(
         &rt,
         b"\x00Sw\x00S\x32\xc0\x15\x02\xa0\x10\x00\x00\x00\x00\x00\x00\x00\x00\x00\x00\x00\x00\x00\x00\x00\x01V\x00\x00Sx\xc1\x0c\x02\xa3\x07x-opt-fT\x01",
         b"\x00\x00\x00\x00\x00\x00\x00\x00\x00\x00\x00\x00\x00\x00\x00\x01",
         Some(false),
-    )?;
-    Ok(())
+    )
+    .expect(&rt, "an Ok");
 }
 
 #[test]
@@ -173,24 +177,20 @@ fn other_octets_are_refused(rt: HostRuntime) {
 }
 
 #[test]
-fn the_canonical_spelling_is_written(rt: HostRuntime) -> Result<(), Fail> {
+fn the_canonical_spelling_is_written(rt: HostRuntime) {
     let spelling = b"\x00Sw\x00S\x32\xc0\x07\x02\xa0\x03\x01\x02\x03A";
-    let txn_id = TransactionId::new(b"\x01\x02\x03")?;
+    let txn_id = TransactionId::new(b"\x01\x02\x03").expect(&rt, "an Ok");
     let fail = Some(true);
     let message = ControlMessageBody::Discharge(Discharge { txn_id, fail });
-    let payload = message.encode(rt.alloc())?;
+    let payload = message.encode(rt.alloc()).expect(&rt, "an Ok");
     assert_eq!(rt; payload.as_slice(), spelling.as_slice());
     let mut out = [9; 64];
     let len = message.encode_into(&mut out);
     assert_eq!(rt; &out[..len], spelling.as_slice());
-    Ok(())
 }
 
-fn only_the_whole_is_read(
-    rt: &(impl Abort + Alloc<A = Global>),
-    message: ControlMessageBody,
-) -> Result<(), Fail> {
-    let payload = message.encode(rt.alloc())?;
+fn only_the_whole_is_read(rt: &(impl Abort + Alloc<A = Global>), message: ControlMessageBody) {
+    let payload = message.encode(rt.alloc()).expect(rt, "an Ok");
     let spelling = payload.as_slice();
     assert_eq!(rt; decode(spelling), Ok(message));
     for end in 0..spelling.len() {
@@ -201,25 +201,23 @@ fn only_the_whole_is_read(
         );
     }
     let mut longer = Vec::new(rt.alloc());
-    longer.extend_from_slice(spelling)?;
-    longer.push(0x40)?;
+    longer.extend_from_slice(spelling).expect(rt, "an Ok");
+    longer.push(0x40).expect(rt, "an Ok");
     assert_eq!(rt; decode(longer.as_slice()), Err(NotControl));
-    Ok(())
 }
 
 #[test]
-fn only_the_whole_canonical_spelling_is_read(rt: HostRuntime) -> Result<(), Fail> {
-    only_the_whole_is_read(&rt, declare())?;
+fn only_the_whole_canonical_spelling_is_read(rt: HostRuntime) {
+    only_the_whole_is_read(&rt, declare());
     let octets = [0x45; 32];
     for len in [0usize, 1, 16, 32] {
         let id = &octets[..len];
-        let global_id = Some(TransactionId::new(id)?);
-        only_the_whole_is_read(&rt, ControlMessageBody::Declare(Declare { global_id }))?;
+        let global_id = Some(TransactionId::new(id).expect(&rt, "an Ok"));
+        only_the_whole_is_read(&rt, ControlMessageBody::Declare(Declare { global_id }));
         for fail in [None, Some(true), Some(false)] {
-            only_the_whole_is_read(&rt, discharge(id, fail)?)?;
+            only_the_whole_is_read(&rt, discharge(id, fail).expect(&rt, "an Ok"));
         }
     }
-    Ok(())
 }
 
 #[test]
@@ -232,28 +230,34 @@ fn a_value_is_skipped(rt: HostRuntime) {
 }
 
 #[test]
-fn values_within_values_are_read_at_once(rt: HostRuntime) -> Result<(), Fail> {
+fn values_within_values_are_read_at_once(rt: HostRuntime) {
     // Each of 400,000 constructors 0 wants two values, and 400,001 nulls are all of them.
-    let mut value = vec![in rt.alloc(); 0; 400_000]?;
+    let mut value = vec![in rt.alloc(); 0; 400_000].expect(&rt, "an Ok");
     assert_eq!(rt; skip_value(value.as_slice(), 0), None);
     let mut header = Vec::new(rt.alloc());
-    header.extend_from_slice(b"\x00Sp")?;
-    header.extend_from_slice(value.as_slice())?;
+    header.extend_from_slice(b"\x00Sp").expect(&rt, "an Ok");
+    header
+        .extend_from_slice(value.as_slice())
+        .expect(&rt, "an Ok");
     assert_eq!(rt; decode(header.as_slice()), Err(NotControl));
-    let nulls = vec![in rt.alloc(); 0x40; 400_001]?;
-    value.extend_from_slice(nulls.as_slice())?;
+    let nulls = vec![in rt.alloc(); 0x40; 400_001].expect(&rt, "an Ok");
+    value
+        .extend_from_slice(nulls.as_slice())
+        .expect(&rt, "an Ok");
     assert_eq!(rt; skip_value(value.as_slice(), 0), Some(800_001));
     let mut octets = Vec::new(rt.alloc());
-    octets.extend_from_slice(b"\x00Sp")?;
-    octets.extend_from_slice(value.as_slice())?;
-    octets.extend_from_slice(b"\x00Sw\x00S\x31E")?;
+    octets.extend_from_slice(b"\x00Sp").expect(&rt, "an Ok");
+    octets
+        .extend_from_slice(value.as_slice())
+        .expect(&rt, "an Ok");
+    octets
+        .extend_from_slice(b"\x00Sw\x00S\x31E")
+        .expect(&rt, "an Ok");
     assert_eq!(rt; decode(octets.as_slice()), Ok(declare()));
-    Ok(())
 }
 
 #[test]
-fn the_error_says_what_is_wrong(rt: HostRuntime) -> Result<(), Fail> {
-    let text = format!(in rt.alloc(); "{NotControl}")?;
+fn the_error_says_what_is_wrong(rt: HostRuntime) {
+    let text = format!(in rt.alloc(); "{NotControl}").expect(&rt, "an Ok");
     assert_eq!(rt; text.as_str(), "the octets are no control message");
-    Ok(())
 }
