@@ -13,6 +13,7 @@ use amqp_txn_types::{
 };
 use std::alloc::Global;
 use std::mem::replace;
+use std::process::Abort;
 
 /// A layer that takes every frame and wants memory for each disposition that goes out. It gives
 /// these back for its first transfer and its second one, and no frame for any other.
@@ -406,7 +407,9 @@ fn is_refused<S: LayerBelow>(
 /// Whether a plain transfer is refused when it has been taken.
 fn plain_is_refused<S: LayerBelow + Drop>(mut session: TxnSession<S>) -> bool {
     let mut ids = CountIds::new();
-    is_refused(&mut session, Step::Frame(transfer(true, None)), &mut ids, 1)
+    let refused = is_refused(&mut session, Step::Frame(transfer(true, None)), &mut ids, 1);
+    drop(session);
+    refused
 }
 
 /// Attaches control link 0 and declares the first id on it.
@@ -424,16 +427,19 @@ pub(crate) fn begin_transaction<S: LayerBelow>(
 
 /// Whether a commit of two posts is refused when both have been taken.
 fn commit_is_refused<S: LayerBelow + Drop>(
+    rt: &impl Abort,
     alloc: Global,
     mut session: TxnSession<S>,
-) -> Result<bool, NoMemory> {
+) -> bool {
     let mut ids = CountIds::new();
     let id = numbered_id(1);
-    begin_transaction(alloc, &mut session, &mut ids)?;
+    begin_transaction(alloc, &mut session, &mut ids).expect(rt, "an Ok");
     let _word = answer_of(&mut session, post(true, id), &mut ids);
     let _word = answer_of(&mut session, post(true, id), &mut ids);
-    let commit = discharge(alloc, id)?;
-    Ok(is_refused(&mut session, commit, &mut ids, 2))
+    let commit = discharge(alloc, id).expect(rt, "an Ok");
+    let refused = is_refused(&mut session, commit, &mut ids, 2);
+    drop(session);
+    refused
 }
 
 #[test]
@@ -456,7 +462,7 @@ fn a_frame_whose_answer_is_refused_was_taken_by_a_recorder(rt: HostRuntime) {
 fn a_refused_answer_within_a_commit_counts_its_frame(rt: HostRuntime) {
     let alloc = rt.alloc();
     let below = echoing_second(alloc).expect(&rt, "an Ok");
-    let refused = commit_is_refused(alloc, TxnSession::new(alloc, below)).expect(&rt, "an Ok");
+    let refused = commit_is_refused(&rt, alloc, TxnSession::new(alloc, below));
     assert!(rt; refused);
 }
 
@@ -464,19 +470,19 @@ fn a_refused_answer_within_a_commit_counts_its_frame(rt: HostRuntime) {
 fn a_recorder_passes_on_a_refused_answer_within_a_commit(rt: HostRuntime) {
     let alloc = rt.alloc();
     let below = Recorder::new(alloc, echoing_second(alloc).expect(&rt, "an Ok"));
-    let refused = commit_is_refused(alloc, TxnSession::new(alloc, below)).expect(&rt, "an Ok");
+    let refused = commit_is_refused(&rt, alloc, TxnSession::new(alloc, below));
     assert!(rt; refused);
 }
 
 /// A session over a recorder that is planned to refuse the call with that number.
 pub(crate) fn planned(alloc: Global, number: u64) -> Result<Recorded, NoMemory> {
     let mut plan = CallNumbers::new(alloc);
-    plan.append(number).expect(&rt, "an Ok");
+    plan.append(number)?;
     let mut below = Recorder::new(alloc, OpenSession::new(alloc));
     if below.is_fresh() {
         below.set_plan(plan);
     }
-    TxnSession::new(alloc, below)
+    Ok(TxnSession::new(alloc, below))
 }
 
 /// How many frames and how many lists the layer below took and vetoed.

@@ -6,9 +6,10 @@ use amqp_recorder::Recorder;
 use amqp_resource::*;
 use amqp_sessions::{PlainSession, Relay, Session};
 use amqp_txn_types::{
-    Begin, Handle, Items, NoMemory, OutgoingChannel, ReceiverSettleMode, Role, SessionState, Text,
+    Begin, Handle, Items, OutgoingChannel, ReceiverSettleMode, Role, SessionState, Text,
 };
 use std::alloc::Global;
+use std::process::Abort;
 
 /// A mapped session with an incoming window of 2.
 pub(crate) fn mapped(alloc: Global) -> PlainSession {
@@ -26,7 +27,7 @@ pub(crate) fn mapped(alloc: Global) -> PlainSession {
 }
 
 /// Such a session with one link, whose attach is to come.
-fn plain_session(alloc: Global) -> Result<PlainSession, NoMemory> {
+fn plain_session(rt: &impl Abort, alloc: Global) -> PlainSession {
     let mut below = mapped(alloc);
     let relay = Relay {
         name: Text::new(alloc),
@@ -35,21 +36,23 @@ fn plain_session(alloc: Global) -> Result<PlainSession, NoMemory> {
         flows: Items::new(alloc),
         transfers: 0,
     };
-    let allocated = below.allocate_link(Text::from_str(alloc, "a")?, relay);
+    let name = Text::from_str(alloc, "a").expect(rt, "an Ok");
+    let allocated = below.allocate_link(name, relay);
     drop(allocated);
-    Ok(below)
+    below
 }
 
 /// A session over a recorder of a plain one, whose link is attached with handle 1.
 fn windowed(
+    rt: &impl Abort,
     alloc: Global,
     ids: &mut CountIds,
-) -> Result<TxnSession<Recorder<PlainSession>>, NoMemory> {
-    let below = plain_session(alloc)?;
+) -> TxnSession<Recorder<PlainSession>> {
+    let below = plain_session(rt, alloc);
     let mut session = TxnSession::new(alloc, Recorder::new(alloc, below));
-    let attached = attach(Text::from_str(alloc, "a")?, 1, None);
-    let _word = answer_of(&mut session, attached, ids);
-    Ok(session)
+    let name = Text::from_str(alloc, "a").expect(rt, "an Ok");
+    let _word = answer_of(&mut session, attach(name, 1, None), ids);
+    session
 }
 
 /// Whether each of these answers tells the window.
@@ -98,7 +101,7 @@ fn count_windows<S: LayerBelow>(
 #[test]
 fn a_plain_transfer_tells_the_window(rt: HostRuntime) {
     let mut ids = CountIds::new();
-    let mut session = windowed(rt.alloc(), &mut ids).expect(&rt, "an Ok");
+    let mut session = windowed(&rt, rt.alloc(), &mut ids);
     let count = count_windows(&mut session, Step::Frame(transfer(true, None)), &mut ids);
     drop(session);
     assert_eq!(rt; count, 1);
@@ -109,7 +112,7 @@ fn a_commit_tells_the_window_after_each_transfer(rt: HostRuntime) {
     let alloc = rt.alloc();
     let id = numbered_id(1);
     let mut ids = CountIds::new();
-    let mut session = windowed(alloc, &mut ids).expect(&rt, "an Ok");
+    let mut session = windowed(&rt, alloc, &mut ids);
     begin_transaction(alloc, &mut session, &mut ids).expect(&rt, "an Ok");
     let _word = answer_of(&mut session, post(true, id), &mut ids);
     let _word = answer_of(&mut session, post(true, id), &mut ids);
