@@ -1,14 +1,15 @@
 //! A run over a listener: the attaches that it queues, the flows that it holds and the transfers
 //! that it drops count as taken.
 
-use crate::tests::{attach, transfer};
-use crate::window_tests::mapped;
+use crate::tests::transfer;
 use amqp_acceptors::ControlLinkAcceptor;
 use amqp_listener::ListenerSession;
 use amqp_recorder::Recorder;
 use amqp_resource::*;
+use amqp_session_test_values::plain_session;
 use amqp_sessions::PlainSession;
-use amqp_txn_types::{Flow, Frame, Handle, NoMemory, Text};
+use amqp_test_values::{flow, sender_attach};
+use amqp_txn_types::{Frame, Handle, NoMemory, SessionState, Text};
 use std::alloc::Global;
 
 /// A session over a recorder of a listener.
@@ -16,33 +17,18 @@ type Listening = TxnSession<Recorder<ListenerSession<PlainSession>>>;
 
 /// Such a session, over a mapped one without links.
 fn listening(alloc: Global) -> Listening {
-    let listener = ListenerSession::new(alloc, mapped(alloc), ControlLinkAcceptor::default());
+    let plain = plain_session(alloc, SessionState::Mapped, 9);
+    let listener = ListenerSession::new(alloc, plain, ControlLinkAcceptor::default());
     TxnSession::new(alloc, Recorder::new(alloc, listener))
-}
-
-/// A flow that grants credit to the link with handle 1.
-fn granting() -> Frame {
-    Frame::Flow(Flow {
-        next_incoming_id: None,
-        incoming_window: 2,
-        next_outgoing_id: 0,
-        outgoing_window: 2,
-        handle: Some(Handle(1)),
-        delivery_count: None,
-        link_credit: Some(3),
-        available: None,
-        drain: false,
-        echo: false,
-        properties: None,
-    })
 }
 
 /// An attach, a transfer and a flow of a link that nobody allocated.
 fn steps(alloc: Global) -> Result<Steps, NoMemory> {
     let mut steps = Steps::new(alloc);
-    steps.append(attach(Text::from_str(alloc, "a")?, 1, None))?;
+    let name = Text::from_str(alloc, "a")?;
+    steps.append(Step::Frame(Frame::Attach(sender_attach(name, 1, None))))?;
     steps.append(Step::Frame(transfer(true, None)))?;
-    steps.append(Step::Frame(granting()))?;
+    steps.append(Step::Frame(Frame::Flow(flow(Some(Handle(1))))))?;
     Ok(steps)
 }
 

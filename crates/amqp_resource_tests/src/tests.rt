@@ -5,11 +5,11 @@ use amqp_layer::{LayerBelow, OpenSession, SessionInnerError, Tells, Verdict};
 use amqp_recorder::Recorder;
 use amqp_resource::*;
 use amqp_sessions::{HandleDeclare, HandleDischarge};
+use amqp_test_values::{control_attach, disposition, under};
 use amqp_txn_codec::{ControlMessageBody, Declare, Discharge};
 use amqp_txn_types::{
-    Attach, CallNumbers, Coordinator, DeliveryState, Detach, Disposition, Flow, Frame, Frames,
-    Handle, NoMemory, Payload, ReceiverSettleMode, Role, SenderSettleMode, SessionState,
-    TargetArchetype, Text, TransactionError, TransactionId, TransactionalState, Transfer,
+    Attach, CallNumbers, DeliveryState, Detach, Disposition, Flow, Frame, Frames, Handle, NoMemory,
+    Payload, SessionState, Text, TransactionError, TransactionId, Transfer,
 };
 use std::alloc::Global;
 use std::mem::replace;
@@ -38,14 +38,7 @@ fn echoing_none(alloc: Global) -> Unsettling {
 /// The disposition that it gives back.
 fn echo(alloc: Global) -> Result<Frames, NoMemory> {
     let mut given = Frames::new(alloc);
-    given.append(Frame::Disposition(Disposition {
-        role: Role::Receiver,
-        first: 7,
-        last: None,
-        settled: true,
-        state: None,
-        batchable: false,
-    }))?;
+    given.append(Frame::Disposition(disposition(7)))?;
     Ok(given)
 }
 
@@ -146,29 +139,10 @@ impl LayerBelow for Unsettling {
     }
 }
 
-/// The attach of a link with that name, handle and target.
-pub(crate) fn attach(name: Text, handle: u32, target: Option<TargetArchetype>) -> Step {
-    let attach = Attach {
-        name,
-        handle: Handle(handle),
-        role: Role::Sender,
-        snd_settle_mode: SenderSettleMode::Mixed,
-        rcv_settle_mode: ReceiverSettleMode::First,
-        source: None,
-        target,
-        initial_delivery_count: None,
-        max_message_size: None,
-        offered_capabilities: None,
-        desired_capabilities: None,
-        properties: None,
-    };
-    Step::Frame(Frame::Attach(attach))
-}
-
 /// The attach of a control link.
-fn control_attach(alloc: Global) -> Result<Step, NoMemory> {
-    let coordinator = TargetArchetype::Coordinator(Coordinator { capabilities: None });
-    Ok(attach(Text::from_str(alloc, "c")?, 0, Some(coordinator)))
+fn control_link(alloc: Global) -> Result<Step, NoMemory> {
+    let name = Text::from_str(alloc, "c")?;
+    Ok(Step::Frame(Frame::Attach(control_attach(name, 0))))
 }
 
 /// A declare on link 0.
@@ -183,14 +157,6 @@ pub(crate) fn discharge(alloc: Global, txn_id: TransactionId) -> Result<Step, No
     let message = ControlMessageBody::Discharge(Discharge { txn_id, fail: None });
     let payload = message.encode(alloc)?;
     Ok(Step::Control { link: 0, payload })
-}
-
-/// The state of what is under the id.
-fn under(txn_id: TransactionId) -> Option<DeliveryState> {
-    Some(DeliveryState::TransactionalState(TransactionalState {
-        txn_id,
-        outcome: None,
-    }))
 }
 
 /// The transfer of a delivery with an id.
@@ -309,7 +275,7 @@ pub(crate) type Recorded = TxnSession<Recorder<OpenSession>>;
 
 /// Attaches control link 0: what that was answered.
 fn attaches(alloc: Global, session: &mut Recorded, ids: &mut CountIds) -> &'static str {
-    match control_attach(alloc) {
+    match control_link(alloc) {
         Ok(step) => answer_of(session, step, ids),
         Err(_) => "no memory",
     }
@@ -418,7 +384,7 @@ pub(crate) fn begin_transaction<S: LayerBelow>(
     session: &mut TxnSession<S>,
     ids: &mut CountIds,
 ) -> Result<(), NoMemory> {
-    let attached = control_attach(alloc)?;
+    let attached = control_link(alloc)?;
     let _word = answer_of(session, attached, ids);
     let declared = declare(alloc)?;
     let _word = answer_of(session, declared, ids);

@@ -1,43 +1,21 @@
 //! The window of a plain session, through a recorder: asked for after each transfer.
 
-use crate::tests::{answer_of, attach, begin_transaction, discharge, post, transfer};
+use crate::tests::{answer_of, begin_transaction, discharge, post, transfer};
 use amqp_layer::{Answers, LayerBelow};
 use amqp_recorder::Recorder;
 use amqp_resource::*;
-use amqp_sessions::{PlainSession, Relay, Session};
-use amqp_txn_types::{
-    Begin, Handle, Items, OutgoingChannel, ReceiverSettleMode, Role, SessionState, Text,
-};
+use amqp_session_test_values::{plain_session, relay};
+use amqp_sessions::{PlainSession, Session};
+use amqp_test_values::sender_attach;
+use amqp_txn_types::{Frame, Role, SessionState, Text};
 use std::alloc::Global;
 use std::process::Abort;
 
-/// A mapped session with an incoming window of 2.
-pub(crate) fn mapped(alloc: Global) -> PlainSession {
-    let begin = Begin {
-        remote_channel: None,
-        next_outgoing_id: 0,
-        incoming_window: 2,
-        outgoing_window: 2,
-        handle_max: Handle(9),
-        offered_capabilities: None,
-        desired_capabilities: None,
-        properties: None,
-    };
-    PlainSession::new(alloc, OutgoingChannel(0), SessionState::Mapped, begin)
-}
-
-/// Such a session with one link, whose attach is to come.
-fn plain_session(rt: &impl Abort, alloc: Global) -> PlainSession {
-    let mut below = mapped(alloc);
-    let relay = Relay {
-        name: Text::new(alloc),
-        role: Role::Receiver,
-        rcv_settle_mode: ReceiverSettleMode::First,
-        flows: Items::new(alloc),
-        transfers: 0,
-    };
+/// A mapped session with an incoming window of 2 and one link, whose attach is to come.
+fn one_link(rt: &impl Abort, alloc: Global) -> PlainSession {
+    let mut below = plain_session(alloc, SessionState::Mapped, 9);
     let name = Text::from_str(alloc, "a").expect(rt, "an Ok");
-    let allocated = below.allocate_link(name, relay);
+    let allocated = below.allocate_link(name, relay(alloc, Role::Receiver));
     drop(allocated);
     below
 }
@@ -48,10 +26,11 @@ fn windowed(
     alloc: Global,
     ids: &mut CountIds,
 ) -> TxnSession<Recorder<PlainSession>> {
-    let below = plain_session(rt, alloc);
+    let below = one_link(rt, alloc);
     let mut session = TxnSession::new(alloc, Recorder::new(alloc, below));
     let name = Text::from_str(alloc, "a").expect(rt, "an Ok");
-    let _word = answer_of(&mut session, attach(name, 1, None), ids);
+    let attach = Frame::Attach(sender_attach(name, 1, None));
+    let _word = answer_of(&mut session, Step::Frame(attach), ids);
     session
 }
 
