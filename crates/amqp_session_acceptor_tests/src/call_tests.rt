@@ -1,18 +1,19 @@
 //! The calls of a transactional session over a listener, without an engine: each succeeds where
 //! there is memory.
 
-use crate::test_values::{Listening, attach, control_attach, relay, transfer, under};
+use crate::test_values::{Listening, transfer};
 use amqp_acceptors::ControlLinkAcceptor;
 use amqp_ids::CountIds;
 use amqp_layer::{LayerBelow, SessionInnerError, on_incoming_frame};
 use amqp_listener::ListenerSession;
 use amqp_resource::{HandleControlLink, TxnSession, numbered_id};
 use amqp_session_builder::Builder;
+use amqp_session_test_values::relay;
 use amqp_sessions::{HandleDeclare, NameState, Session};
+use amqp_test_values::{control_attach, detach, disposition, flow, is_done, sender_attach, under};
 use amqp_txn_types::{
-    ConnectionStopReason, Detach, Disposition, End, Flow, Frame, Frames, Handle, IncomingChannel,
-    InputHandle, LinkFlow, OutgoingChannel, OutputHandle, Role, SessionState, SessionStopReason,
-    Text,
+    ConnectionStopReason, End, Frame, Frames, Handle, IncomingChannel, InputHandle, LinkFlow,
+    OutgoingChannel, OutputHandle, Role, SessionState, SessionStopReason, Text,
 };
 use std::alloc::Global;
 
@@ -59,7 +60,7 @@ fn a_post_is_kept_by_a_call(rt: HostRuntime) {
 /// The number of a control link that is opened by a call, and how many frames are given back for
 /// it.
 fn opened_by_call(alloc: Global, session: &mut Listening) -> Option<(u64, usize)> {
-    let attach = control_attach(alloc);
+    let attach = control_attach(Text::new(alloc), 0);
     let answer = session.on_incoming_control_attach(&attach);
     drop(attach);
     let (link, given) = answer.ok()?;
@@ -85,7 +86,10 @@ fn a_control_link_is_opened_by_a_call(rt: HostRuntime) {
 fn a_control_link_is_opened_by_its_attach(rt: HostRuntime) {
     let alloc = rt.alloc();
     let mut session = mapped(alloc);
-    let given = heard(&mut session, Frame::Attach(control_attach(alloc)));
+    let given = heard(
+        &mut session,
+        Frame::Attach(control_attach(Text::new(alloc), 0)),
+    );
     let opened = session.links_opened();
     drop(session);
     assert_eq!(rt; given, 2);
@@ -94,13 +98,17 @@ fn a_control_link_is_opened_by_its_attach(rt: HostRuntime) {
 
 /// Allocates a link of this side.
 fn allocate<S: Session>(alloc: Global, session: &mut S) -> Option<OutputHandle> {
-    let answer = session.allocate_link(Text::new(alloc), relay(alloc));
+    let answer = session.allocate_link(Text::new(alloc), relay(alloc, Role::Receiver));
     answer.ok()
 }
 
 /// Allocates a link that the peer attached on handle 5.
 fn allocate_incoming<S: Session>(alloc: Global, session: &mut S) -> Option<OutputHandle> {
-    let answer = session.allocate_incoming_link(Text::new(alloc), relay(alloc), InputHandle(5));
+    let answer = session.allocate_incoming_link(
+        Text::new(alloc),
+        relay(alloc, Role::Receiver),
+        InputHandle(5),
+    );
     answer.ok()
 }
 
@@ -128,60 +136,29 @@ fn links_are_allocated_and_freed(rt: HostRuntime) {
     assert!(rt; found);
 }
 
-fn flow() -> Flow {
-    Flow {
-        next_incoming_id: None,
-        incoming_window: 2,
-        next_outgoing_id: 0,
-        outgoing_window: 2,
-        handle: Some(Handle(5)),
-        delivery_count: None,
-        link_credit: Some(1),
-        available: None,
-        drain: false,
-        echo: false,
-        properties: None,
-    }
-}
-
-fn disposition() -> Disposition {
-    Disposition {
-        role: Role::Sender,
-        first: 0,
-        last: None,
-        settled: true,
-        state: None,
-        batchable: false,
-    }
-}
-
-fn detach(handle: u32) -> Detach {
-    Detach {
-        handle: Handle(handle),
-        closed: true,
-        error: None,
-    }
-}
-
 #[test]
 fn frames_of_a_link_are_heard(rt: HostRuntime) {
     let alloc = rt.alloc();
     let mut session = mapped(alloc);
     assert!(rt; allocate_incoming(alloc, &mut session) == Some(OutputHandle(0)));
-    assert_eq!(rt; heard(&mut session, Frame::Flow(flow())), 0);
+    assert_eq!(rt; heard(&mut session, Frame::Flow(flow(Some(Handle(5))))), 0);
     assert_eq!(rt; heard(&mut session, transfer(None)), 0);
-    assert_eq!(rt; heard(&mut session, Frame::Disposition(disposition())), 0);
+    assert_eq!(rt; heard(&mut session, Frame::Disposition(disposition(0))), 0);
     assert_eq!(rt; heard(&mut session, Frame::Detach(detach(5))), 1);
     drop(session);
 }
 
 /// Whether the session passes what the link with output handle 0 is to send.
 fn passes<S: Session>(alloc: Global, session: &mut S) -> bool {
-    let attach = attach(Text::new(alloc), 0, None);
-    let attached = session.on_outgoing_attach(&attach).is_ok();
+    let attach = sender_attach(Text::new(alloc), 0, None);
+    let attached = is_done(session.on_outgoing_attach(&attach));
     drop(attach);
-    let disposed = session.on_outgoing_disposition(&disposition()).is_ok();
-    let detached = session.on_outgoing_detach(&detach(0)).is_ok();
+    let answer = disposition(0);
+    let disposed = is_done(session.on_outgoing_disposition(&answer));
+    drop(answer);
+    let last = detach(0);
+    let detached = is_done(session.on_outgoing_detach(&last));
+    drop(last);
     attached && disposed && detached
 }
 
@@ -196,8 +173,11 @@ fn grants<S: Session>(session: &mut S) -> bool {
         echo: false,
         properties: None,
     };
-    let granted = session.on_outgoing_flow(granting).is_ok();
-    granted && session.maybe_outgoing_session_flow().is_none()
+    let granted = is_done(session.on_outgoing_flow(granting));
+    let owed = session.maybe_outgoing_session_flow();
+    let none = owed.is_none();
+    drop(owed);
+    granted && none
 }
 
 /// Whether the session sends a transfer that continues a delivery.
@@ -207,7 +187,7 @@ fn continues<S: Session>(session: &mut S) -> bool {
     };
     let answer = session.on_outgoing_transfer(InputHandle(5), &mut transfer, false);
     drop(transfer);
-    answer.is_ok()
+    is_done(answer)
 }
 
 /// Whether the session sends all frames of the link.
@@ -236,9 +216,9 @@ fn keeps_reasons<S: Session>(session: &mut S) -> bool {
 
 /// Whether the session ends, and takes the peer's end.
 fn ends<S: Session>(session: &mut S) -> bool {
-    let sent = session.send_end(None).is_ok();
+    let sent = is_done(session.send_end(None));
     let end = End { error: None };
-    let taken = session.on_incoming_end(IncomingChannel(3), &end).is_ok();
+    let taken = is_done(session.on_incoming_end(IncomingChannel(3), &end));
     drop(end);
     sent && taken && session.local_state() == SessionState::Unmapped
 }

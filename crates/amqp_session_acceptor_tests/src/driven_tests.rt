@@ -2,9 +2,7 @@
 //! commit, one on a handle without a link is vetoed there, a plain frame is handed at once, an id
 //! that isn't live stops it.
 
-use crate::test_values::{
-    Listening, attach, control_attach, incoming, relay, transactional, transfer, under,
-};
+use crate::test_values::{Listening, incoming, transactional, transfer};
 use amqp_endpoints::ListenerSessionEndpoint;
 use amqp_ids::CountIds;
 use amqp_layer::SessionInnerError;
@@ -13,7 +11,11 @@ use amqp_session_acceptor::*;
 use amqp_session_engine::{
     ControlReply, SessionControl, SessionEngine, SessionFrame, SessionFrameBody, Turn,
 };
-use amqp_txn_types::{Frame, InputHandle, OutgoingChannel, Text, TransactionError, TransactionId};
+use amqp_session_test_values::relay;
+use amqp_test_values::{control_attach, sender_attach, under};
+use amqp_txn_types::{
+    Frame, InputHandle, OutgoingChannel, Role, Text, TransactionError, TransactionId,
+};
 use std::alloc::Global;
 
 type Engine = SessionEngine<Listening>;
@@ -116,7 +118,7 @@ fn receiving(alloc: Global) -> Option<Engine> {
     let mut engine = accepted(alloc)?;
     let control = SessionControl::AllocateIncomingLink {
         link_name: Text::new(alloc),
-        link_relay: relay(alloc),
+        link_relay: relay(alloc, Role::Receiver),
         input_handle: InputHandle(5),
     };
     drop(asked(&mut engine, control));
@@ -157,7 +159,7 @@ fn a_post_is_kept_and_committed(rt: HostRuntime) {
 fn a_plain_frame_is_handed(rt: HostRuntime) {
     let alloc = rt.alloc();
     let mut engine = accepted(alloc).expect(&rt, "a session");
-    let link = attach(Text::new(alloc), 1, None);
+    let link = sender_attach(Text::new(alloc), 1, None);
     let given = given_for(&mut engine, Frame::Attach(link));
     let (mut session, outcome) = engine.finish(Ok(()));
     drop(outcome);
@@ -183,7 +185,10 @@ fn an_id_that_is_not_live_stops_the_session(rt: HostRuntime) {
 fn a_control_link_is_opened(rt: HostRuntime) {
     let alloc = rt.alloc();
     let mut engine = accepted(alloc).expect(&rt, "a session");
-    let given = given_for(&mut engine, Frame::Attach(control_attach(alloc)));
+    let given = given_for(
+        &mut engine,
+        Frame::Attach(control_attach(Text::new(alloc), 0)),
+    );
     let opened = engine.session().links_opened();
     drop(engine);
     assert_eq!(rt; given, 2);

@@ -6,36 +6,21 @@ use amqp_links::Poll;
 use amqp_listener::ListenerSession;
 use amqp_resource::TxnSession;
 use amqp_session_acceptor::*;
-use amqp_sessions::{BeginError, PlainSession, Relay};
+use amqp_sessions::{BeginError, PlainSession};
+use amqp_test_values::begin;
 use amqp_txn_types::{
-    Attach, Begin, ConnectionStopReason, Coordinator, DeliveryState, Frame, Handle, LinkFlows,
-    Payload, ReceiverSettleMode, Role, SenderSettleMode, TargetArchetype, Text, TransactionId,
-    TransactionalState, Transfer,
+    Begin, ConnectionStopReason, DeliveryState, Frame, Handle, Payload, Transfer,
 };
 use std::alloc::Global;
 
 /// A session that does transactions, whose peer's attaches wait.
 pub type Listening = TxnSession<ListenerSession<PlainSession>>;
 
-/// The peer's begin.
-fn begin() -> Begin {
-    Begin {
-        remote_channel: None,
-        next_outgoing_id: 0,
-        incoming_window: 2,
-        outgoing_window: 2,
-        handle_max: Handle(7),
-        offered_capabilities: None,
-        desired_capabilities: None,
-        properties: None,
-    }
-}
-
 /// A session that the peer began on its channel 3.
 pub fn incoming() -> IncomingSession {
     IncomingSession {
         channel: 3,
-        begin: begin(),
+        begin: begin(7),
     }
 }
 
@@ -94,38 +79,6 @@ pub fn error_word(error: BeginError) -> &'static str {
     found
 }
 
-/// An attach with that name, handle and target.
-pub fn attach(name: Text, handle: u32, target: Option<TargetArchetype>) -> Attach {
-    Attach {
-        name,
-        handle: Handle(handle),
-        role: Role::Sender,
-        snd_settle_mode: SenderSettleMode::Mixed,
-        rcv_settle_mode: ReceiverSettleMode::First,
-        source: None,
-        target,
-        initial_delivery_count: None,
-        max_message_size: None,
-        offered_capabilities: None,
-        desired_capabilities: None,
-        properties: None,
-    }
-}
-
-/// An attach to a coordinator.
-pub fn control_attach(alloc: Global) -> Attach {
-    let coordinator = TargetArchetype::Coordinator(Coordinator { capabilities: None });
-    attach(Text::new(alloc), 0, Some(coordinator))
-}
-
-/// The state of what is under the id.
-pub fn under(txn_id: TransactionId) -> Option<DeliveryState> {
-    Some(DeliveryState::TransactionalState(TransactionalState {
-        txn_id,
-        outcome: None,
-    }))
-}
-
 /// An unsettled transfer of a delivery on a handle that no link has.
 pub fn transfer(state: Option<DeliveryState>) -> Frame {
     Frame::Transfer {
@@ -143,16 +96,5 @@ pub fn transfer(state: Option<DeliveryState>) -> Frame {
             batchable: false,
         },
         payload: Payload::new(),
-    }
-}
-
-/// What is kept for a receiver of this side.
-pub fn relay(alloc: Global) -> Relay {
-    Relay {
-        name: Text::new(alloc),
-        role: Role::Receiver,
-        rcv_settle_mode: ReceiverSettleMode::First,
-        flows: LinkFlows::new(alloc),
-        transfers: 0,
     }
 }

@@ -4,7 +4,9 @@ use amqp_ids::CountIds;
 use amqp_layer::{Answers, LayerBelow, SessionInnerError, Verdict, take_frame};
 use amqp_session_test_values::{judges, plain_session, relay, takes_work};
 use amqp_sessions::*;
-use amqp_test_values::{begin, detach, disposition, flow, gives, refuses, sender_attach, transfer};
+use amqp_test_values::{
+    begin, detach, disposition, flow, gives, is_done, refuses, sender_attach, transfer,
+};
 use amqp_txn_types::{
     ConnectionStopReason, End, Frame, Frames, Handle, IncomingChannel, InputHandle, LinkFlow,
     LinkFlows, OutputHandle, Payload, Role, SessionState, SessionStopReason, Text,
@@ -23,11 +25,6 @@ fn link_flow(handle: u32) -> LinkFlow {
         echo: false,
         properties: None,
     }
-}
-
-/// Whether the answer is an Ok.
-fn is_done<T: Drop, E: Drop>(answer: Result<T, E>) -> bool {
-    answer.is_ok()
 }
 
 /// Allocates a link of this side's receiver.

@@ -1,6 +1,6 @@
 //! Comparing what was found with what was wanted.
 
-ghost use Rattle.std.specs.Prelude.{◌≡◌};
+ghost use Rattle.std.specs.Prelude.{◌≡◌, is_ok};
 ghost use Rattle.amqp_test_values.specs.Answers.{gives_err, gives_ok};
 
 /// Whether the two are equal.
@@ -36,5 +36,21 @@ pub fn refuses<T: Drop, E: PartialEq + Drop>(answer: Result<T, E>, wanted: E) ->
             false
         }
         Err(found) => found == wanted,
+    }
+}
+
+/// Whether the answer is an Ok.
+pub fn is_done<T: Drop, E: Drop>(answer: Result<T, E>) -> bool
+    ensures { result ≡ is_ok answer }
+{
+    match answer {
+        Ok(value) => {
+            drop(value);
+            true
+        }
+        Err(error) => {
+            drop(error);
+            false
+        }
     }
 }

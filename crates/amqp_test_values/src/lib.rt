@@ -9,7 +9,7 @@ mod errors;
 mod frames;
 mod links;
 
-pub use answers::{gives, refuses, same};
+pub use answers::{gives, is_done, refuses, same};
 pub use errors::{not_allowed, other_text, plain_error, reads};
 pub use frames::{
     begin, control_attach, detach, disposition, flow, sender_attach, transfer, under, work,
