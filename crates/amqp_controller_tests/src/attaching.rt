@@ -1,25 +1,24 @@
-//! Control links that are attached over a plain session.
+//! Control links that are attached over a plain session. The helpers take any session: the contract
+//! of a known one is dear to prove.
 
-use crate::links::put_is;
-use crate::values::{GLOBAL_DECLARE, declaration, id, same};
+use crate::links::assert_put;
+use crate::values::{
+    GLOBAL_DECLARE, declaration, end, id, name, passed, pending, ready, refused, same,
+};
 use amqp_control_calls::{Abandoned, TransactionBase};
-use amqp_endpoints::{Progress, SenderAttachError};
+use amqp_endpoints::SenderAttachError;
 use amqp_layer::LayerBelow;
 use amqp_links::WireSender;
 use amqp_sessions::{AllocLinkError, PlainSession, Session};
-use amqp_transactions::{
-    Attaching, Controller, OwnedDeclaring, OwnedTransaction, TransactionDischarge,
-};
+use amqp_transactions::{Attaching, Controller, OwnedTransaction, TransactionDischarge};
 use amqp_txn_types::{
-    Attach, Begin, Coordinator, DeliveryState, Handle, LinkEnd, NoMemory, OutgoingChannel,
-    OutputHandle, ReceiverSettleMode, Role, SenderSettleMode, SessionState, SessionStopReason,
-    Text, Token,
+    Attach, Begin, Coordinator, DeliveryState, Handle, OutgoingChannel, ReceiverSettleMode, Role,
+    SenderSettleMode, SessionState, SessionStopReason, Token,
 };
-use std::alloc::Global;
+use std::process::Abort;
 use std::sync::Wait;
-use std::test::Fail;
 
-fn session(alloc: Global) -> PlainSession {
+fn session<R: AllocGlobal>(rt: &R) -> PlainSession {
     let begin = Begin {
         remote_channel: None,
         next_outgoing_id: 0,
@@ -30,18 +29,13 @@ fn session(alloc: Global) -> PlainSession {
         desired_capabilities: None,
         properties: None,
     };
-    PlainSession::new(alloc, OutgoingChannel(0), SessionState::Mapped, begin)
+    PlainSession::new(rt.alloc(), OutgoingChannel(0), SessionState::Mapped, begin)
 }
 
-fn name(alloc: Global) -> Result<Text, NoMemory> {
-    Text::from_str(alloc, "c")
-}
-
-/// The peer's attach of the link.
-fn answer(alloc: Global) -> Result<Attach, NoMemory> {
-    let name = name(alloc)?;
-    Ok(Attach {
-        name,
+/// The peer attaches the link.
+fn peer_attaches<S: Session, R: Abort + AllocGlobal>(rt: &R, session: &mut S) {
+    let attach = Attach {
+        name: name(rt),
         handle: Handle(0),
         role: Role::Receiver,
         snd_settle_mode: SenderSettleMode::Unsettled,
@@ -53,269 +47,123 @@ fn answer(alloc: Global) -> Result<Attach, NoMemory> {
         offered_capabilities: None,
         desired_capabilities: None,
         properties: None,
-    })
+    };
+    drop(session.on_incoming_attach(attach).expect(rt, "an Ok"));
 }
 
-/// Whether the peer's attach is taken.
-fn peer_attaches(session: &mut PlainSession, alloc: Global) -> bool {
-    match answer(alloc) {
-        Ok(attach) => session.on_incoming_attach(attach).is_ok(),
-        Err(_) => false,
-    }
-}
-
-/// The control link of that name, whose attach a sender is to send.
-fn attach(session: &mut PlainSession, alloc: Global) -> Option<Attaching> {
-    let Ok(name) = name(alloc) else {
-        return None;
-    };
-    let Ok(begun) = Controller::attach(alloc, session, name) else {
-        return None;
-    };
-    let (attaching, attach) = begun;
-    let sender = attach.role == Role::Sender;
+/// The control link whose attach a sender is to send.
+fn attach<S: Session, R: Abort + AllocGlobal>(rt: &R, session: &mut S) -> Attaching {
+    let begun = Controller::attach(rt.alloc(), session, name(rt));
+    let (attaching, attach) = begun.expect(rt, "an Ok");
+    assert!(rt; attach.role == Role::Sender);
     drop(attach);
-    if sender { Some(attaching) } else { None }
+    attaching
 }
 
-/// Whether a link is pending first, and attached once the peer attached it.
-fn is_attached(
-    session: &mut PlainSession,
-    alloc: Global,
+/// A link is pending first, and attached once the peer attached it; it settles so.
+fn is_attached<S: Session, R: Wait + Abort + AllocGlobal>(
+    rt: &R,
+    session: &mut S,
     attaching: Attaching,
-) -> Option<Controller<WireSender>> {
-    let Progress::Pending(attaching) = attaching.poll(session) else {
-        return None;
-    };
-    if !peer_attaches(session, alloc) {
-        return None;
-    }
-    match attaching.poll(session) {
-        Progress::Ready(Ok(controller)) => Some(controller),
-        Progress::Ready(Err(_)) | Progress::Pending(_) => None,
-    }
-}
-
-/// Whether the controller has that end of its link.
-fn has_end<R: Wait>(rt: &R, controller: &Controller<WireSender>, want: LinkEnd) -> bool {
+    mode: SenderSettleMode,
+) {
+    let attaching = pending(rt, attaching.poll(session));
+    peer_attaches(rt, session);
+    let controller = ready(rt, attaching.poll(session)).expect(rt, "an Ok");
+    let want = end(rt, Role::Sender, mode);
     let link = controller.link(rt);
-    let equal = *link.end() == want;
+    assert!(rt; *link.end() == want);
     drop(link);
     drop(want);
-    equal
-}
-
-/// The first end of a link of that name, which settles so.
-fn end_of(name: Text, mode: SenderSettleMode) -> LinkEnd {
-    LinkEnd {
-        name,
-        role: Role::Sender,
-        output: OutputHandle(0),
-        snd_settle_mode: mode,
-        rcv_settle_mode: ReceiverSettleMode::First,
-    }
-}
-
-/// Whether the link that is waited for gets that end.
-fn gets_end<R: Wait>(
-    rt: &R,
-    alloc: Global,
-    session: &mut PlainSession,
-    attaching: Attaching,
-    want: LinkEnd,
-) -> bool {
-    match is_attached(session, alloc, attaching) {
-        Some(controller) => has_end(rt, &controller, want),
-        None => {
-            drop(want);
-            false
-        }
-    }
-}
-
-fn attaches<R: Wait>(rt: &R, alloc: Global) -> Result<bool, NoMemory> {
-    let want = end_of(name(alloc)?, SenderSettleMode::Unsettled);
-    let mut session = session(alloc);
-    let attached = match attach(&mut session, alloc) {
-        Some(attaching) => gets_end(rt, alloc, &mut session, attaching, want),
-        None => false,
-    };
-    drop(session);
-    Ok(attached)
+    drop(controller);
 }
 
 #[test]
-fn a_control_link_is_attached(rt: HostRuntime) -> Result<(), Fail> {
-    assert!(rt; attaches(&rt, rt.alloc())?);
-    Ok(())
+fn a_control_link_is_attached(rt: HostRuntime) {
+    let mut session = session(&rt);
+    let attaching = attach(&rt, &mut session);
+    is_attached(&rt, &mut session, attaching, SenderSettleMode::Unsettled);
+    drop(session);
 }
 
-/// The control link of that name that a builder asks for, which is sent settled.
-fn built(session: &mut PlainSession, alloc: Global) -> Option<Attaching> {
-    let Ok(name) = name(alloc) else {
-        return None;
-    };
-    let builder = Controller::builder(alloc)
-        .name(name)
+/// The control link that a builder asks for, which is sent settled.
+fn built<S: Session, R: Abort + AllocGlobal>(rt: &R, session: &mut S) -> Attaching {
+    let builder = Controller::builder(rt.alloc())
+        .name(name(rt))
         .coordinator(Coordinator::default())
         .sender_settle_mode(SenderSettleMode::Settled);
-    match builder.attach(session) {
-        Ok((attaching, _)) => Some(attaching),
-        Err(_) => None,
-    }
-}
-
-fn builds<R: Wait>(rt: &R, alloc: Global) -> Result<bool, NoMemory> {
-    let want = end_of(name(alloc)?, SenderSettleMode::Settled);
-    let mut session = session(alloc);
-    let attached = match built(&mut session, alloc) {
-        Some(attaching) => gets_end(rt, alloc, &mut session, attaching, want),
-        None => false,
-    };
-    drop(session);
-    Ok(attached)
+    let (attaching, attach) = builder.attach(session).expect(rt, "an Ok");
+    drop(attach);
+    attaching
 }
 
 #[test]
-fn a_control_link_is_built(rt: HostRuntime) -> Result<(), Fail> {
-    assert!(rt; builds(&rt, rt.alloc())?);
-    Ok(())
+fn a_control_link_is_built(rt: HostRuntime) {
+    let mut session = session(&rt);
+    let attaching = built(&rt, &mut session);
+    is_attached(&rt, &mut session, attaching, SenderSettleMode::Settled);
+    drop(session);
 }
 
-fn refuses_twice(alloc: Global) -> Result<bool, NoMemory> {
-    let mut session = session(alloc);
-    let first = name(alloc)?;
-    let second = name(alloc)?;
-    let attached = Controller::attach(alloc, &mut session, first).is_ok();
-    let again = Controller::attach_with_coordinator(
-        alloc,
-        &mut session,
-        second,
-        Coordinator::default(),
-    );
-    let refused = SenderAttachError::Alloc(AllocLinkError::DuplicatedLinkName);
-    let so = match again {
-        Err(error) => same(error, refused),
-        Ok(_) => {
-            drop(refused);
-            false
-        }
-    };
-    drop(session);
-    Ok(attached && so)
+/// A second link of a name is refused.
+fn attaches_once<S: Session, R: Abort + AllocGlobal>(rt: &R, session: &mut S) {
+    drop(Controller::attach(rt.alloc(), session, name(rt)).expect(rt, "an Ok"));
+    let coordinator = Coordinator::default();
+    let again = Controller::attach_with_coordinator(rt.alloc(), session, name(rt), coordinator);
+    let want = SenderAttachError::Alloc(AllocLinkError::DuplicatedLinkName);
+    assert!(rt; same(refused(rt, again), want));
 }
 
 #[test]
-fn a_name_is_attached_once(rt: HostRuntime) -> Result<(), Fail> {
-    assert!(rt; refuses_twice(rt.alloc())?);
-    Ok(())
+fn a_name_is_attached_once(rt: HostRuntime) {
+    let mut session = session(&rt);
+    attaches_once(&rt, &mut session);
+    drop(session);
 }
 
-/// Whether the poll of an attach ends with the stop of its session.
-fn is_stopped(session: &mut PlainSession, alloc: Global) -> bool {
-    let Some(attaching) = attach(session, alloc) else {
-        return false;
-    };
+/// The stop of the session ends the attach.
+fn is_stopped<S: Session, R: Abort + AllocGlobal>(rt: &R, session: &mut S) {
+    let attaching = attach(rt, session);
     session.set_session_stop_reason(SessionStopReason::Ended);
     let want = SenderAttachError::SessionStopped(SessionStopReason::Ended);
-    match attaching.poll(session) {
-        Progress::Ready(Err(error)) => same(error, want),
-        Progress::Ready(Ok(_)) | Progress::Pending(_) => {
-            drop(want);
-            false
-        }
-    }
-}
-
-fn stops(alloc: Global) -> bool {
-    let mut session = session(alloc);
-    let told = is_stopped(&mut session, alloc);
-    drop(session);
-    told
+    assert!(rt; same(refused(rt, ready(rt, attaching.poll(session))), want));
 }
 
 #[test]
-fn a_stopped_session_ends_the_attach(rt: HostRuntime) -> Result<(), Fail> {
-    assert!(rt; stops(rt.alloc()));
-    Ok(())
+fn a_stopped_session_ends_the_attach(rt: HostRuntime) {
+    let mut session = session(&rt);
+    is_stopped(&rt, &mut session);
+    drop(session);
 }
 
-/// Whether the transaction of an attached link is the one that was declared.
-fn declares<R: Wait>(rt: &R, transaction: OwnedTransaction<WireSender>) -> bool {
-    let named = *transaction.txn_id() == id();
-    let gone = same(transaction.abandon(rt), Abandoned::Unanswered);
-    named && gone
-}
-
-/// Whether an owned transaction whose link was attached is pending with one put, and then declared.
-fn is_declared<R: Wait>(
-    rt: &R,
-    alloc: Global,
-    session: &mut PlainSession,
-    declaring: OwnedDeclaring,
-) -> bool {
-    let Some(controller) = declaring.controller() else {
-        return false;
-    };
+/// The only message of the controller's link is the declare of 010203; it is answered.
+fn answers_declare<R: Wait + Abort + AllocGlobal>(rt: &R, controller: &Controller<WireSender>) {
     let mut link = controller.link(rt);
-    let one = link.put().len() == 1 && put_is(&link, alloc, &GLOBAL_DECLARE);
+    assert!(rt; link.put().len() == 1);
+    assert_put(rt, &link, &GLOBAL_DECLARE);
     let state = DeliveryState::Declared(declaration());
-    let awaited = link.answer(Token(0), Ok(Some(state)));
+    assert!(rt; link.answer(Token(0), Ok(Some(state))));
     drop(link);
-    match declaring.poll(rt, session) {
-        Progress::Ready(Ok(transaction)) => declares(rt, transaction) && one && awaited,
-        Progress::Ready(Err(_)) | Progress::Pending(_) => false,
-    }
 }
 
-/// Whether the poll that finds the link attached is pending, and what follows goes as it must.
-fn puts_declare<R: Wait>(
-    rt: &R,
-    alloc: Global,
-    session: &mut PlainSession,
-    declaring: OwnedDeclaring,
-) -> bool {
-    match declaring.poll(rt, session) {
-        Progress::Pending(declaring) => is_declared(rt, alloc, session, declaring),
-        Progress::Ready(Ok(transaction)) => {
-            drop(declares(rt, transaction));
-            false
-        }
-        Progress::Ready(Err(_)) => false,
-    }
-}
-
-/// The owned transaction 010203 that waits for its link.
-fn declare(session: &mut PlainSession, alloc: Global) -> Option<OwnedDeclaring> {
-    let Ok(name) = name(alloc) else {
-        return None;
-    };
-    let Ok(begun) = OwnedTransaction::declare(alloc, session, name, Some(id())) else {
-        return None;
-    };
-    let (declaring, _) = begun;
-    Some(declaring)
-}
-
-/// Whether an owned transaction is declared once its link is attached.
-fn is_owned<R: Wait>(rt: &R, session: &mut PlainSession, alloc: Global) -> bool {
-    let Some(declaring) = declare(session, alloc) else {
-        return false;
-    };
-    let unattached = declaring.controller().is_none();
-    let taken = peer_attaches(session, alloc);
-    puts_declare(rt, alloc, session, declaring) && unattached && taken
-}
-
-fn owns<R: Wait>(rt: &R, alloc: Global) -> bool {
-    let mut session = session(alloc);
-    let owned = is_owned(rt, &mut session, alloc);
-    drop(session);
-    owned
+/// An owned transaction waits for its link, is pending with one put once that is attached, and then
+/// declared.
+fn is_declared<S: Session, R: Wait + Abort + AllocGlobal>(rt: &R, session: &mut S) {
+    let begun = OwnedTransaction::declare(rt.alloc(), session, name(rt), Some(id()));
+    let (declaring, attach) = begun.expect(rt, "an Ok");
+    drop(attach);
+    assert!(rt; declaring.controller().is_none());
+    peer_attaches(rt, session);
+    let declaring = pending(rt, declaring.poll(rt, session));
+    answers_declare(rt, declaring.controller().expect(rt, "a controller"));
+    let transaction = passed(rt, ready(rt, declaring.poll(rt, session)));
+    assert!(rt; *transaction.txn_id() == id());
+    assert!(rt; same(transaction.abandon(rt), Abandoned::Unanswered));
 }
 
 #[test]
-fn an_owned_transaction_is_declared_once_its_link_is_attached(rt: HostRuntime) -> Result<(), Fail> {
-    assert!(rt; owns(&rt, rt.alloc()));
-    Ok(())
+fn an_owned_transaction_is_declared_once_its_link_is_attached(rt: HostRuntime) {
+    let mut session = session(&rt);
+    is_declared(&rt, &mut session);
+    drop(session);
 }

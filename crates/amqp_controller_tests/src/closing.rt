@@ -1,89 +1,61 @@
 //! Controllers that are closed.
 
-use crate::links::{LateLink, Lent, counting, counts, late};
-use crate::values::same;
-use amqp_links::DetachError;
+use crate::links::{Lent, assert_counts, counting, late};
+use crate::values::{passed, plain_error, refused, same};
+use amqp_links::{DetachError, SenderLink};
 use amqp_transactions::Controller;
-use amqp_txn_types::{AmqpError, Error, ErrorCondition, NoMemory};
-use std::alloc::Global;
+use amqp_txn_types::{AmqpError, Error, ErrorCondition};
+use std::process::Abort;
 use std::sync::Wait;
-use std::test::Fail;
 
 fn internal_error() -> Error {
-    Error {
-        condition: ErrorCondition::AmqpError(AmqpError::InternalError),
-        description: None,
-        info: None,
-    }
+    plain_error(ErrorCondition::AmqpError(AmqpError::InternalError))
 }
 
-/// Whether a close is refused with the controller handed back, after one close.
-fn refused_row<R: Wait>(rt: &R, alloc: Global, error: Option<Error>) -> Result<bool, NoMemory> {
-    let controller = counting(alloc, &[1])?;
-    let closed = match error {
+/// Closes a controller, with an error where there is one.
+fn close<L: SenderLink + Drop, R: Wait>(
+    rt: &R,
+    controller: Controller<L>,
+    error: Option<Error>,
+) -> Result<(), (Controller<L>, DetachError)> {
+    match error {
         None => controller.close(rt),
         Some(error) => controller.close_with_error(rt, error),
-    };
-    match closed {
-        Ok(()) => Ok(false),
-        Err((controller, fault)) => {
-            let refused = same(fault, DetachError::IllegalState);
-            Ok(refused && counts(rt, &controller) == (0, 0, 1))
-        }
     }
+}
+
+/// A close is refused with the controller handed back, after one close.
+fn refused_row<R: Wait + Abort + AllocGlobal>(rt: &R, error: Option<Error>) {
+    let (controller, fault) = refused(rt, close(rt, counting(rt, &[1]), error));
+    assert!(rt; same(fault, DetachError::IllegalState));
+    assert_counts(rt, &controller, (0, 0, 1));
+    drop(controller);
 }
 
 #[test]
-fn a_refused_close_hands_the_controller_back(rt: HostRuntime) -> Result<(), Fail> {
-    let with_error = refused_row(&rt, rt.alloc(), Some(internal_error()))?;
-    let without = refused_row(&rt, rt.alloc(), None)?;
-    assert!(rt; with_error && without);
-    Ok(())
+fn a_refused_close_hands_the_controller_back(rt: HostRuntime) {
+    refused_row(&rt, Some(internal_error()));
+    refused_row(&rt, None);
 }
 
-/// Whether a lent link is closed so.
-fn closes<R: Wait>(rt: &R, alloc: Global, link: &mut LateLink, error: Option<Error>) -> bool {
-    let controller = Controller::new(alloc, Lent { link });
-    match error {
-        None => controller.close(rt).is_ok(),
-        Some(error) => controller.close_with_error(rt, error).is_ok(),
-    }
-}
-
-/// Whether the link was closed once, with that error.
-fn closed_with(link: &LateLink, want: Option<Error>) -> bool {
-    let once = link.wire.closes().len() == 1;
-    let equal = match link.wire.closes().as_slice().last() {
-        None => false,
-        Some(error) => *error == want,
-    };
+/// A lent link is closed once, with the error that the close names.
+fn close_row<R: Wait + Abort + AllocGlobal>(rt: &R, error: Option<Error>, want: Option<Error>) {
+    let mut link = late(rt, None, 0);
+    let controller = Controller::new(rt.alloc(), Lent { link: &mut link });
+    passed(rt, close(rt, controller, error));
+    assert!(rt; link.wire.closes().len() == 1);
+    let found = link.wire.closes().as_slice().last().expect(rt, "a close");
+    assert!(rt; *found == want);
     drop(want);
-    once && equal
-}
-
-fn close_row<R: Wait>(rt: &R, alloc: Global) -> Result<bool, NoMemory> {
-    let mut link = late(alloc, None, 0, &[])?;
-    let closed = closes(rt, alloc, &mut link, None) && closed_with(&link, None);
     drop(link);
-    Ok(closed)
 }
 
 #[test]
-fn a_close_names_no_error(rt: HostRuntime) -> Result<(), Fail> {
-    assert!(rt; close_row(&rt, rt.alloc())?);
-    Ok(())
-}
-
-fn close_with_error_row<R: Wait>(rt: &R, alloc: Global) -> Result<bool, NoMemory> {
-    let mut link = late(alloc, None, 0, &[])?;
-    let closed = closes(rt, alloc, &mut link, Some(internal_error()))
-        && closed_with(&link, Some(internal_error()));
-    drop(link);
-    Ok(closed)
+fn a_close_names_no_error(rt: HostRuntime) {
+    close_row(&rt, None, None);
 }
 
 #[test]
-fn a_close_names_its_error(rt: HostRuntime) -> Result<(), Fail> {
-    assert!(rt; close_with_error_row(&rt, rt.alloc())?);
-    Ok(())
+fn a_close_names_its_error(rt: HostRuntime) {
+    close_row(&rt, Some(internal_error()), Some(internal_error()));
 }

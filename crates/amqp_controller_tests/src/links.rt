@@ -6,8 +6,8 @@ use amqp_links::{
     DetachError, LinkStateError, Poll, SendError, Sendable, SenderLink, Sent, WireSender,
 };
 use amqp_transactions::Controller;
-use amqp_txn_types::{Declared, DeliveryState, Error, NoMemory, Payload, Token};
-use std::alloc::Global;
+use amqp_txn_types::{Declared, DeliveryState, Error, Payload, Token};
+use std::process::Abort;
 use std::sync::Wait;
 
 /// A link that counts its looks and closes, beside what its wire lists.
@@ -117,78 +117,71 @@ impl SenderLink for LateLink {
 }
 
 /// A controller over a counting link, of whose calls those of the numbers are to fail.
-pub fn counting(alloc: Global, failing: &[u64]) -> Result<Controller<CountingLink>, NoMemory> {
+pub fn counting<R: Abort + AllocGlobal>(rt: &R, failing: &[u64]) -> Controller<CountingLink> {
     let link = CountingLink {
-        wire: wire(alloc, failing)?,
+        wire: wire(rt, failing),
         looks: 0,
         closes: 0,
     };
-    Ok(Controller::new(alloc, link))
+    Controller::new(rt.alloc(), link)
 }
 
-/// A late link, of whose sends and closes those of the numbers are to fail.
-pub fn late(
-    alloc: Global,
-    declared: Option<Declared>,
-    pending: u32,
-    failing: &[u64],
-) -> Result<LateLink, NoMemory> {
-    Ok(LateLink {
-        wire: wire(alloc, failing)?,
+/// A late link.
+pub fn late<R: Abort + AllocGlobal>(rt: &R, declared: Option<Declared>, pending: u32) -> LateLink {
+    LateLink {
+        wire: wire(rt, &[]),
         declared,
         pending,
-    })
+    }
 }
 
-/// How often was put, looked and closed.
-pub fn counts<R: Wait>(rt: &R, controller: &Controller<CountingLink>) -> (usize, u32, u32) {
+/// It was put, looked and closed so often.
+pub fn assert_counts<R: Wait + Abort>(
+    rt: &R,
+    controller: &Controller<CountingLink>,
+    want: (usize, u32, u32),
+) {
     let link = controller.link(rt);
-    (link.wire.put().len(), link.looks, link.closes)
+    let counts = (link.wire.put().len(), link.looks, link.closes);
+    drop(link);
+    assert!(rt; counts == want);
 }
 
-/// Fills in the answer to the message of that number, and says whether it was awaited.
-pub fn fills<R: Wait>(
+/// Fills in the answer to the message of that number, which is awaited.
+pub fn fill<R: Wait + Abort>(
     rt: &R,
     controller: &Controller<CountingLink>,
     number: u64,
     state: DeliveryState,
-) -> bool {
+) {
     let mut link = controller.link(rt);
-    link.wire.answer(Token(number), Ok(Some(state)))
+    let awaited = link.wire.answer(Token(number), Ok(Some(state)));
+    drop(link);
+    assert!(rt; awaited);
 }
 
-/// Whether the last message that was put is that, unsettled, without a state, not batchable.
-pub fn put_is(wire: &WireSender, alloc: Global, octets: &[u8]) -> bool {
-    let Ok(payload) = Payload::from_slice(alloc, octets) else {
-        return false;
-    };
+/// The last message that was put is that, unsettled, without a state, not batchable.
+pub fn assert_put<R: Abort + AllocGlobal>(rt: &R, wire: &WireSender, octets: &[u8]) {
     let want = Sendable {
-        payload,
+        payload: Payload::from_slice(rt.alloc(), octets).expect(rt, "an Ok"),
         message_format: 0,
         settled: Some(false),
     };
-    let equal = match wire.put().as_slice().last() {
-        None => false,
-        Some(message) => {
-            message.sendable == want
-                && message.state.is_none()
-                && !message.batchable
-                && message.sent != Sent::Settled
-        }
-    };
+    let message = wire.put().as_slice().last().expect(rt, "a message");
+    assert!(rt; message.sendable == want);
+    assert!(rt; message.state.is_none() && !message.batchable && message.sent != Sent::Settled);
     drop(want);
-    equal
 }
 
-/// Whether the last message that was put on a controller's link is that.
-pub fn last_is<R: Wait>(
+/// The last message that was put on a controller's link is that.
+pub fn assert_last<R: Wait + Abort + AllocGlobal>(
     rt: &R,
-    alloc: Global,
     controller: &Controller<CountingLink>,
     octets: &[u8],
-) -> bool {
+) {
     let link = controller.link(rt);
-    put_is(&link.wire, alloc, octets)
+    assert_put(rt, &link.wire, octets);
+    drop(link);
 }
 
 /// What a link says of a call that is to fail.

@@ -1,6 +1,6 @@
 //! Posts and retirements under a transaction.
 
-use crate::values::{end, id, same, wire};
+use crate::values::{end, id, pending, same, wire};
 use amqp_control_calls::TransactionBase;
 use amqp_endpoints::Progress;
 use amqp_links::{
@@ -8,14 +8,14 @@ use amqp_links::{
     Sendable, WireReceiver, WireSender,
 };
 use amqp_posting::{
-    FromDeliveryFailure, FromDeliveryState, PostError, PostResult, TransactionPosting,
+    DeliveryFut, FromDeliveryFailure, FromDeliveryState, PostError, PostResult, TransactionPosting,
     TransactionRetirement,
 };
 use amqp_txn_types::{
-    Binary, DeliveryState, Modified, Outcome, Payload, Role, SessionStopReason, Token,
-    TransactionId, TransactionalState,
+    Binary, DeliveryState, Modified, Outcome, Payload, Role, SenderSettleMode, SessionStopReason,
+    Token, TransactionId, TransactionalState,
 };
-use std::test::Fail;
+use std::process::Abort;
 
 /// A transaction that is only an id.
 #[derive(Drop)]
@@ -48,26 +48,26 @@ fn sendable(settled: Option<bool>) -> Sendable {
     }
 }
 
-/// How many posts of each kind were put.
-fn posts(sender: &mut WireSender) -> [bool; 4] {
-    let message = sendable(None);
-    let put = [
-        transaction().post(sender, sendable(None)).is_ok(),
-        transaction().post_batchable(sender, sendable(None)).is_ok(),
-        transaction().post_ref(sender, &message).is_ok(),
-        transaction().post_batchable_ref(sender, &message).is_ok(),
-    ];
-    drop(message);
-    put
+/// A post that was put.
+fn posted<R: Abort>(rt: &R, sender: &mut WireSender, settled: Option<bool>) -> DeliveryFut {
+    let post = transaction().post(sender, sendable(settled));
+    post.expect(rt, "an Ok")
 }
 
 #[test]
-fn messages_are_posted(rt: HostRuntime) -> Result<(), Fail> {
-    let mut sender = wire(rt.alloc(), &[])?;
-    let put = posts(&mut sender) == [true; 4] && sender.put().len() == 4;
+fn messages_are_posted(rt: HostRuntime) {
+    let mut sender = wire(&rt, &[]);
+    let message = sendable(None);
+    drop(posted(&rt, &mut sender, None));
+    let post = transaction().post_batchable(&mut sender, sendable(None));
+    drop(post.expect(&rt, "an Ok"));
+    let post = transaction().post_ref(&mut sender, &message);
+    drop(post.expect(&rt, "an Ok"));
+    let post = transaction().post_batchable_ref(&mut sender, &message);
+    drop(post.expect(&rt, "an Ok"));
+    assert!(rt; sender.put().len() == 4);
+    drop(message);
     drop(sender);
-    assert!(rt; put);
-    Ok(())
 }
 
 /// The answer to a post under another transaction.
@@ -78,123 +78,81 @@ fn released() -> DeliveryState {
     })
 }
 
-/// Whether a post is pending, and then released.
-fn is_released(sender: &mut WireSender) -> bool {
-    let Ok(post) = transaction().post(sender, sendable(None)) else {
-        return false;
-    };
-    let Progress::Pending(post) = post.poll(sender) else {
-        return false;
-    };
-    let awaited = sender.answer(Token(0), Ok(Some(released())));
-    awaited && same(post.poll(sender), Progress::Ready(Ok(Outcome::Released)))
+#[test]
+fn a_post_is_answered(rt: HostRuntime) {
+    let mut sender = wire(&rt, &[]);
+    let post = posted(&rt, &mut sender, None);
+    let post = pending(&rt, post.poll(&mut sender));
+    assert!(rt; sender.answer(Token(0), Ok(Some(released()))));
+    let want = Progress::Ready(Ok(Outcome::Released));
+    assert!(rt; same(post.poll(&mut sender), want));
+    drop(sender);
+}
+
+/// The link's third call fails at the second poll: each poll looks once.
+#[test]
+fn each_poll_of_a_post_looks_once(rt: HostRuntime) {
+    let mut sender = wire(&rt, &[3]);
+    let post = posted(&rt, &mut sender, None);
+    let post = pending(&rt, post.poll(&mut sender));
+    let fault = PostError::LinkStateError(LinkStateError::IllegalState);
+    assert!(rt; same(post.poll(&mut sender), Progress::Ready(Err(fault))));
+    drop(sender);
 }
 
 #[test]
-fn a_post_is_answered(rt: HostRuntime) -> Result<(), Fail> {
-    let mut sender = wire(rt.alloc(), &[])?;
-    let done = is_released(&mut sender);
-    drop(sender);
-    assert!(rt; done);
-    Ok(())
-}
-
-/// Whether the link's third call fails at the second poll of a post: each poll looks once.
-fn looks_once(sender: &mut WireSender) -> bool {
-    let Ok(post) = transaction().post(sender, sendable(None)) else {
-        return false;
-    };
-    let Progress::Pending(post) = post.poll(sender) else {
-        return false;
-    };
-    let fault = LinkStateError::IllegalState;
-    let want = Progress::Ready(Err(PostError::LinkStateError(fault)));
-    same(post.poll(sender), want)
-}
-
-#[test]
-fn each_poll_of_a_post_looks_once(rt: HostRuntime) -> Result<(), Fail> {
-    let mut sender = wire(rt.alloc(), &[3])?;
-    let once = looks_once(&mut sender);
-    drop(sender);
-    assert!(rt; once);
-    Ok(())
-}
-
-/// Whether a post that was settled is accepted at its first poll.
-fn is_accepted(sender: &mut WireSender) -> bool {
-    let Ok(post) = transaction().post(sender, sendable(Some(true))) else {
-        return false;
-    };
+fn a_post_that_was_settled_is_accepted(rt: HostRuntime) {
+    let mut sender = wire(&rt, &[]);
+    let post = posted(&rt, &mut sender, Some(true));
     let want = Progress::Ready(Ok(Outcome::Accepted));
-    same(post.poll(sender), want)
-}
-
-#[test]
-fn a_post_that_was_settled_is_accepted(rt: HostRuntime) -> Result<(), Fail> {
-    let mut sender = wire(rt.alloc(), &[])?;
-    let done = is_accepted(&mut sender);
+    assert!(rt; same(post.poll(&mut sender), want));
     drop(sender);
-    assert!(rt; done);
-    Ok(())
 }
 
-/// How many outcomes of each kind were put.
-fn retires(recver: &mut WireReceiver, info: &DeliveryInfo) -> [bool; 4] {
+/// An outcome of each kind is put.
+fn retires<R: Abort>(rt: &R, recver: &mut WireReceiver, info: &DeliveryInfo) {
     let modified = Modified {
         delivery_failed: None,
         undeliverable_here: None,
         message_annotations: None,
     };
-    [
-        transaction().accept(recver, info).is_ok(),
-        transaction().reject(recver, info, None).is_ok(),
-        transaction().release(recver, info).is_ok(),
-        transaction().modify(recver, info, modified).is_ok(),
-    ]
+    transaction().accept(recver, info).expect(rt, "an Ok");
+    transaction().reject(recver, info, None).expect(rt, "an Ok");
+    transaction().release(recver, info).expect(rt, "an Ok");
+    transaction()
+        .modify(recver, info, modified)
+        .expect(rt, "an Ok");
+    assert!(rt; recver.put().len() == 4);
 }
 
 #[test]
-fn deliveries_are_retired(rt: HostRuntime) -> Result<(), Fail> {
-    let end = end(rt.alloc(), Role::Receiver)?;
-    let delivery_tag = Binary::from_slice(rt.alloc(), b"\x07")?;
+fn deliveries_are_retired(rt: HostRuntime) {
     let info = DeliveryInfo {
         delivery_id: 7,
-        delivery_tag,
+        delivery_tag: Binary::from_slice(rt.alloc(), b"\x07").expect(&rt, "an Ok"),
         rcv_settle_mode: None,
     };
+    let end = end(&rt, Role::Receiver, SenderSettleMode::Mixed);
     let mut recver = WireReceiver::new(rt.alloc(), end);
-    let put = retires(&mut recver, &info) == [true; 4] && recver.put().len() == 4;
+    retires(&rt, &mut recver, &info);
     drop(recver);
     drop(info);
-    assert!(rt; put);
-    Ok(())
 }
 
-/// Whether each failure makes the result that it must.
-fn failures() -> [bool; 4] {
-    let stopped = LinkStateError::SessionStopped(SessionStopReason::Ended);
-    [
-        same(
-            PostResult::from_lost_answer(),
-            Err(PostError::LinkStateError(LinkStateError::IllegalState)),
-        ),
-        same(
-            PostResult::from_session_stop_reason(SessionStopReason::Ended),
-            Err(PostError::LinkStateError(stopped)),
-        ),
-        same(
-            PostResult::from_none(),
-            Err(PostError::IllegalDeliveryState),
-        ),
-        same(
-            PostResult::from_delivery_state(DeliveryState::Accepted),
-            Err(PostError::IllegalDeliveryState),
-        ),
-    ]
+/// Whether a result is that error.
+fn is_error(found: PostResult, want: PostError) -> bool {
+    same(found, Err(want))
 }
 
 #[test]
 fn results_that_are_no_outcome(rt: HostRuntime) {
-    assert!(rt; failures() == [true; 4]);
+    let lost = PostError::LinkStateError(LinkStateError::IllegalState);
+    assert!(rt; is_error(PostResult::from_lost_answer(), lost));
+    let ended = SessionStopReason::Ended;
+    let stopped = PostError::LinkStateError(LinkStateError::SessionStopped(ended));
+    let found = PostResult::from_session_stop_reason(SessionStopReason::Ended);
+    assert!(rt; is_error(found, stopped));
+    assert!(rt; is_error(PostResult::from_none(), PostError::IllegalDeliveryState));
+    let found = PostResult::from_delivery_state(DeliveryState::Accepted);
+    assert!(rt; is_error(found, PostError::IllegalDeliveryState));
 }

@@ -1,18 +1,17 @@
 //! The steps of a transaction's end, borrowed or owned.
 
-use crate::links::{CountingLink, counts, fills, last_is};
-use crate::values::{COMMIT, ROLLBACK, same, unknown_id};
+use crate::links::{CountingLink, assert_counts, assert_last, fill};
+use crate::values::{COMMIT, ROLLBACK, passed, pending, ready, refused, same, unknown_id};
 use amqp_control_calls::Abandoned;
-use amqp_endpoints::Progress;
 use amqp_transactions::{
     Controller, Discharging, OwnedTransaction, Transaction, TransactionDischarge,
 };
 use amqp_txn_types::DeliveryState;
-use std::alloc::Global;
+use std::process::Abort;
 use std::sync::Wait;
 
 /// A transaction over a counting link.
-pub trait Over {
+pub trait Over: TransactionDischarge {
     fn over(&self) -> &Controller<CountingLink>;
 
     fn set_trials(&mut self, trials: u32);
@@ -38,245 +37,90 @@ impl Over for OwnedTransaction<CountingLink> {
     }
 }
 
-/// Whether giving it up with that many trials ends so.
-pub fn gives_up<T: TransactionDischarge + Over, R: Wait>(
-    rt: &R,
-    mut value: T,
-    trials: u32,
-    want: Abandoned,
-) -> bool {
+/// Giving it up with that many trials ends so.
+pub fn gives_up<T: Over, R: Wait + Abort>(rt: &R, mut value: T, trials: u32, want: Abandoned) {
     value.set_trials(trials);
-    same(value.abandon(rt), want)
-}
-
-/// Gives up a value that should have come to another end.
-pub fn lets_go<T: TransactionDischarge, R: Wait>(rt: &R, value: T) {
-    drop(value.abandon(rt));
-}
-
-/// Whether the poll of the discharge is over with an Ok.
-fn is_done<T: TransactionDischarge, R: Wait>(rt: &R, value: &mut T, waiting: T::Waiting) -> bool {
-    matches!(value.poll_discharge(rt, waiting), Progress::Ready(Ok(())))
+    assert!(rt; same(value.abandon(rt), want));
 }
 
 /// A commit that is accepted marks the value: one put and no look; a poll without an answer,
 /// pending, one look; then the answer, one look more.
-fn is_committed<T: TransactionDischarge + Over, R: Wait>(
-    rt: &R,
-    alloc: Global,
-    value: &mut T,
-) -> bool {
-    let Ok(waiting) = value.discharge(rt, false) else {
-        return false;
-    };
-    let put = counts(rt, value.over()) == (2, 2, 0) && last_is(rt, alloc, value.over(), &COMMIT);
-    let Progress::Pending(waiting) = value.poll_discharge(rt, waiting) else {
-        return false;
-    };
-    put && is_marked(rt, value, waiting)
+fn commits<T: Over, R: Wait + Abort + AllocGlobal>(rt: &R, value: &mut T) {
+    let waiting = passed(rt, value.discharge(rt, false));
+    assert_counts(rt, value.over(), (2, 2, 0));
+    assert_last(rt, value.over(), &COMMIT);
+    let waiting = pending(rt, value.poll_discharge(rt, waiting));
+    assert_counts(rt, value.over(), (2, 3, 0));
+    assert!(rt; !value.is_discharged());
+    fill(rt, value.over(), 1, DeliveryState::Accepted);
+    passed(rt, ready(rt, value.poll_discharge(rt, waiting)));
+    assert_counts(rt, value.over(), (2, 4, 0));
+    assert!(rt; value.is_discharged());
 }
 
-/// The value isn't discharged after the look that found nothing, and is after the one that found
-/// the answer.
-fn is_marked<T: TransactionDischarge + Over, R: Wait>(
-    rt: &R,
-    value: &mut T,
-    waiting: T::Waiting,
-) -> bool {
-    let pending = counts(rt, value.over()) == (2, 3, 0) && !value.is_discharged();
-    let awaited = fills(rt, value.over(), 1, DeliveryState::Accepted);
-    let done = is_done(rt, value, waiting) && value.is_discharged();
-    pending && awaited && done && counts(rt, value.over()) == (2, 4, 0)
+/// A discharged value puts nothing more and is done without a look, and is given up as discharged.
+pub fn discharged_row<T: Over, R: Wait + Abort + AllocGlobal>(rt: &R, mut value: T) {
+    commits(rt, &mut value);
+    let waiting = passed(rt, value.discharge(rt, true));
+    passed(rt, ready(rt, value.poll_discharge(rt, waiting)));
+    assert_counts(rt, value.over(), (2, 4, 0));
+    gives_up(rt, value, 20, Abandoned::Discharged);
 }
 
-/// A discharge of a discharged value puts nothing, and its poll is done without a look.
-fn puts_nothing<T: TransactionDischarge + Over, R: Wait>(rt: &R, value: &mut T) -> bool {
-    let again = match value.discharge(rt, true) {
-        Ok(waiting) => is_done(rt, value, waiting),
-        Err(_) => false,
-    };
-    again && counts(rt, value.over()) == (2, 4, 0)
-}
-
-/// A discharged value puts nothing more, and is given up as discharged.
-pub fn discharged_row<T: TransactionDischarge + Over, R: Wait>(
-    rt: &R,
-    alloc: Global,
-    mut value: T,
-) -> bool {
-    let committed = is_committed(rt, alloc, &mut value);
-    let nothing = puts_nothing(rt, &mut value);
-    let gone = gives_up(rt, value, 20, Abandoned::Discharged);
-    committed && nothing && gone
-}
-
-/// A commit, or a rollback where `fail` is true.
-fn begins<T: TransactionDischarge, R: Wait>(
+/// A commit, or a rollback where `fail` is true: one put of its octets and no look; then pending,
+/// one look; then the answer is there.
+pub fn asks<T: Over, R: Wait + Abort + AllocGlobal>(
     rt: &R,
     value: T,
     fail: bool,
-) -> Result<Discharging<T>, (T, T::Error)> {
-    if fail {
-        value.rollback(rt)
+    answer: DeliveryState,
+) -> Discharging<T> {
+    let (begun, octets) = if fail {
+        (value.rollback(rt), ROLLBACK)
     } else {
-        value.commit(rt)
-    }
-}
-
-/// The discharge of a value, begun; a value that is handed back is let go.
-fn begun<T: TransactionDischarge, R: Wait>(rt: &R, value: T, fail: bool) -> Option<Discharging<T>> {
-    match begins(rt, value, fail) {
-        Ok(discharge) => Some(discharge),
-        Err((value, _)) => {
-            lets_go(rt, value);
-            None
-        }
-    }
-}
-
-/// A discharge that was put, pending.
-fn pends<T: TransactionDischarge, R: Wait>(
-    rt: &R,
-    discharge: Discharging<T>,
-) -> Option<Discharging<T>> {
-    match discharge.poll(rt) {
-        Progress::Pending(discharge) => Some(discharge),
-        Progress::Ready(Ok(())) => None,
-        Progress::Ready(Err((value, _))) => {
-            lets_go(rt, value);
-            None
-        }
-    }
-}
-
-/// The discharge, where all went as it must; else its value is let go.
-fn kept<T: TransactionDischarge, R: Wait>(
-    rt: &R,
-    discharge: Discharging<T>,
-    went: bool,
-) -> Option<Discharging<T>> {
-    if went {
-        return Some(discharge);
-    }
-    lets_go(rt, discharge.into_value());
-    None
-}
-
-/// A discharge that is begun: one put of its octets, and no look.
-fn puts<T: TransactionDischarge + Over, R: Wait>(
-    rt: &R,
-    alloc: Global,
-    value: T,
-    fail: bool,
-) -> Option<Discharging<T>> {
-    let discharge = begun(rt, value, fail)?;
-    let octets = if fail { ROLLBACK } else { COMMIT };
-    let over = discharge.value().over();
-    let put = counts(rt, over) == (2, 2, 0) && last_is(rt, alloc, over, &octets);
-    kept(rt, discharge, put)
-}
-
-/// What the coordinator answers to a discharge.
-fn answer(accepts: bool) -> DeliveryState {
-    if accepts {
-        DeliveryState::Accepted
-    } else {
-        DeliveryState::Rejected(unknown_id())
-    }
-}
-
-/// A discharge: put; then pending, one look; then the answer is there.
-pub fn asks<T: TransactionDischarge + Over, R: Wait>(
-    rt: &R,
-    alloc: Global,
-    value: T,
-    fail: bool,
-    accepts: bool,
-) -> Option<Discharging<T>> {
-    let discharge = puts(rt, alloc, value, fail)?;
-    let discharge = pends(rt, discharge)?;
-    let over = discharge.value().over();
-    let awaited = counts(rt, over) == (2, 3, 0) && fills(rt, over, 1, answer(accepts));
-    kept(rt, discharge, awaited)
-}
-
-/// Whether the poll of the discharge is over with an Ok.
-pub fn ends<T: TransactionDischarge, R: Wait>(rt: &R, discharge: Discharging<T>) -> bool {
-    match discharge.poll(rt) {
-        Progress::Ready(Ok(())) => true,
-        Progress::Ready(Err((value, _))) => {
-            lets_go(rt, value);
-            false
-        }
-        Progress::Pending(discharge) => {
-            lets_go(rt, discharge.into_value());
-            false
-        }
-    }
-}
-
-/// The value that the poll of the discharge hands back, and why.
-pub fn refused<T: TransactionDischarge, R: Wait>(
-    rt: &R,
-    discharge: Discharging<T>,
-) -> Option<(T, T::Error)> {
-    match discharge.poll(rt) {
-        Progress::Ready(Ok(())) => None,
-        Progress::Ready(Err(refused)) => Some(refused),
-        Progress::Pending(discharge) => {
-            lets_go(rt, discharge.into_value());
-            None
-        }
-    }
+        (value.commit(rt), COMMIT)
+    };
+    let discharge = passed(rt, begun);
+    assert_counts(rt, discharge.value().over(), (2, 2, 0));
+    assert_last(rt, discharge.value().over(), &octets);
+    let discharge = pending(rt, discharge.poll(rt));
+    assert_counts(rt, discharge.value().over(), (2, 3, 0));
+    fill(rt, discharge.value().over(), 1, answer);
+    discharge
 }
 
 /// A discharge that is accepted, to its end.
-pub fn accepted_row<T: TransactionDischarge + Over, R: Wait>(
+pub fn accepted_row<T: Over, R: Wait + Abort + AllocGlobal>(rt: &R, value: T, fail: bool) {
+    let discharge = asks(rt, value, fail, DeliveryState::Accepted);
+    passed(rt, ready(rt, discharge.poll(rt)));
+}
+
+/// Why a value was handed back: it isn't discharged, after so many puts, looks and closes.
+fn handed_back<T: Over, R: Wait + Abort>(
     rt: &R,
-    alloc: Global,
-    value: T,
-    fail: bool,
-) -> bool {
-    match asks(rt, alloc, value, fail, true) {
-        Some(discharge) => ends(rt, discharge),
-        None => false,
-    }
+    back: (T, T::Error),
+    want: (usize, u32, u32),
+) -> T::Error {
+    let (value, error) = back;
+    assert_counts(rt, value.over(), want);
+    assert!(rt; !value.is_discharged());
+    drop(value.abandon(rt));
+    error
 }
 
 /// The error of a commit that is rejected: one look, and the value is handed back undischarged.
-pub fn rejected_row<T: TransactionDischarge + Over, R: Wait>(
-    rt: &R,
-    alloc: Global,
-    value: T,
-) -> Option<T::Error> {
-    let commit = asks(rt, alloc, value, false, false)?;
-    let (value, error) = refused(rt, commit)?;
-    let looked = counts(rt, value.over()) == (2, 4, 0);
-    let left = looked && !value.is_discharged();
-    lets_go(rt, value);
-    left.then_some(error)
+pub fn rejected_row<T: Over, R: Wait + Abort + AllocGlobal>(rt: &R, value: T) -> T::Error {
+    let commit = asks(rt, value, false, DeliveryState::Rejected(unknown_id()));
+    handed_back(rt, refused(rt, ready(rt, commit.poll(rt))), (2, 4, 0))
 }
 
-/// The error of a discharge that the link refuses to send: the value is handed back as it was.
-pub fn unsent_row<T: TransactionDischarge + Over, R: Wait>(rt: &R, value: T) -> Option<T::Error> {
-    match begins(rt, value, false) {
-        Ok(commit) => {
-            lets_go(rt, commit.into_value());
-            None
-        }
-        Err((value, error)) => {
-            let left = counts(rt, value.over()) == (1, 2, 0) && !value.is_discharged();
-            lets_go(rt, value);
-            left.then_some(error)
-        }
-    }
+/// The error of a commit that the link refuses to send: the value is handed back as it was.
+pub fn unsent_row<T: Over, R: Wait + Abort>(rt: &R, value: T) -> T::Error {
+    handed_back(rt, refused(rt, value.commit(rt)), (1, 2, 0))
 }
 
 /// The error of a commit whose first look fails: the value is handed back as it was.
-pub fn unfound_row<T: TransactionDischarge + Over, R: Wait>(rt: &R, value: T) -> Option<T::Error> {
-    let commit = begun(rt, value, false)?;
-    let (value, error) = refused(rt, commit)?;
-    let left = counts(rt, value.over()) == (2, 3, 0) && !value.is_discharged();
-    lets_go(rt, value);
-    left.then_some(error)
+pub fn unfound_row<T: Over, R: Wait + Abort>(rt: &R, value: T) -> T::Error {
+    let commit = passed(rt, value.commit(rt));
+    handed_back(rt, refused(rt, ready(rt, commit.poll(rt))), (2, 3, 0))
 }

@@ -9,19 +9,16 @@ use amqp_links::{
 use amqp_posting::PostError;
 use amqp_transactions::{OwnedDeclareError, OwnedDischargeError};
 use amqp_txn_types::Rejected;
-use std::alloc::Global;
 use std::fmt::Display;
-use std::test::Fail;
+use std::process::Abort;
 
-/// The place of the first error of the table that reads otherwise.
-fn other_text<E: Display>(alloc: Global, table: &[(E, &str)]) -> Result<Option<usize>, Fail> {
-    for (place, (error, want)) in table.iter().enumerate() {
-        let text = format!(in alloc; "{error}")?;
-        if text.as_str() != *want {
-            return Ok(Some(place));
-        }
+/// Each error of the table has the text beside it.
+fn assert_texts<E: Display, R: Abort + AllocGlobal>(rt: &R, table: &[(E, &str)]) {
+    for (error, want) in table.iter() {
+        let text = format!(in rt.alloc(); "{error}").expect(rt, "an Ok");
+        assert!(rt; text.as_str() == *want, "the text is {text}");
+        drop(text);
     }
-    Ok(None)
 }
 
 /// A message of two octets on a link that takes one.
@@ -33,7 +30,7 @@ fn too_large() -> MessageSizeExceeded {
 }
 
 #[test]
-fn texts_of_errors_of_control_messages(rt: HostRuntime) -> Result<(), Fail> {
+fn texts_of_errors_of_control_messages(rt: HostRuntime) {
     let table = [
         (
             ControllerSendError::LinkStateError(LinkStateError::RemoteClosed),
@@ -65,14 +62,12 @@ fn texts_of_errors_of_control_messages(rt: HostRuntime) -> Result<(), Fail> {
         ),
         (ControllerSendError::NoMemory, "out of memory"),
     ];
-    let other = other_text(rt.alloc(), table.as_slice());
+    assert_texts(&rt, table.as_slice());
     drop(table);
-    assert!(rt; other? == None);
-    Ok(())
 }
 
 #[test]
-fn texts_of_errors_of_posts(rt: HostRuntime) -> Result<(), Fail> {
+fn texts_of_errors_of_posts(rt: HostRuntime) {
     let table = [
         (
             PostError::LinkStateError(LinkStateError::RemoteClosed),
@@ -100,14 +95,12 @@ fn texts_of_errors_of_posts(rt: HostRuntime) -> Result<(), Fail> {
         ),
         (PostError::NoMemory, "out of memory"),
     ];
-    let other = other_text(rt.alloc(), table.as_slice());
+    assert_texts(&rt, table.as_slice());
     drop(table);
-    assert!(rt; other? == None);
-    Ok(())
 }
 
 #[test]
-fn texts_of_errors_of_owned_transactions(rt: HostRuntime) -> Result<(), Fail> {
+fn texts_of_errors_of_owned_transactions(rt: HostRuntime) {
     let declares = [
         (
             OwnedDeclareError::AttachError(SenderAttachError::NoMemory),
@@ -118,9 +111,8 @@ fn texts_of_errors_of_owned_transactions(rt: HostRuntime) -> Result<(), Fail> {
             "the transaction is not declared: out of memory",
         ),
     ];
-    let other = other_text(rt.alloc(), declares.as_slice());
+    assert_texts(&rt, declares.as_slice());
     drop(declares);
-    assert!(rt; other? == None);
     let discharges = [
         (
             OwnedDischargeError::ControllerSendError(ControllerSendError::NoMemory),
@@ -131,50 +123,36 @@ fn texts_of_errors_of_owned_transactions(rt: HostRuntime) -> Result<(), Fail> {
             "the control link is not closed: the remote link detached",
         ),
     ];
-    let other = other_text(rt.alloc(), discharges.as_slice());
+    assert_texts(&rt, discharges.as_slice());
     drop(discharges);
-    assert!(rt; other? == None);
-    Ok(())
 }
 
-/// Whether each error of a link is named as it must be where control messages are sent.
-fn names_of_control() -> [bool; 3] {
-    [
-        same(
-            ControllerSendError::from(SendError::MessageEncodeError),
-            ControllerSendError::MessageEncodeError,
-        ),
-        same(
-            ControllerSendError::from(LinkStateError::RemoteClosed),
-            ControllerSendError::LinkStateError(LinkStateError::RemoteClosed),
-        ),
-        same(
-            ControllerSendError::from(IllegalLinkStateError::IllegalState),
-            ControllerSendError::LinkStateError(LinkStateError::IllegalState),
-        ),
-    ]
+/// Each error of a link is named as it must be where control messages are sent.
+fn names_of_control<R: Abort>(rt: &R) {
+    let found = ControllerSendError::from(SendError::MessageEncodeError);
+    assert!(rt; same(found, ControllerSendError::MessageEncodeError));
+    let found = ControllerSendError::from(LinkStateError::RemoteClosed);
+    let want = ControllerSendError::LinkStateError(LinkStateError::RemoteClosed);
+    assert!(rt; same(found, want));
+    let found = ControllerSendError::from(IllegalLinkStateError::IllegalState);
+    let want = ControllerSendError::LinkStateError(LinkStateError::IllegalState);
+    assert!(rt; same(found, want));
 }
 
-/// Whether each error of a link is named as it must be where messages are posted.
-fn names_of_posts() -> [bool; 3] {
-    [
-        same(
-            PostError::from(SendError::MessageEncodeError),
-            PostError::MessageEncodeError,
-        ),
-        same(
-            PostError::from(DetachError::ClosedByRemote),
-            PostError::Detached(DetachError::ClosedByRemote),
-        ),
-        same(
-            PostError::from(IllegalLinkStateError::IllegalState),
-            PostError::LinkStateError(LinkStateError::IllegalState),
-        ),
-    ]
+/// Each error of a link is named as it must be where messages are posted.
+fn names_of_posts<R: Abort>(rt: &R) {
+    let found = PostError::from(SendError::MessageEncodeError);
+    assert!(rt; same(found, PostError::MessageEncodeError));
+    let found = PostError::from(DetachError::ClosedByRemote);
+    let want = PostError::Detached(DetachError::ClosedByRemote);
+    assert!(rt; same(found, want));
+    let found = PostError::from(IllegalLinkStateError::IllegalState);
+    let want = PostError::LinkStateError(LinkStateError::IllegalState);
+    assert!(rt; same(found, want));
 }
 
 #[test]
 fn faults_of_a_link_by_name(rt: HostRuntime) {
-    assert!(rt; names_of_control() == [true; 3]);
-    assert!(rt; names_of_posts() == [true; 3]);
+    names_of_control(&rt);
+    names_of_posts(&rt);
 }

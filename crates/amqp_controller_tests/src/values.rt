@@ -1,11 +1,12 @@
-//! Values that several tests use.
+//! Values that several tests use, and what a call or a wait must have given.
 
+use amqp_endpoints::Progress;
 use amqp_links::WireSender;
 use amqp_txn_types::{
-    CallNumbers, Declared, Error, ErrorCondition, LinkEnd, NoMemory, OutputHandle,
-    ReceiverSettleMode, Rejected, Role, SenderSettleMode, Text, TransactionError, TransactionId,
+    CallNumbers, Declared, Error, ErrorCondition, LinkEnd, OutputHandle, ReceiverSettleMode,
+    Rejected, Role, SenderSettleMode, Text, TransactionError, TransactionId,
 };
-use std::alloc::Global;
+use std::process::Abort;
 
 /// The declare of no global id.
 pub const DECLARE: [u8; 7] = [0, 0x53, 0x77, 0, 0x53, 0x31, 0x45];
@@ -31,6 +32,38 @@ pub fn same<T: PartialEq + Drop>(found: T, want: T) -> bool {
     equal
 }
 
+/// The wait that goes on.
+pub fn pending<P, T>(rt: &impl Abort, progress: Progress<P, T>) -> P {
+    match progress {
+        Progress::Pending(waiting) => waiting,
+        Progress::Ready(_answer) => panic!(rt; "the wait is over"),
+    }
+}
+
+/// The answer of a wait that is over.
+pub fn ready<P, T>(rt: &impl Abort, progress: Progress<P, T>) -> T {
+    match progress {
+        Progress::Pending(_waiting) => panic!(rt; "the wait goes on"),
+        Progress::Ready(answer) => answer,
+    }
+}
+
+/// What a call gave that went well.
+pub fn passed<T, E>(rt: &impl Abort, answer: Result<T, E>) -> T {
+    match answer {
+        Ok(value) => value,
+        Err(_error) => panic!(rt; "the call is refused"),
+    }
+}
+
+/// What a call gave that was refused.
+pub fn refused<T, E>(rt: &impl Abort, answer: Result<T, E>) -> E {
+    match answer {
+        Ok(_value) => panic!(rt; "the call is not refused"),
+        Err(error) => error,
+    }
+}
+
 /// The id 010203.
 pub fn id() -> TransactionId {
     match TransactionId::new(&[1, 2, 3]) {
@@ -44,34 +77,44 @@ pub fn declaration() -> Declared {
     Declared { txn_id: id() }
 }
 
-/// A discharge of an id that the coordinator doesn't know, answered.
-pub fn unknown_id() -> Rejected {
-    Rejected {
-        error: Some(Error {
-            condition: ErrorCondition::TransactionError(TransactionError::UnknownId),
-            description: None,
-            info: None,
-        }),
+/// An error without a text.
+pub fn plain_error(condition: ErrorCondition) -> Error {
+    Error {
+        condition,
+        description: None,
+        info: None,
     }
 }
 
-/// An end of a link.
-pub fn end(alloc: Global, role: Role) -> Result<LinkEnd, NoMemory> {
-    let name = Text::from_str(alloc, "c")?;
-    Ok(LinkEnd {
-        name,
+/// A discharge of an id that the coordinator doesn't know, answered.
+pub fn unknown_id() -> Rejected {
+    let condition = ErrorCondition::TransactionError(TransactionError::UnknownId);
+    Rejected {
+        error: Some(plain_error(condition)),
+    }
+}
+
+/// The name of each link.
+pub fn name<R: Abort + AllocGlobal>(rt: &R) -> Text {
+    Text::from_str(rt.alloc(), "c").expect(rt, "an Ok")
+}
+
+/// The first end of a link that settles so.
+pub fn end<R: Abort + AllocGlobal>(rt: &R, role: Role, mode: SenderSettleMode) -> LinkEnd {
+    LinkEnd {
+        name: name(rt),
         role,
         output: OutputHandle(0),
-        snd_settle_mode: SenderSettleMode::Mixed,
+        snd_settle_mode: mode,
         rcv_settle_mode: ReceiverSettleMode::First,
-    })
+    }
 }
 
 /// A wire of whose calls those of the numbers are to fail.
-pub fn wire(alloc: Global, failing: &[u64]) -> Result<WireSender, NoMemory> {
-    let failing = Vec::from_slice(alloc, failing)?;
-    let end = end(alloc, Role::Sender)?;
-    let mut wire = WireSender::new(alloc, end);
+pub fn wire<R: Abort + AllocGlobal>(rt: &R, failing: &[u64]) -> WireSender {
+    let failing = Vec::from_slice(rt.alloc(), failing).expect(rt, "an Ok");
+    let end = end(rt, Role::Sender, SenderSettleMode::Mixed);
+    let mut wire = WireSender::new(rt.alloc(), end);
     wire.set_failing(CallNumbers::from_vec(failing));
-    Ok(wire)
+    wire
 }
