@@ -1,7 +1,9 @@
 //! Calls over the lock, on transactions that borrow their controller.
 
 use crate::links::{CountingLink, assert_counts, assert_last, counting, fill, illegal, late};
-use crate::rows::{accepted_row, discharged_row, gives_up, rejected_row, unsent_row};
+use crate::rows::{
+    accepted_row, discharged_row, gives_up, rejected_row, undischarged_row, unsent_row,
+};
 use crate::values::{
     DECLARE, GLOBAL_DECLARE, ROLLBACK, declaration, id, pending, ready, refused, same, unknown_id,
 };
@@ -80,6 +82,14 @@ fn a_discharge_is_polled_to_its_end(rt: HostRuntime) {
 fn a_commit_that_is_rejected_leaves_the_value(rt: HostRuntime) {
     let controller = counting(&rt, &[]);
     let error = rejected_row(&rt, begun(&rt, &controller));
+    assert!(rt; same(error, ControllerSendError::Rejected(unknown_id())));
+    drop(controller);
+}
+
+#[test]
+fn a_discharge_that_is_rejected_leaves_the_value(rt: HostRuntime) {
+    let controller = counting(&rt, &[]);
+    let error = undischarged_row(&rt, begun(&rt, &controller));
     assert!(rt; same(error, ControllerSendError::Rejected(unknown_id())));
     drop(controller);
 }

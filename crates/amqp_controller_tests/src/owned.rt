@@ -1,7 +1,9 @@
 //! Calls over the lock, on transactions that own their controller.
 
 use crate::links::{CountingLink, assert_counts, assert_last, counting, fill, illegal, late};
-use crate::rows::{accepted_row, asks, discharged_row, gives_up, rejected_row, unsent_row};
+use crate::rows::{
+    accepted_row, asks, discharged_row, gives_up, rejected_row, undischarged_row, unsent_row,
+};
 use crate::values::{
     DECLARE, GLOBAL_DECLARE, declaration, id, passed, pending, ready, refused, same, unknown_id,
 };
@@ -70,6 +72,13 @@ fn a_discharge_is_polled_to_its_end(rt: HostRuntime) {
 #[test]
 fn a_commit_that_is_rejected_leaves_the_value(rt: HostRuntime) {
     let error = rejected_row(&rt, begun(&rt, &[]));
+    let want = ControllerSendError::Rejected(unknown_id());
+    assert!(rt; same(error, OwnedDischargeError::ControllerSendError(want)));
+}
+
+#[test]
+fn a_discharge_that_is_rejected_leaves_the_value(rt: HostRuntime) {
+    let error = undischarged_row(&rt, begun(&rt, &[]));
     let want = ControllerSendError::Rejected(unknown_id());
     assert!(rt; same(error, OwnedDischargeError::ControllerSendError(want)));
 }

@@ -114,6 +114,17 @@ pub fn rejected_row<T: Over, R: Wait + Abort + AllocGlobal>(rt: &R, value: T) ->
     handed_back(rt, refused(rt, ready(rt, commit.poll(rt))), (2, 4, 0))
 }
 
+/// The error of a discharge that is rejected: the value isn't discharged, neither while the wait goes
+/// on nor at its end.
+pub fn undischarged_row<T: Over, R: Wait + Abort>(rt: &R, mut value: T) -> T::Error {
+    let waiting = passed(rt, value.discharge(rt, false));
+    let waiting = pending(rt, value.poll_discharge(rt, waiting));
+    assert!(rt; !value.is_discharged());
+    fill(rt, value.over(), 1, DeliveryState::Rejected(unknown_id()));
+    let error = refused(rt, ready(rt, value.poll_discharge(rt, waiting)));
+    handed_back(rt, (value, error), (2, 4, 0))
+}
+
 /// The error of a commit that the link refuses to send: the value is handed back as it was.
 pub fn unsent_row<T: Over, R: Wait + Abort>(rt: &R, value: T) -> T::Error {
     handed_back(rt, refused(rt, value.commit(rt)), (1, 2, 0))
