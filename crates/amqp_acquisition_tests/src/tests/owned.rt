@@ -1,69 +1,36 @@
 //! Acquiring deliveries by a transaction that owns its controller.
 
-use super::fixtures::{answers, controller, id, receiver, same};
+use super::fixtures::{answers, controller, declaration, done, id, ready, receiver};
 use amqp_acquisition::TransactionAcquisition;
 use amqp_control_calls::{Abandoned, TransactionBase};
-use amqp_endpoints::Progress;
-use amqp_links::{WireReceiver, WireSender};
+use amqp_links::WireSender;
+use amqp_test_values::same;
 use amqp_transactions::{OwnedTransaction, TransactionDischarge};
-use amqp_txn_types::{Declared, DeliveryState, NoMemory};
 use std::alloc::Global;
+use std::process::Abort;
 use std::sync::Wait;
-use std::test::Fail;
 
 /// The transaction 010203, which owns its controller.
-fn declared<W: Wait>(
-    rt: &W,
-    alloc: Global,
-) -> Result<Option<OwnedTransaction<WireSender>>, NoMemory> {
-    let controller = controller(alloc)?;
-    let Ok(declaring) = OwnedTransaction::declare_with_controller(controller, rt, None) else {
-        return Ok(None);
-    };
-    let declared = Declared { txn_id: id() };
-    answers(
-        rt,
-        declaring.controller(),
-        0,
-        DeliveryState::Declared(declared),
-    );
-    match declaring.poll(rt) {
-        Progress::Ready(Ok(transaction)) => Ok(Some(transaction)),
-        Progress::Ready(Err(_)) | Progress::Pending(_) => Ok(None),
-    }
+fn declared<R: Wait + Abort>(rt: &R, alloc: Global) -> OwnedTransaction<WireSender> {
+    let controller = controller(rt, alloc);
+    let begun = OwnedTransaction::declare_with_controller(controller, rt, None);
+    let declaring = done(rt, begun);
+    answers(rt, declaring.controller(), 0, declaration(rt));
+    done(rt, ready(rt, declaring.poll(rt)))
 }
 
-/// Whether the transaction acquires, and is then given up by a rollback that isn't answered.
-fn gives_up<W: Wait>(
-    rt: &W,
-    alloc: Global,
-    transaction: OwnedTransaction<WireSender>,
-    wire: &mut WireReceiver,
-) -> bool {
-    match transaction.acquire(alloc, wire, 1) {
-        Ok(acquisition) => {
-            let named = *acquisition.txn_id() == id();
-            let gone = same(acquisition.abandon(rt), Abandoned::Unanswered);
-            named && gone
-        }
-        Err((transaction, _)) => {
-            let _ = same(transaction.abandon(rt), Abandoned::Unanswered);
-            false
-        }
-    }
-}
-
-fn acquires<W: Wait>(rt: &W, alloc: Global) -> Result<bool, NoMemory> {
-    let mut wire = receiver(alloc, &[])?;
-    let gone = match declared(rt, alloc)? {
-        Some(transaction) => gives_up(rt, alloc, transaction, &mut wire),
-        None => false,
-    };
-    Ok(gone && wire.put().len() == 2)
-}
-
+/// It is given up by a rollback that isn't answered.
 #[test]
-fn an_owned_transaction_acquires(rt: HostRuntime) -> Result<(), Fail> {
-    assert!(rt; acquires(&rt, rt.alloc())?);
-    Ok(())
+fn an_owned_transaction_acquires(rt: HostRuntime) {
+    let alloc = rt.alloc();
+    let mut wire = receiver(&rt, alloc, &[]);
+    let transaction = declared(&rt, alloc);
+    let acquisition = done(&rt, transaction.acquire(alloc, &mut wire, 1));
+    let named = *acquisition.txn_id() == id(&rt);
+    let gone = acquisition.abandon(&rt);
+    let puts = wire.put().len();
+    drop(wire);
+    assert!(rt; named);
+    assert!(rt; same(gone, Abandoned::Unanswered));
+    assert_eq!(rt; puts, 2);
 }

@@ -1,15 +1,15 @@
 //! What is received and retired under an acquisition.
 
 use super::fixtures::{
-    WireAcquisition, acquired, controller, ends_discharged, id, receiver, same, skips,
+    WireAcquisition, acquired, controller, done, ends_discharged, id, receiver, skips,
 };
 use amqp_links::{Delivery, DeliveryInfo, Poll, ReceiverMessage, WireReceiver};
+use amqp_test_values::same;
 use amqp_txn_types::{
-    Binary, DeliveryState, Modified, NoMemory, Outcome, Payload, Rejected, TransactionalState,
+    Binary, DeliveryState, Modified, Outcome, Payload, Rejected, TransactionalState,
 };
 use std::alloc::Global;
-use std::sync::Wait;
-use std::test::Fail;
+use std::process::Abort;
 
 /// The seventh delivery.
 fn seventh(alloc: Global) -> DeliveryInfo {
@@ -28,51 +28,33 @@ fn delivery(alloc: Global) -> Delivery {
     }
 }
 
-fn receives<W: Wait>(rt: &W, alloc: Global, wire: &mut WireReceiver) -> Result<bool, NoMemory> {
-    let controller = controller(alloc)?;
-    let Some(mut acquisition) = acquired(rt, alloc, &controller, wire) else {
-        return Ok(false);
-    };
-    let found = same(acquisition.recv(), Poll::Ready(Ok(delivery(alloc))));
-    let gone = skips(rt, acquisition);
-    Ok(found && gone)
-}
-
-fn recv_row<W: Wait>(rt: &W, alloc: Global) -> Result<bool, NoMemory> {
-    let mut wire = receiver(alloc, &[])?;
-    let Ok(()) = wire.deliver(delivery(alloc)) else {
-        return Ok(false);
-    };
-    receives(rt, alloc, &mut wire)
-}
-
 #[test]
-fn a_delivery_is_received(rt: HostRuntime) -> Result<(), Fail> {
-    assert!(rt; recv_row(&rt, rt.alloc())?);
-    Ok(())
+fn a_delivery_is_received(rt: HostRuntime) {
+    let alloc = rt.alloc();
+    let controller = controller(&rt, alloc);
+    let mut wire = receiver(&rt, alloc, &[]);
+    done(&rt, wire.deliver(delivery(alloc)));
+    let mut acquisition = acquired(&rt, alloc, &controller, &mut wire);
+    let found = acquisition.recv();
+    skips(&rt, acquisition);
+    drop(controller);
+    drop(wire);
+    assert!(rt; same(found, Poll::Ready(Ok(delivery(alloc)))));
 }
 
-/// Whether the credit is set, on an acquisition that is then given up without a cleanup.
-fn sets<W: Wait>(rt: &W, alloc: Global, wire: &mut WireReceiver) -> Result<bool, NoMemory> {
-    let controller = controller(alloc)?;
-    let Some(mut acquisition) = acquired(rt, alloc, &controller, wire) else {
-        return Ok(false);
-    };
-    let set = acquisition.set_credit(5).is_ok();
-    let gone = ends_discharged(rt, &controller, acquisition);
-    Ok(set && gone)
-}
-
-fn credit_row<W: Wait>(rt: &W, alloc: Global) -> Result<bool, NoMemory> {
-    let mut wire = receiver(alloc, &[])?;
-    let set = sets(rt, alloc, &mut wire)?;
-    Ok(set && wire.credit() == 5)
-}
-
+/// The acquisition is given up without a cleanup.
 #[test]
-fn the_credit_is_set(rt: HostRuntime) -> Result<(), Fail> {
-    assert!(rt; credit_row(&rt, rt.alloc())?);
-    Ok(())
+fn the_credit_is_set(rt: HostRuntime) {
+    let alloc = rt.alloc();
+    let controller = controller(&rt, alloc);
+    let mut wire = receiver(&rt, alloc, &[]);
+    let mut acquisition = acquired(&rt, alloc, &controller, &mut wire);
+    done(&rt, acquisition.set_credit(5));
+    ends_discharged(&rt, &controller, acquisition);
+    drop(controller);
+    let credit = wire.credit();
+    drop(wire);
+    assert_eq!(rt; credit, 5);
 }
 
 /// A modification that says that the delivery failed.
@@ -85,64 +67,58 @@ fn failed() -> Modified {
 }
 
 /// Retires the delivery with each outcome.
-fn retires(acquisition: &mut WireAcquisition<'_, '_>, info: &DeliveryInfo) -> [bool; 4] {
-    [
-        acquisition.accept(info).is_ok(),
-        acquisition.reject(info, None).is_ok(),
-        acquisition.release(info).is_ok(),
-        acquisition.modify(info, failed()).is_ok(),
-    ]
+fn retires(rt: &impl Abort, acquisition: &mut WireAcquisition<'_, '_>, info: &DeliveryInfo) {
+    done(rt, acquisition.accept(info));
+    done(rt, acquisition.reject(info, None));
+    done(rt, acquisition.release(info));
+    done(rt, acquisition.modify(info, failed()));
 }
 
-fn retires_all<W: Wait>(rt: &W, alloc: Global, wire: &mut WireReceiver) -> Result<bool, NoMemory> {
-    let controller = controller(alloc)?;
-    let Some(mut acquisition) = acquired(rt, alloc, &controller, wire) else {
-        return Ok(false);
+/// The message of that place retires the seventh delivery with the outcome.
+fn is_retired(rt: &impl Abort, alloc: Global, wire: &WireReceiver, place: usize, outcome: Outcome) {
+    let state = TransactionalState {
+        txn_id: id(rt),
+        outcome: Some(outcome),
     };
-    let info = seventh(alloc);
-    let retired = retires(&mut acquisition, &info) == [true; 4];
-    drop(info);
-    let gone = ends_discharged(rt, &controller, acquisition);
-    Ok(retired && gone)
-}
-
-/// Whether the message of that place retires the seventh delivery with the outcome.
-fn is_retired(wire: &WireReceiver, alloc: Global, place: usize, outcome: Outcome) -> bool {
     let want = ReceiverMessage::Disposition {
         delivery: seventh(alloc),
         settled: None,
-        state: DeliveryState::TransactionalState(TransactionalState {
-            txn_id: id(),
-            outcome: Some(outcome),
-        }),
+        state: DeliveryState::TransactionalState(state),
     };
     let equal = match wire.put().as_slice().get(place) {
         None => false,
         Some(message) => *message == want,
     };
     drop(want);
-    equal
+    assert!(rt; equal);
 }
 
-/// Whether the seventh delivery was retired with each outcome, after the flow of the acquisition.
-fn all_retired(wire: &WireReceiver, alloc: Global) -> bool {
-    is_retired(wire, alloc, 1, Outcome::Accepted)
-        && is_retired(wire, alloc, 2, Outcome::Rejected(Rejected { error: None }))
-        && is_retired(wire, alloc, 3, Outcome::Released)
-        && is_retired(wire, alloc, 4, Outcome::Modified(failed()))
-        && wire.put().len() == 5
-}
-
-fn retire_row<W: Wait>(rt: &W, alloc: Global) -> Result<bool, NoMemory> {
-    let mut wire = receiver(alloc, &[])?;
-    let retired = retires_all(rt, alloc, &mut wire)?;
-    let all = all_retired(&wire, alloc);
-    drop(wire);
-    Ok(retired && all)
+/// The seventh delivery was retired with each outcome, after the flow of the acquisition.
+fn all_retired(rt: &impl Abort, alloc: Global, wire: &WireReceiver) {
+    is_retired(rt, alloc, wire, 1, Outcome::Accepted);
+    is_retired(
+        rt,
+        alloc,
+        wire,
+        2,
+        Outcome::Rejected(Rejected { error: None }),
+    );
+    is_retired(rt, alloc, wire, 3, Outcome::Released);
+    is_retired(rt, alloc, wire, 4, Outcome::Modified(failed()));
+    assert_eq!(rt; wire.put().len(), 5);
 }
 
 #[test]
-fn a_delivery_is_retired_with_each_outcome(rt: HostRuntime) -> Result<(), Fail> {
-    assert!(rt; retire_row(&rt, rt.alloc())?);
-    Ok(())
+fn a_delivery_is_retired_with_each_outcome(rt: HostRuntime) {
+    let alloc = rt.alloc();
+    let controller = controller(&rt, alloc);
+    let mut wire = receiver(&rt, alloc, &[]);
+    let info = seventh(alloc);
+    let mut acquisition = acquired(&rt, alloc, &controller, &mut wire);
+    retires(&rt, &mut acquisition, &info);
+    ends_discharged(&rt, &controller, acquisition);
+    drop(info);
+    drop(controller);
+    all_retired(&rt, alloc, &wire);
+    drop(wire);
 }
