@@ -1,12 +1,13 @@
 //! Each control and each outgoing frame once, over a plain session.
 
 use crate::test_values::{
-    asked, attach, detach, disposition, ended, error, gives, mapped, only_frame, quiet, refuses,
-    relay, replied, sent, stopped_for, transfer, turn,
+    asked, attach, detach, disposition, ended, error, mapped, only_frame, quiet, relay, replied,
+    sent, stopped_for, transfer, turn,
 };
 use amqp_layer::SessionInnerError;
 use amqp_session_engine::*;
 use amqp_sessions::{AllocTxnIdError, PlainSession};
+use amqp_test_values::{gives, refuses, same};
 use amqp_txn_types::{
     Binary, ConnectionError, End, ErrorCondition, Flow, Frame, Handle, InputHandle, LinkFlow,
     LinkFrame, OutputHandle, Payload, SessionStopReason, Text, TransactionError, TransactionId,
@@ -156,17 +157,18 @@ fn a_control_outside_mapped_is_illegal(rt: HostRuntime) {
 #[test]
 fn a_disposition_is_sent(rt: HostRuntime) {
     let mut engine = mapped(rt.alloc()).expect(&rt, "a session");
-    let only = only_frame(asked(&mut engine, SessionControl::Disposition(disposition())));
+    let answer = asked(&mut engine, SessionControl::Disposition(disposition()));
     drop(engine);
-    assert!(rt; only == Some(Frame::Disposition(disposition())));
+    let only = only_frame(&rt, answer);
+    assert!(rt; same(only, Some(Frame::Disposition(disposition()))));
 }
 
 /// Whether a mapped session sends this frame for that of a link.
 fn sends<R: Abort>(rt: &R, alloc: Global, frame: LinkFrame, wanted: Frame) -> bool {
     let mut engine = mapped(alloc).expect(rt, "a session");
-    let only = only_frame(sent(&mut engine, frame));
+    let answer = sent(&mut engine, frame);
     drop(engine);
-    only == Some(wanted)
+    same(only_frame(rt, answer), Some(wanted))
 }
 
 #[test]
@@ -223,11 +225,14 @@ fn first(tag: Option<Binary>) -> LinkFrame {
 }
 
 /// The id that the one transfer to be sent has.
-fn delivery_id(answer: Result<Turn, SessionInnerError>) -> Option<u32> {
-    match only_frame(answer) {
+fn delivery_id(rt: &impl Abort, answer: Result<Turn, SessionInnerError>) -> Option<u32> {
+    let only = only_frame(rt, answer);
+    let id = match &only {
         Some(Frame::Transfer { transfer, .. }) => transfer.delivery_id,
         _ => None,
-    }
+    };
+    drop(only);
+    id
 }
 
 #[test]
@@ -235,7 +240,7 @@ fn a_first_transfer_gets_an_id(rt: HostRuntime) {
     let mut engine = mapped(rt.alloc()).expect(&rt, "a session");
     let answer = sent(&mut engine, first(Some(Binary::new(rt.alloc()))));
     drop(engine);
-    assert_eq!(rt; delivery_id(answer), Some(0));
+    assert_eq!(rt; delivery_id(&rt, answer), Some(0));
 }
 
 #[test]

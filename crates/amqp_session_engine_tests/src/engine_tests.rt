@@ -1,15 +1,15 @@
 //! The engine over a plain session, called as its users call it.
 
 use crate::test_values::{
-    asked, attach, begin, begun, cut_off, detach, ended, error, failed, finished, frame, gives,
-    mapped, plain, plain_end, quiet, refuses, relay, sent, state, stopped_for, taken, told_to_end,
-    transfer, turn,
+    asked, attach, begin, begun, cut_off, detach, ended, error, failed, finished, frame, mapped,
+    plain, plain_end, quiet, relay, sent, state, stopped_for, taken, told_to_end, transfer, turn,
 };
 use amqp_acceptors::ControlLinkAcceptor;
 use amqp_layer::{LayerBelow, SessionInnerError};
 use amqp_listener::ListenerSession;
 use amqp_session_engine::*;
 use amqp_sessions::{BeginError, PlainSession, Session};
+use amqp_test_values::{gives, refuses, same};
 use amqp_txn_types::{
     AmqpError, Attach, ConnectionStopReason, End, Error, ErrorCondition, Frame, InputHandle,
     LinkFrame, OutputHandle, Payload, SessionState, SessionStopReason, Text, TransactionError,
@@ -51,7 +51,11 @@ fn transfers(engine: &SessionEngine<PlainSession>) -> Option<u64> {
 
 fn is_window(answer: Result<Turn, SessionInnerError>) -> bool {
     match answer {
-        Ok(turn) => turn.running == Running::Continue && turn.sent.window.is_some(),
+        Ok(turn) => {
+            let told = turn.running == Running::Continue && turn.sent.window.is_some();
+            drop(turn);
+            told
+        }
         Err(fault) => {
             drop(fault);
             false
@@ -71,7 +75,7 @@ fn a_transfer_reaches_the_session(rt: HostRuntime) {
 fn an_unknown_id_ends_the_session(rt: HostRuntime) {
     let alloc = rt.alloc();
     let mut engine = mapped(alloc).expect(&rt, "a session");
-    let answer = failed(&mut engine, &SessionInnerError::UnknownTxnId);
+    let answer = failed(&mut engine, SessionInnerError::UnknownTxnId);
     let unknown = ErrorCondition::TransactionError(TransactionError::UnknownId);
     let ended = Some(End {
         error: Some(error(unknown)),
@@ -85,7 +89,7 @@ fn an_unknown_id_ends_the_session(rt: HostRuntime) {
 fn what_comes_before_the_awaited_end_is_dropped(rt: HostRuntime) {
     let alloc = rt.alloc();
     let mut engine = with_link(alloc).expect(&rt, "a session");
-    drop(failed(&mut engine, &SessionInnerError::UnknownTxnId));
+    drop(failed(&mut engine, SessionInnerError::UnknownTxnId));
     let dropped = taken(&mut engine, transfer_frame());
     assert!(rt; gives(dropped, quiet(alloc, Running::Waiting)));
     let over = taken(&mut engine, plain_end());
@@ -174,51 +178,40 @@ fn an_attach_waits_in_a_listener(rt: HostRuntime) {
 }
 
 /// The error of the end that is sent for a fault.
-fn error_sent(alloc: Global, fault: &SessionInnerError) -> Option<Error> {
-    let mut engine = mapped(alloc)?;
+fn error_sent(rt: &impl Abort, alloc: Global, fault: SessionInnerError) -> Error {
+    let mut engine = mapped(alloc).expect(rt, "a session");
     let answer = failed(&mut engine, fault);
     drop(engine);
-    match answer {
-        Ok(turn) => error_of(turn.ended),
-        Err(fault) => {
-            drop(fault);
-            None
-        }
-    }
+    let mut turn = answer.expect(rt, "a turn");
+    let ended = turn.ended.take();
+    drop(turn);
+    let end = ended.expect(rt, "an end");
+    end.error.expect(rt, "an error")
 }
 
-fn error_of(ended: Option<End>) -> Option<Error> {
-    match ended {
-        Some(end) => end.error,
-        None => None,
-    }
-}
-
-fn is_told(error: Option<Error>, condition: AmqpError, text: &str) -> bool {
-    match error {
-        Some(error) => is_error(error, condition, text),
-        None => false,
-    }
-}
-
-fn is_error(error: Error, condition: AmqpError, text: &str) -> bool {
-    let same_text = match &error.description {
-        Some(description) => description.as_str() == text,
-        None => false,
-    };
-    same_text && error.condition == ErrorCondition::AmqpError(condition)
+fn is_told(rt: &impl Abort, error: Error, condition: AmqpError, text: &str) -> bool {
+    let Error {
+        condition: found,
+        description,
+        info,
+    } = error;
+    drop(info);
+    let description = description.expect(rt, "a text");
+    let same_text = description.as_str() == text;
+    drop(description);
+    same(found, ErrorCondition::AmqpError(condition)) && same_text
 }
 
 #[test]
 fn some_faults_are_told_by_a_text(rt: HostRuntime) {
-    let unnamed = error_sent(
-        rt.alloc(),
-        &SessionInnerError::RemoteAttachingLinkNameNotFound,
-    );
-    assert!(rt; is_told(unnamed, AmqpError::InternalError, "Link name is not found"));
-    let to_sender = error_sent(rt.alloc(), &SessionInnerError::TransferFrameToSender);
+    let unnamed = SessionInnerError::RemoteAttachingLinkNameNotFound;
+    let error = error_sent(&rt, rt.alloc(), unnamed);
+    let text = "Link name is not found";
+    assert!(rt; is_told(&rt, error, AmqpError::InternalError, text));
+    let to_sender = SessionInnerError::TransferFrameToSender;
+    let error = error_sent(&rt, rt.alloc(), to_sender);
     let text = "Found Transfer frame sent Sender link";
-    assert!(rt; is_told(to_sender, AmqpError::NotAllowed, text));
+    assert!(rt; is_told(&rt, error, AmqpError::NotAllowed, text));
 }
 
 #[test]
@@ -239,11 +232,12 @@ fn came_back(
     match answer {
         Ok(engine) => {
             drop(engine);
+            drop(wanted);
             false
         }
         Err((session, error)) => {
             drop(session);
-            error == wanted
+            same(error, wanted)
         }
     }
 }
@@ -269,7 +263,7 @@ fn a_connection_may_stop_early(rt: HostRuntime) {
     let (session, error) = begun.connection_stopped();
     drop(session);
     let stopped = BeginError::ConnectionStopped(ConnectionStopReason::RemoteClosed);
-    assert!(rt; error == stopped);
+    assert!(rt; same(error, stopped));
 }
 
 #[test]
@@ -307,10 +301,11 @@ fn an_end_after_the_connection_stopped_tells_it(rt: HostRuntime) {
 fn a_connection_that_stopped_is_answered(rt: HostRuntime) {
     let mut engine = mapped(rt.alloc()).expect(&rt, "a session");
     let stopped = SessionInnerError::ConnectionStopped(ConnectionStopReason::RemoteClosed);
-    let refused = failed(&mut engine, &stopped);
+    let refused = failed(&mut engine, stopped);
     assert!(rt; state(&engine) == SessionState::Mapped);
     drop(engine);
-    assert!(rt; refuses(refused, stopped));
+    let wanted = SessionInnerError::ConnectionStopped(ConnectionStopReason::RemoteClosed);
+    assert!(rt; refuses(refused, wanted));
 }
 
 /// Whether a mapped session whose outcome is this answers it and stopped for this reason.
@@ -333,7 +328,7 @@ fn is_finished(
     let (session, answer) = ended;
     let stopped = stopped_for(&session, reason);
     drop(session);
-    stopped && answer == wanted
+    same(answer, wanted) && stopped
 }
 
 #[test]
@@ -369,20 +364,19 @@ fn a_connection_may_close_early(rt: HostRuntime) {
     let begun = begun(rt.alloc()).expect(&rt, "a session");
     let (session, error) = begun.connection_stopped();
     drop(session);
-    assert!(rt; error == BeginError::ConnectionStopped(ConnectionStopReason::Closed));
+    let closed = BeginError::ConnectionStopped(ConnectionStopReason::Closed);
+    assert!(rt; same(error, closed));
 }
 
 /// Whether a copy of the frame equals it.
-fn copies(frame: SessionFrame) -> bool {
-    match frame.try_clone() {
-        Ok(copy) => copy == frame,
-        Err(_) => false,
-    }
+fn copies(rt: &impl Abort, frame: SessionFrame) -> bool {
+    let copy = frame.try_clone().expect(rt, "a copy");
+    same(copy, frame)
 }
 
 #[test]
 fn frames_are_copied(rt: HostRuntime) {
-    assert!(rt; copies(frame(SessionFrameBody::Begin(begin()))));
-    assert!(rt; copies(frame(plain_end())));
-    assert!(rt; copies(frame(transfer_frame())));
+    assert!(rt; copies(&rt, frame(SessionFrameBody::Begin(begin()))));
+    assert!(rt; copies(&rt, frame(plain_end())));
+    assert!(rt; copies(&rt, frame(transfer_frame())));
 }

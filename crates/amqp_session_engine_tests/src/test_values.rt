@@ -10,28 +10,7 @@ use amqp_txn_types::{
     SenderSettleMode, SessionState, SessionStopReason, Text, Transfer,
 };
 use std::alloc::Global;
-
-/// Whether the answer is this Ok.
-pub fn gives<T: PartialEq + Drop, E: Drop>(answer: Result<T, E>, wanted: T) -> bool {
-    match answer {
-        Ok(value) => value == wanted,
-        Err(error) => {
-            drop(error);
-            false
-        }
-    }
-}
-
-/// Whether the answer is this Err.
-pub fn refuses<T: Drop, E: PartialEq + Drop>(answer: Result<T, E>, wanted: E) -> bool {
-    match answer {
-        Ok(value) => {
-            drop(value);
-            false
-        }
-        Err(error) => error == wanted,
-    }
-}
+use std::process::Abort;
 
 pub fn begin() -> Begin {
     Begin {
@@ -127,9 +106,11 @@ pub fn sent(
 /// What the engine answers to a fault.
 pub fn failed(
     engine: &mut SessionEngine<PlainSession>,
-    fault: &SessionInnerError,
+    fault: SessionInnerError,
 ) -> Result<Turn, SessionInnerError> {
-    engine.on_error(fault)
+    let answer = engine.on_error(&fault);
+    drop(fault);
+    answer
 }
 
 /// What the engine answers where it is told to end the session.
@@ -157,7 +138,9 @@ pub fn state(engine: &SessionEngine<PlainSession>) -> SessionState {
 
 /// Whether the session stopped for this reason.
 pub fn stopped_for(session: &PlainSession, reason: SessionStopReason) -> bool {
-    session.session_stop_reason() == Some(&reason)
+    let equal = session.session_stop_reason() == Some(&reason);
+    drop(reason);
+    equal
 }
 
 pub fn attach(alloc: Global) -> Attach {
@@ -263,12 +246,9 @@ pub fn replied(alloc: Global, reply: ControlReply) -> Turn {
 }
 
 /// The one frame that is to be sent.
-pub fn only_frame(answer: Result<Turn, SessionInnerError>) -> Option<Frame> {
-    match answer {
-        Ok(turn) => turn.sent.given.into_vec().pop(),
-        Err(fault) => {
-            drop(fault);
-            None
-        }
-    }
+pub fn only_frame(rt: &impl Abort, answer: Result<Turn, SessionInnerError>) -> Option<Frame> {
+    let mut turn = answer.expect(rt, "a turn");
+    let frame = turn.sent.given.items.pop();
+    drop(turn);
+    frame
 }
