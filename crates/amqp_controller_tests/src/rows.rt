@@ -11,7 +11,7 @@ use std::process::Abort;
 use std::sync::Wait;
 
 /// A transaction over a counting link.
-pub trait Over: TransactionDischarge {
+pub trait Over {
     fn over(&self) -> &Controller<CountingLink>;
 
     fn set_trials(&mut self, trials: u32);
@@ -38,14 +38,19 @@ impl Over for OwnedTransaction<CountingLink> {
 }
 
 /// Giving it up with that many trials ends so.
-pub fn gives_up<T: Over, R: Wait + Abort>(rt: &R, mut value: T, trials: u32, want: Abandoned) {
+pub fn gives_up<T: TransactionDischarge + Over, R: Wait + Abort>(
+    rt: &R,
+    mut value: T,
+    trials: u32,
+    want: Abandoned,
+) {
     value.set_trials(trials);
     assert!(rt; same(value.abandon(rt), want));
 }
 
 /// A commit that is accepted marks the value: one put and no look; a poll without an answer,
 /// pending, one look; then the answer, one look more.
-fn commits<T: Over, R: Wait + Abort + AllocGlobal>(rt: &R, value: &mut T) {
+fn commits<T: TransactionDischarge + Over, R: Wait + Abort + AllocGlobal>(rt: &R, value: &mut T) {
     let waiting = passed(rt, value.discharge(rt, false));
     assert_counts(rt, value.over(), (2, 2, 0));
     assert_last(rt, value.over(), &COMMIT);
@@ -59,7 +64,10 @@ fn commits<T: Over, R: Wait + Abort + AllocGlobal>(rt: &R, value: &mut T) {
 }
 
 /// A discharged value puts nothing more and is done without a look, and is given up as discharged.
-pub fn discharged_row<T: Over, R: Wait + Abort + AllocGlobal>(rt: &R, mut value: T) {
+pub fn discharged_row<T: TransactionDischarge + Over, R: Wait + Abort + AllocGlobal>(
+    rt: &R,
+    mut value: T,
+) {
     commits(rt, &mut value);
     let waiting = passed(rt, value.discharge(rt, true));
     passed(rt, ready(rt, value.poll_discharge(rt, waiting)));
@@ -69,7 +77,7 @@ pub fn discharged_row<T: Over, R: Wait + Abort + AllocGlobal>(rt: &R, mut value:
 
 /// A commit, or a rollback where `fail` is true: one put of its octets and no look; then pending,
 /// one look; then the answer is there.
-pub fn asks<T: Over, R: Wait + Abort + AllocGlobal>(
+pub fn asks<T: TransactionDischarge + Over, R: Wait + Abort + AllocGlobal>(
     rt: &R,
     value: T,
     fail: bool,
@@ -90,13 +98,17 @@ pub fn asks<T: Over, R: Wait + Abort + AllocGlobal>(
 }
 
 /// A discharge that is accepted, to its end.
-pub fn accepted_row<T: Over, R: Wait + Abort + AllocGlobal>(rt: &R, value: T, fail: bool) {
+pub fn accepted_row<T: TransactionDischarge + Over, R: Wait + Abort + AllocGlobal>(
+    rt: &R,
+    value: T,
+    fail: bool,
+) {
     let discharge = asks(rt, value, fail, DeliveryState::Accepted);
     passed(rt, ready(rt, discharge.poll(rt)));
 }
 
 /// Why a value was handed back: it isn't discharged, after so many puts, looks and closes.
-fn handed_back<T: Over, R: Wait + Abort>(
+fn handed_back<T: TransactionDischarge + Over, R: Wait + Abort>(
     rt: &R,
     back: (T, T::Error),
     want: (usize, u32, u32),
@@ -109,14 +121,20 @@ fn handed_back<T: Over, R: Wait + Abort>(
 }
 
 /// The error of a commit that is rejected: one look, and the value is handed back undischarged.
-pub fn rejected_row<T: Over, R: Wait + Abort + AllocGlobal>(rt: &R, value: T) -> T::Error {
+pub fn rejected_row<T: TransactionDischarge + Over, R: Wait + Abort + AllocGlobal>(
+    rt: &R,
+    value: T,
+) -> T::Error {
     let commit = asks(rt, value, false, DeliveryState::Rejected(unknown_id()));
     handed_back(rt, refused(rt, ready(rt, commit.poll(rt))), (2, 4, 0))
 }
 
 /// The error of a discharge that is rejected: the value isn't discharged, neither while the wait goes
 /// on nor at its end.
-pub fn undischarged_row<T: Over, R: Wait + Abort>(rt: &R, mut value: T) -> T::Error {
+pub fn undischarged_row<T: TransactionDischarge + Over, R: Wait + Abort>(
+    rt: &R,
+    mut value: T,
+) -> T::Error {
     let waiting = passed(rt, value.discharge(rt, false));
     let waiting = pending(rt, value.poll_discharge(rt, waiting));
     assert!(rt; !value.is_discharged());
@@ -126,12 +144,12 @@ pub fn undischarged_row<T: Over, R: Wait + Abort>(rt: &R, mut value: T) -> T::Er
 }
 
 /// The error of a commit that the link refuses to send: the value is handed back as it was.
-pub fn unsent_row<T: Over, R: Wait + Abort>(rt: &R, value: T) -> T::Error {
+pub fn unsent_row<T: TransactionDischarge + Over, R: Wait + Abort>(rt: &R, value: T) -> T::Error {
     handed_back(rt, refused(rt, value.commit(rt)), (1, 2, 0))
 }
 
 /// The error of a commit whose first look fails: the value is handed back as it was.
-pub fn unfound_row<T: Over, R: Wait + Abort>(rt: &R, value: T) -> T::Error {
+pub fn unfound_row<T: TransactionDischarge + Over, R: Wait + Abort>(rt: &R, value: T) -> T::Error {
     let commit = passed(rt, value.commit(rt));
     handed_back(rt, refused(rt, ready(rt, commit.poll(rt))), (2, 3, 0))
 }
