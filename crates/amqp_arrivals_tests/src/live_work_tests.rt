@@ -40,6 +40,7 @@ fn new_value_keeps_nothing(rt: HostRuntime) {
     assert_eq!(rt; live.home(&id(1)), None);
     assert_eq!(rt; live.count(&id(1)), 0);
     assert_eq!(rt; live.owed(), 0);
+    drop(live);
 }
 
 #[test]
@@ -52,6 +53,7 @@ fn ids_have_their_links(rt: HostRuntime) {
     assert_eq!(rt; live.len(), 2);
     assert_eq!(rt; live.count(&id(1)), 2);
     assert_eq!(rt; live.frame_count(), 3);
+    drop(live);
 }
 
 fn drops<L: Ledger, R: Abort>(rt: &R, live: &mut LiveWork, blank: Blank)
@@ -75,4 +77,5 @@ fn dropped_id_leaves_the_other(rt: HostRuntime) {
     let mut live = LiveWork::new(rt.alloc());
     two_ids(&rt, &mut live);
     drops::<Brand, HostRuntime>(&rt, &mut live, Blank::new(1));
+    drop(live);
 }

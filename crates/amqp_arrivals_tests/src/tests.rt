@@ -41,6 +41,7 @@ fn new_log_keeps_nothing(rt: HostRuntime) {
     assert_eq!(rt; log.live(), 0);
     assert_eq!(rt; log.first(&id(1)), None);
     assert!(rt; !log.is_opened(&id(1)));
+    drop(log);
 }
 
 #[test]
@@ -52,6 +53,7 @@ fn ids_interleave(rt: HostRuntime) {
     assert_eq!(rt; log.count(&id(2)), 2);
     assert_eq!(rt; log.first(&id(1)), Some(0));
     assert_eq!(rt; log.first(&id(2)), Some(1));
+    drop(log);
 }
 
 fn takes<L: Ledger, R: Abort>(rt: &R, log: &mut ArrivalLog, blank: Blank)
@@ -74,6 +76,7 @@ fn work_is_taken_in_order(rt: HostRuntime) {
     let mut log = ArrivalLog::new(rt.alloc());
     two_ids(&rt, &mut log);
     takes::<Brand, HostRuntime>(&rt, &mut log, Blank::new(1));
+    drop(log);
 }
 
 fn closes_up<L: Ledger, R: Abort>(rt: &R, log: &mut ArrivalLog, blank: Blank)
@@ -97,6 +100,7 @@ fn closed_up_log_keeps_its_order(rt: HostRuntime) {
     let mut log = ArrivalLog::new(rt.alloc());
     two_ids(&rt, &mut log);
     closes_up::<Brand, HostRuntime>(&rt, &mut log, Blank::new(1));
+    drop(log);
 }
 
 fn settles<L: Ledger, R: Abort>(rt: &R, log: &mut ArrivalLog, blank: Blank)
@@ -105,11 +109,11 @@ fn settles<L: Ledger, R: Abort>(rt: &R, log: &mut ArrivalLog, blank: Blank)
     requires some { 0 < blank.parts }
 {
     let mut looks = Looks::<L>::new(blank);
-    let _one = log.take_first(&id(1), &mut looks);
-    let _three = log.take_first(&id(1), &mut looks);
+    drop(log.take_first(&id(1), &mut looks));
+    drop(log.take_first(&id(1), &mut looks));
     log.settle(&mut looks);
     assert_eq!(rt; log.dead(), 2);
-    let _five = log.take_first(&id(1), &mut looks);
+    drop(log.take_first(&id(1), &mut looks));
     log.settle(&mut looks);
     assert_eq!(rt; log.dead(), 0);
     assert_eq!(rt; log.live(), 2);
@@ -122,8 +126,8 @@ fn ends<L: Ledger, R: Abort>(rt: &R, log: &mut ArrivalLog, blank: Blank)
 {
     let txn_id = id(2);
     let mut looks = Looks::<L>::new(blank);
-    let _two = log.take_first(&txn_id, &mut looks);
-    let _four = log.take_first(&txn_id, &mut looks);
+    drop(log.take_first(&txn_id, &mut looks));
+    drop(log.take_first(&txn_id, &mut looks));
     assert!(rt; log.is_opened(&txn_id));
     if let None = log.take_first(&txn_id, &mut looks) {
         assert!(rt; log.is_opened(&txn_id));
@@ -139,6 +143,7 @@ fn ended_id_is_opened_no_more(rt: HostRuntime) {
     let mut log = ArrivalLog::new(rt.alloc());
     two_ids(&rt, &mut log);
     ends::<Brand, HostRuntime>(&rt, &mut log, Blank::new(1));
+    drop(log);
 }
 
 #[test]
@@ -146,4 +151,5 @@ fn log_is_closed_up_once_more_is_dead_than_live(rt: HostRuntime) {
     let mut log = ArrivalLog::new(rt.alloc());
     two_ids(&rt, &mut log);
     settles::<Brand, HostRuntime>(&rt, &mut log, Blank::new(1));
+    drop(log);
 }

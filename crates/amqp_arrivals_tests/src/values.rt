@@ -18,8 +18,10 @@ pub fn work(number: u32) -> TxnWorkFrame {
 }
 
 pub fn number_of(work: Option<TxnWorkFrame>) -> Option<u32> {
-    match work {
+    let number = match &work {
         Some(TxnWorkFrame::Retire(disposition)) => Some(disposition.first),
         _ => None,
-    }
+    };
+    drop(work);
+    number
 }
