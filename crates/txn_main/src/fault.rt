@@ -20,6 +20,11 @@ pub enum Fault {
 }
 
 impl From<NoMemory> for Fault {
+    ghost use Rattle.std.specs.Prelude.{◌≡◌};
+    ghost use Rattle.txn_main.specs.declared.fault.Fault.TheVariants as faults;
+
+    ghost from_gives = { λ _ error. error ≡ faults.NoMemory };
+
     fn from(_error: NoMemory) -> Self {
         Fault::NoMemory
     }

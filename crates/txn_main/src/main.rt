@@ -4,16 +4,20 @@
 //! standard input and standard output as its source and its sink, and ends with the status.
 #![tactic(auto)]
 
-ghost use Rattle.std.specs.Prelude.{IfOk};
+ghost use Rattle.std.specs.Prelude.{◌≡◌, ◌⊎◌, ℕ, List, IfOk};
+ghost use Rattle.std.specs.Process.{exit_status};
 ghost use Rattle.amqp_recorder.specs.Recording.{IsFresh, is_unused};
-ghost use Rattle.txn_program.specs.Words.{IsWithin};
+ghost use Rattle.txn_program.specs.Words.{IsWithin, command_of};
+ghost use Rattle.txn_main.specs.declared.fault.Fault.TheVariants as faults;
+ghost use Rattle.txn_main.specs.Serving.{EndsServed, RanOver, Served};
 
 mod below;
 mod fault;
 
 use crate::below::{Below, below_of};
 use crate::fault::{Fault, exit_of};
-use amqp_below::{LayerBelow, Recorder, Tells};
+use amqp_accepting::AcceptingListener;
+use amqp_below::{LayerBelow, OpenSession, PlainSession, Recorder, Tells};
 use amqp_txn_types::{Items, Text};
 use std::alloc::{Alloc, Global};
 use std::env::{self, Env};
@@ -38,14 +42,20 @@ fn words(rt: &(impl Env + Alloc<A = Global>)) -> Result<Items<Text>, Fault> {
 
 /// What the words ask for, none where they are outside the table.
 fn command(rt: &(impl Env + Alloc<A = Global>)) -> Result<Option<Command>, Fault>
-    ensures { IfOk result IsWithin }
+    ensures command { IfOk result (λ command.
+        (words : List (List ℕ)) × (command ≡ command_of words)) }
+    ensures within { IfOk result IsWithin }
 {
     let words = words(rt)?;
     Ok(command_of(rt.alloc(), words.as_slice())?)
 }
 
-/// What the program does, with the status of the run.
-fn serve(rt: &(impl Env + Input + Print + Alloc<A = Global>)) -> Result<u8, Fault> {
+/// What the program does, with the status of the run: for the words, over a new recorder of the
+/// layer that they ask for.
+fn serve(rt: &(impl Env + Input + Print + Alloc<A = Global>)) -> Result<u8, Fault>
+    ensures { IfOk result (Served ⟦<Recorder<OpenSession> as Tells>⟧.told
+        ⟦<Recorder<AcceptingListener<PlainSession>> as Tells>⟧.told) }
+{
     let command = command(rt)?;
     match below_of(rt.alloc(), &command) {
         Below::Open(below) => Ok(serve_over(rt, command, below)),
@@ -62,6 +72,7 @@ fn serve_over<S: LayerBelow + Send + Drop>(
 ) -> u8
     requires fresh { IsFresh (is_unused below) (⟦<Recorder<S> as Tells>⟧.told below) }
     requires within { IsWithin command }
+    ensures { RanOver ⟦<Recorder<S> as Tells>⟧.told command below result }
 {
     let mut input = StdSource::new(rt.reader());
     let mut output = StdSink::new(io::writer(rt));
@@ -70,17 +81,28 @@ fn serve_over<S: LayerBelow + Send + Drop>(
     ran.status
 }
 
-/// Writes the text of a fault. The answer is the fault that the process ends with.
-fn told(rt: &impl Print, fault: Fault) -> Fault {
+/// Writes the text of a fault. The answer is the fault that the process ends with: that one, or
+/// that of the write.
+fn told(rt: &impl Print, fault: Fault) -> Fault
+    ensures { (result ≡ fault) ⊎ (result ≡ faults.Write) }
+{
     match rt.write_all(fault.text().as_bytes()) {
         Ok(()) => fault,
         Err(_) => Fault::Write,
     }
 }
 
-fn main(rt: HostRuntime) -> ExitCode {
-    match serve(&rt) {
+/// Serves, and tells a fault. The answer is what the process ends with.
+fn end_of(rt: &(impl Env + Input + Print + Alloc<A = Global>)) -> ExitCode
+    ensures { EndsServed ⟦<Recorder<OpenSession> as Tells>⟧.told
+        ⟦<Recorder<AcceptingListener<PlainSession>> as Tells>⟧.told (exit_status result) }
+{
+    match serve(rt) {
         Ok(status) => exit_of(Ok(status)),
-        Err(fault) => exit_of(Err(told(&rt, fault))),
+        Err(fault) => exit_of(Err(told(rt, fault))),
     }
+}
+
+fn main(rt: HostRuntime) -> ExitCode {
+    end_of(&rt)
 }
