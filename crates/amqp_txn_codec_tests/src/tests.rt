@@ -221,6 +221,18 @@ fn only_the_whole_canonical_spelling_is_read(rt: HostRuntime) {
 }
 
 #[test]
+fn an_octet_more_and_a_longer_id_are_no_message(rt: HostRuntime) {
+    let more = b"\x00Sw\x00S\x32\xc0\x07\x02\xa0\x03\x01\x02\x03A\x00";
+    assert_eq!(rt; decode(more), Err(NotControl));
+    let mut longer = Vec::new(rt.alloc());
+    longer
+        .extend_from_slice(b"\x00Sw\x00S\x32\xc0\x24\x01\xa0\x21")
+        .expect(&rt, "an Ok");
+    longer.extend_from_slice(&[0x11; 33]).expect(&rt, "an Ok");
+    assert_eq!(rt; decode(longer.as_slice()), Err(NotControl));
+}
+
+#[test]
 fn a_value_is_skipped(rt: HostRuntime) {
     // A list of two octets between others, and a described value.
     assert_eq!(rt; skip_value(b"\x01\xc0\x02\x01\x40\x99", 1), Some(5));

@@ -357,6 +357,17 @@ fn status_of(alloc: Global, words: &[&str], sink: &mut SureSink) -> Result<u8, N
 }
 
 #[test]
+fn four_made_transactions_are_summed_up(rt: HostRuntime) -> Result<(), Fail> {
+    assert_run(
+        &rt,
+        &["make", "4"],
+        "",
+        0,
+        "steps 21\ncommits 3\nrollbacks 1\ntaken 9\n",
+    )
+}
+
+#[test]
 fn twenty_thousand_made_transactions_are_summed_up(rt: HostRuntime) -> Result<(), Fail> {
     let mut sink = SureSink::new(rt.alloc());
     let status = status_of(rt.alloc(), &["make", "20000"], &mut sink);

@@ -18,12 +18,12 @@ fn failing(alloc: Global, call: u64) -> Result<CallNumbers, NoMemory> {
     Ok(fails)
 }
 
-/// The status of `run A` over a source and a sink.
+/// The status of `run A` over a source and a sink, and whether steps were driven.
 fn status_over<I: ByteSource, O: ByteSink>(
     alloc: Global,
     source: &mut I,
     sink: &mut O,
-) -> Result<u8, NoMemory> {
+) -> Result<(u8, bool), NoMemory> {
     let mut texts = Items::new(alloc);
     if let Err(error) = append_words(alloc, &mut texts, &["run", A]) {
         drop(texts);
@@ -33,12 +33,13 @@ fn status_over<I: ByteSource, O: ByteSink>(
     let ran = run_commands(alloc, texts.as_slice(), below, source, sink);
     drop(texts);
     let status = ran.status;
+    let driven = ran.driven.is_some() || !ran.below.exchanges().is_empty();
     drop(ran);
-    Ok(status)
+    Ok((status, driven))
 }
 
 /// The status of a run of the octets, of which a read and a write of these numbers fail, and
-/// whether this text was written.
+/// whether this text was written, and nothing driven where the input wasn't read or isn't one.
 fn ends_so(
     alloc: Global,
     octets: &[u8],
@@ -53,7 +54,8 @@ fn ends_so(
     drop(source);
     let written = sink.as_slice() == text.as_bytes();
     drop(sink);
-    Ok((status?, written))
+    let (status, driven) = status?;
+    Ok((status, written && driven == matches!(status, 0 | 5)))
 }
 
 const DONE: &str = "stop done\nhanded 0\n";
@@ -188,7 +190,7 @@ fn runs_octet_by_octet(alloc: Global) -> Result<(u8, bool), NoMemory> {
     let text = "attached 0\nlink-ended\nstop done\nhanded 0\n";
     let written = sink.as_slice() == text.as_bytes();
     drop(sink);
-    Ok((status?, written))
+    Ok((status?.0, written))
 }
 
 #[test]
@@ -243,7 +245,7 @@ fn pieces_end(alloc: Global, pieces: u32, text: &str) -> Result<(u8, bool), NoMe
     drop(source);
     let written = sink.sink.as_slice() == text.as_bytes();
     drop(sink);
-    Ok((status?, written))
+    Ok((status?.0, written))
 }
 
 #[test]

@@ -74,6 +74,21 @@ fn an_outside_payload_closes_its_link_and_aborts_its_id(rt: HostRuntime) -> Resu
 }
 
 #[test]
+fn a_post_under_a_dead_id_stops(rt: HostRuntime) -> Result<(), Fail> {
+    assert_run(
+        &rt,
+        &["run", A],
+        "attach c 0\n\
+         post 00000000000000000000000000000001 1 7 - - 61\n\
+         flow -\n",
+        1,
+        "attached 0\n\
+         stop unknown-txn-id\n\
+         handed 0\n",
+    )
+}
+
+#[test]
 fn retirements_are_handed_settled_with_their_outcomes(rt: HostRuntime) -> Result<(), Fail> {
     assert_run(
         &rt,
