@@ -1,12 +1,14 @@
 #!/usr/bin/env python3
 """Gives the built program what it must not fall over, and says what it did with it.
 
-Words: the parts to run, of `devices endless picked mutated random`; all of them where there is none.
+Words: the parts to run, of `devices turns endless picked mutated random`; all of them where there is none.
     scripts/hostile.py devices endless
 The program is the built one (one run of txn_program builds it), or the one that PROGRAM names. Needs gcc.
 
 - devices: a read or a write that fails (a folder as input, /dev/full, a closed pipe), and a pipe that
   gives one octet at a time.
+- turns: each octet of a report in turn finds no room in its file, and each read of an input fails in turn
+  (the octets come from a terminal whose other side is closed behind them).
 - endless: an input without an end, and lines of a megabyte.
 - picked: a megabyte of lines under `listen` that ask for the most work: flows that are held and never
   given to a link, and handles whose look-ups meet.
@@ -28,6 +30,7 @@ import subprocess
 import sys
 import tempfile
 import time
+import tty
 
 TOP = os.path.dirname(os.path.dirname(os.path.realpath(__file__)))
 PROGRAM = os.environ.get("PROGRAM", f"{TOP}/crates/txn_main/out/txn_main")
@@ -172,6 +175,51 @@ def devices():
     say("one octet at a time", end, end.status == 0 and end.text == wanted.text)
 
 
+def report_in(room, steps):
+    """How a run over a file ends that writes to a file which may have so many octets, and what it wrote."""
+    def limited():
+        # (a write past the limit must be an answer, not a signal)
+        signal.signal(signal.SIGXFSZ, signal.SIG_IGN)
+        resource.setrlimit(resource.RLIMIT_FSIZE, (room, room))
+
+    with tempfile.TemporaryFile() as source, tempfile.TemporaryFile() as sink:
+        source.write(steps)
+        source.seek(0)
+        status = subprocess.run([PROGRAM, *RUN], stdin=source, stdout=sink, stderr=subprocess.DEVNULL, preexec_fn=limited, timeout=MOST_SECONDS).returncode
+        sink.seek(0)
+        return status, sink.read()
+
+
+def run_from_a_terminal(octets):
+    """How a run ends whose reads fail once these octets were read, and what it wrote."""
+    reader, writer = os.openpty()
+    tty.setraw(writer)
+    child = subprocess.Popen([PROGRAM, *RUN], stdin=reader, stdout=subprocess.PIPE, stderr=subprocess.DEVNULL)
+    os.close(reader)
+    for at in range(0, len(octets), 1024):
+        os.write(writer, octets[at : at + 1024])
+    os.close(writer)
+    text, _ = child.communicate(timeout=MOST_SECONDS)
+    return child.returncode, text
+
+
+def turns():
+    steps = one_commit()
+    whole = over(steps)
+    wrong = 0
+    for room in range(len(whole.text) + 1):
+        wanted = (0 if room == len(whole.text) else 5, whole.text[:room])
+        wrong += report_in(room, steps) != wanted
+    print(f"{'WRONG' if wrong else 'right'}: {len(whole.text)} octets of a report, each without room in turn: {wrong} wrong", flush=True)
+    lengths = [*range(len(steps) + 1), *(7 * lines for lines in (500, 585, 586, 1_000, 2_000, 20_000))]
+    odd = 0
+    for length in lengths:
+        octets = steps[:length] if length <= len(steps) else b"flow -\n" * (length // 7)
+        odd += run_from_a_terminal(octets) != (4, b"read fault\n")
+    print(f"{'WRONG' if odd else 'right'}: {len(lengths)} inputs whose next read fails: {odd} wrong", flush=True)
+    FAILED.extend(["reports without room"] * bool(wrong) + ["reads that fail"] * bool(odd))
+
+
 def endless():
     flow = subprocess.Popen(["yes", "flow -"], stdout=subprocess.PIPE, stderr=subprocess.DEVNULL)
     end = End(RUN, flow.stdout)
@@ -305,7 +353,7 @@ def random_octets(count=1_000_000):
 
 def main():
     global MEASURER
-    parts = {"devices": devices, "endless": endless, "picked": picked, "mutated": mutated, "random": random_octets}
+    parts = {"devices": devices, "turns": turns, "endless": endless, "picked": picked, "mutated": mutated, "random": random_octets}
     chosen = sys.argv[1:] or list(parts)
     if any(it not in parts for it in chosen):
         sys.exit(f"usage: hostile.py [{' | '.join(parts)}]..")
