@@ -253,7 +253,7 @@ fn each_error_has_its_text(rt: HostRuntime) {
         ),
         (
             CoordinatorError::from(DischargeError::Fault(refused_frame())),
-            "the commit failed: a frame of the commit was refused: the state does not allow it",
+            "the commit failed: the commit was refused below: the state does not allow it",
         ),
         (CoordinatorError::NoMemory, "out of memory"),
     ];

@@ -27,7 +27,7 @@ pub enum CommitFault {
     NoMemory,
     /// The layer below wanted memory, in its review or for a frame that it had accepted; the
     /// transaction has ended and the session has stopped.
-    #[error("a frame of the commit was refused: {error}")]
+    #[error("the commit was refused below: {error}")]
     Refused {
         /// Why.
         error: SessionInnerError,

@@ -58,7 +58,7 @@ fn errors_have_their_texts(rt: HostRuntime) {
                 error: SessionInnerError::HandleInUse,
                 handed: 2,
             },
-            "a frame of the commit was refused: the handle is in use",
+            "the commit was refused below: the handle is in use",
         ),
     ];
     assert_eq!(rt; other_text(alloc, &uncommitted).expect(&rt, "an Ok"), None);
