@@ -1,7 +1,8 @@
 pub mod Kept
+pub mod Views
 pub mod Standing
 pub mod Handing
-pub mod Going
+pub mod Recorded
 pub mod Parts
 pub mod Complete
 pub mod Running

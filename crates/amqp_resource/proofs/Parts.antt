@@ -36,7 +36,11 @@ use Rattle.amqp_sessions.specs.declared.transacting.CommitFault.{CommitFault}
 use Rattle.amqp_sessions.specs.declared.transacting.CommitFault.TheVariants as commit_faults
 use Rattle.amqp_resource.specs.Committing.{HandsSurely}
 use Rattle.amqp_resource.specs.Transacting.{step_error_of}
-use Rattle.amqp_resource.specs.Steps.{AnswersEnd, EndGave, FrameMayFault, IfAttachRefused, IfEnded, IfRefused, IfUnknown, IsControlAttach, IsDead, IsFirstStop, IsPost, MayFault, OnAttachRefused, OnNoMemory, OnNoCall, OnVeto, OpenedBy, Refused, RefusedAdds, RefusedBy, StepCause, StepGave, StopsSurely, TookFirst, TookHands, UnderDead, VetoedBy, calls_nothing, ended_by, entry_of, is_live_under, is_unknown, has_error, local_end, remote_end, rolls_back_by, takes_memory}
+use Rattle.amqp_resource.specs.Steps.{AnswersEnd, EndGave, FrameMayFault, IfAttachRefused, IfEnded, IfRefused, IfUnknown, IsControlAttach, IsDead, IsFirstStop, IsPost, MayFault, OnAttachRefused, OnNoMemory, OnNoCall, OnVeto, Refused, StepCause, StopsSurely, UnderDead, calls_nothing, ended_by, is_live_under, is_unknown, has_error, local_end, remote_end, rolls_back_by, step_hands, takes_memory}
+use Rattle.amqp_resource.specs.Keeping.{AnswerKeeps, FrameKeeps, StepKeeps}
+use Rattle.amqp_resource.specs.Views.{View, view_of_record}
+use Rattle.amqp_record.specs.Hands.{hands}
+use Rattle.amqp_resource.proofs.Recorded.{StepAnswered, StepGave}
 
 -- ---- choices
 
@@ -80,47 +84,18 @@ commit_calls k payload discharge d echoes P m b = subst (λ (c : Bool). MatchBoo
 
 -- ---- what is so of a reply
 
-pub step_answer : (h : Held) (old new : Told) (r : List Entry) (s : Step) (result : Result (DrawnIds × Reply) StepError) → StepGave h old new r s result → IfOk result (λ out. Answer r s out.0.ids out.1)
-step_answer h old new r s (Ok out) g = g.answer
-step_answer h old new r s (Err error) g = tt
-
-pub step_stands : (h : Held) (old new : Told) (r : List Entry) (s : Step) (result : Result (DrawnIds × Reply) StepError) → StepGave h old new r s result → IfOk result (λ out. Stands h (r ++ entry_of s out.0 out.1 ∷ []))
-step_stands h old new r s (Ok out) g = g.stands
-step_stands h old new r s (Err error) g = tt
-
-pub step_taken : (h : Held) (old new : Told) (r : List Entry) (s : Step) (result : Result (DrawnIds × Reply) StepError) → StepGave h old new r s result → IfOk result (λ out. TookHands old new r s out.1)
-step_taken h old new r s (Ok out) g = g.taken
-step_taken h old new r s (Err error) g = tt
-
-pub step_opened : (h : Held) (old new : Told) (r : List Entry) (s : Step) (result : Result (DrawnIds × Reply) StepError) → StepGave h old new r s result → IfOk result (λ out. OpenedBy old new s out.1)
-step_opened h old new r s (Ok out) g = g.opened
-step_opened h old new r s (Err error) g = tt
-
-pub step_refused : (h : Held) (old new : Told) (r : List Entry) (s : Step) (result : Result (DrawnIds × Reply) StepError) → StepGave h old new r s result → IfOk result (λ out. RefusedBy old new s out.1)
-step_refused h old new r s (Ok out) g = g.refused
-step_refused h old new r s (Err error) g = tt
-
-pub step_vetoed : (h : Held) (old new : Told) (r : List Entry) (s : Step) (result : Result (DrawnIds × Reply) StepError) → StepGave h old new r s result → IfOk result (λ out. VetoedBy old new r s out.1)
-step_vetoed h old new r s (Ok out) g = g.vetoed
-step_vetoed h old new r s (Err error) g = tt
+pub on_answered : (h : Held) (old new : Told) (r : List Entry) (s : Step) (result : Result (DrawnIds × Reply) StepError) (P : DrawnIds × Reply → Type 0) → ((out : DrawnIds × Reply) → StepAnswered h old new r s out.0 out.1 → P out) → StepGave h old new r s result → IfOk result P
+on_answered h old new r s (Ok out) P f g = f out g
+on_answered h old new r s (Err error) P f g = tt
 
 -- ---- what is so of a refusal below
 
-on_refused : (h : Held) (old new : Told) (r : List Entry) (s : Step) (result : Result (DrawnIds × Reply) StepError) (P : SessionInnerError → ℕ → Type 0) → ((error : SessionInnerError) (handed : ℕ) → Refused old new r s error handed → P error handed) → StepGave h old new r s result → IfRefused result P
+pub on_refused : (h : Held) (old new : Told) (r : List Entry) (s : Step) (result : Result (DrawnIds × Reply) StepError) (P : SessionInnerError → ℕ → Type 0) → ((error : SessionInnerError) (handed : ℕ) → Refused (view_of_record r) old new s (hands r s) error handed → P error handed) → StepGave h old new r s result → IfRefused result P
 on_refused h old new r s (Ok out) P f g = tt
 on_refused h old new r s (Err (errors.Fault error handed)) P f g = on_false _ (is_unknown error) (f error handed) g
 on_refused h old new r s (Err (errors.Ended reason)) P f g = tt
 on_refused h old new r s (Err (errors.Stopped code)) P f g = tt
 on_refused h old new r s (Err errors.NoMemory) P f g = tt
-
-pub step_part : (h : Held) (old new : Told) (r : List Entry) (s : Step) (result : Result (DrawnIds × Reply) StepError) → StepGave h old new r s result → IfRefused result (λ error handed. TookFirst old new r s handed)
-step_part h old new r s result g = on_refused h old new r s result (λ error handed. TookFirst old new r s handed) (λ error handed x. x.took) g
-
-pub step_last : (h : Held) (old new : Told) (r : List Entry) (s : Step) (result : Result (DrawnIds × Reply) StepError) → StepGave h old new r s result → IfRefused result (λ error handed. RefusedAdds old new r s error handed)
-step_last h old new r s result g = on_refused h old new r s result (λ error handed. RefusedAdds old new r s error handed) (λ error handed x. x.refused) g
-
-pub step_cause : (h : Held) (old new : Told) (r : List Entry) (s : Step) (result : Result (DrawnIds × Reply) StepError) → StepGave h old new r s result → IfRefused result (λ error handed. MayFault r s error)
-step_cause h old new r s result g = on_refused h old new r s result (λ error handed. MayFault r s error) (λ error handed x. x.fits) g
 
 pub opened_none : (h : Held) (old new : Told) (r : List Entry) (s : Step) (result : Result (DrawnIds × Reply) StepError) → StepGave h old new r s result → OnNoCall s result (new.opened ≡ old.opened) → OnErr result (new.opened ≡ old.opened)
 opened_none h old new r s (Ok out) g x = tt
@@ -138,44 +113,44 @@ vetoed_none h old new r s (Err errors.NoMemory) g x = x
 
 -- ---- unknown ids
 
-dead_frame : (r : List Entry) (frame : Frame) (o : Option TransactionId) (reply : Reply) → IsDead r o → AnswerFrame r frame o reply → ⊥
-dead_frame r frame None reply d a = d
-dead_frame r frame (Some t) (replies.Frames given) d a = let h = a.0 in cc (h, d)
-dead_frame r frame (Some t) _ d a = a
-
-dead_unanswered : (r : List Entry) (s : Step) (d : List TransactionId) (reply : Reply) → UnderDead r s → Answer r s d reply → ⊥
-dead_unanswered r (steps.Frame frame) d reply u a = dead_frame r frame (txn frame) reply u a.1
-dead_unanswered r _ d reply u a = u
-
-dead_no_fault : (r : List Entry) (s : Step) (error : SessionInnerError) → UnderDead r s → MayFault r s error → ⊥
-dead_no_fault r (steps.Frame frame) error u f = by_id (txn frame) u f
+dead_unanswered : (v w : View) (old new : Told) (s : Step) (d : List TransactionId) (reply : Reply) → UnderDead v s → StepKeeps v w old new s d reply → ⊥
+dead_unanswered v w old new (steps.Frame frame) d reply u x = by_id (txn frame) reply u x.1
   where
-    by_id : (o : Option TransactionId) → IsDead r o → FrameMayFault r frame o → ⊥
+    by_id : (o : Option TransactionId) (reply : Reply) → IsDead v o → FrameKeeps v w old new frame o reply → ⊥
+    by_id None reply u x = u
+    by_id (Some t) (replies.Frames a) u x = let l = x.was_live in cc (l, u)
+    by_id (Some t) _ u x = x
+dead_unanswered v w old new _ d reply u x = u
+
+dead_no_fault : (v : View) (s : Step) (handed : List Frame) (error : SessionInnerError) → UnderDead v s → MayFault v s handed error → ⊥
+dead_no_fault v (steps.Frame frame) handed error u f = by_id (txn frame) u f
+  where
+    by_id : (o : Option TransactionId) → IsDead v o → FrameMayFault v frame o → ⊥
     by_id None u f = u
     by_id (Some t) u f = let h = f.0 in cc (h, u)
-dead_no_fault r _ error u f = u
+dead_no_fault v _ handed error u f = u
 
-dead_no_memory : (r : List Entry) (s : Step) → UnderDead r s → takes_memory r s ≡ true → ⊥
-dead_no_memory r (steps.Frame frame) u f = by_id (txn frame) u f
+dead_no_memory : (v : View) (s : Step) → UnderDead v s → takes_memory v s ≡ true → ⊥
+dead_no_memory v (steps.Frame frame) u f = by_id (txn frame) u f
   where
-    by_id : (o : Option TransactionId) → IsDead r o → is_live_under r o ≡ true → ⊥
+    by_id : (o : Option TransactionId) → IsDead v o → is_live_under v o ≡ true → ⊥
     by_id None u f = u
     by_id (Some t) u f = cc (f, u)
-dead_no_memory r _ u f = u
+dead_no_memory v _ u f = u
 
-dead_no_end : (r : List Entry) (s : Step) (reason : SessionStopReason) → UnderDead r s → ended_by s ≡ Some reason → ⊥
-dead_no_end r (steps.Frame frame) reason u e = cc e
-dead_no_end r _ reason u e = u
+dead_no_end : (v : View) (s : Step) (reason : SessionStopReason) → UnderDead v s → ended_by s ≡ Some reason → ⊥
+dead_no_end v (steps.Frame frame) reason u e = cc e
+dead_no_end v _ reason u e = u
 
-pub step_unknown : (h : Held) (old new : Told) (r : List Entry) (s : Step) (result : Result (DrawnIds × Reply) StepError) → StepGave h old new r s result → UnderDead r s → result ≡ Err (errors.Fault faults.UnknownTxnId 0)
-step_unknown h old new r s (Ok out) g u = absurd (dead_unanswered r s out.0.ids out.1 u g.answer)
-step_unknown h old new r s (Err (errors.Fault faults.UnknownTxnId handed)) g u = ap (λ n. Err (errors.Fault faults.UnknownTxnId n)) g.1
-step_unknown h old new r s (Err (errors.Fault error handed)) g u = absurd (dead_no_fault r s error u g.fits)
-step_unknown h old new r s (Err (errors.Ended reason)) g u = absurd (dead_no_end r s reason u g)
-step_unknown h old new r s (Err (errors.Stopped code)) g u = absurd g
-step_unknown h old new r s (Err errors.NoMemory) g u = absurd (dead_no_memory r s u g.takes)
+pub step_unknown : (v w : View) (old new : Told) (s : Step) (result : Result (DrawnIds × Reply) StepError) → AnswerKeeps v w old new s result → UnderDead v s → result ≡ Err (errors.Fault faults.UnknownTxnId 0)
+step_unknown v w old new s (Ok out) x u = absurd (dead_unanswered v w old new s out.0.ids out.1 u x)
+step_unknown v w old new s (Err (errors.Fault faults.UnknownTxnId handed)) x u = ap (λ n. Err (errors.Fault faults.UnknownTxnId n)) x.1
+step_unknown v w old new s (Err (errors.Fault error handed)) x u = absurd (dead_no_fault v s (step_hands v s) error u x.fits)
+step_unknown v w old new s (Err (errors.Ended reason)) x u = absurd (dead_no_end v s reason u x)
+step_unknown v w old new s (Err (errors.Stopped code)) x u = absurd x
+step_unknown v w old new s (Err errors.NoMemory) x u = absurd (dead_no_memory v s u x)
 
-pub step_unknown_only : (h : Held) (old new : Told) (r : List Entry) (s : Step) (result : Result (DrawnIds × Reply) StepError) → StepGave h old new r s result → IfUnknown result (λ handed. UnderDead r s × (handed ≡ 0))
+pub step_unknown_only : (h : Held) (old new : Told) (r : List Entry) (s : Step) (result : Result (DrawnIds × Reply) StepError) → StepGave h old new r s result → IfUnknown result (λ handed. UnderDead (view_of_record r) s × (handed ≡ 0))
 step_unknown_only h old new r s (Ok out) g = tt
 step_unknown_only h old new r s (Err (errors.Fault error handed)) g = on_true _ (is_unknown error) (λ x. x) g
 step_unknown_only h old new r s (Err (errors.Ended reason)) g = tt
@@ -208,12 +183,12 @@ end_is (Some own) (Err errors.NoMemory) reason a e = inr refl
 
 -- ---- want of memory
 
-pub step_memory : (h : Held) (old new : Told) (r : List Entry) (s : Step) (result : Result (DrawnIds × Reply) StepError) → StepGave h old new r s result → OnNoMemory result (Stands h r × (takes_memory r s ≡ true))
+pub step_memory : (h : Held) (old new : Told) (r : List Entry) (s : Step) (result : Result (DrawnIds × Reply) StepError) → StepGave h old new r s result → OnNoMemory result (Stands h r × (takes_memory (view_of_record r) s ≡ true))
 step_memory h old new r s (Ok out) g = tt
 step_memory h old new r s (Err (errors.Fault error handed)) g = tt
 step_memory h old new r s (Err (errors.Ended reason)) g = tt
 step_memory h old new r s (Err (errors.Stopped code)) g = tt
-step_memory h old new r s (Err errors.NoMemory) g = (g.stands, g.takes)
+step_memory h old new r s (Err errors.NoMemory) g = g
 
 pub same_session : {S : Type 0} (old new : TxnSession S) (s : Step) (result : Result (DrawnIds × Reply) StepError) → OnNoMemory result (SameHeld (held_of old) (held_of new)) → OnNoCall s result (below_of new ≡ below_of old) → StopAfter result (stop_of new) → stop_of old ≡ None → OnNoMemory result (SameSession old new)
 same_session old new s (Ok out) held below stop runs = tt

@@ -37,6 +37,7 @@ use Rattle.amqp_resource.specs.declared.session.TxnSession.{TxnSession}
 use Rattle.amqp_resource.specs.Held.{Stands}
 use Rattle.amqp_layer.specs.Taking.{TookFrames}
 use Rattle.amqp_resource.specs.Steps.{IfAttachRefused, IfEnded, IfRefused, IfUnknown, IfVeto, IsControlAttach, IsFirstStop, MayFault, OnNoMemory, OnNoCall, OpenedBy, RefusedAdds, RefusedBy, StopsSurely, TookFirst, TookHands, UnderDead, VetoedBy, ended_by, entry_of, is_unknown, takes_memory}
+use Rattle.amqp_resource.specs.Views.{view_of_record}
 use Rattle.amqp_resource.specs.Session.{StopAfter, held_of, stop_of}
 use Rattle.amqp_resource.specs.Drive.{Left, NextStep, RunLeaves, RunRefused, RunRose, RunStopsSurely, RunTook, StopCause, StopsBy, StopsWith}
 use Rattle.amqp_txn_types.proofs.Growing.{grown-grown, grown-nil}
@@ -196,19 +197,19 @@ failed error = Err error
 -- what the step leaves
 pub record Broke (sure : Bool) (g : Held) (old new : Told) (r : List Entry) (s : Step) (error : StepError) (kept : Option StopCode) : Type 0 where
   pub first : IsFirstStop error
-  pub handed : IfRefused (failed error) (λ e n. TookFirst old new r s n)
+  pub handed : IfRefused (failed error) (λ e n. TookFirst old new (hands r s) n)
   pub opened : new.opened ≡ old.opened
-  pub refused : IfRefused (failed error) (λ e n. RefusedAdds old new r s e n)
-  pub unknown : UnderDead r s → failed error ≡ Err (errors.Fault faults.UnknownTxnId 0)
-  pub unknown_only : IfUnknown (failed error) (λ n. UnderDead r s × (n ≡ 0))
-  pub refusal : IfRefused (failed error) (λ e n. MayFault r s e)
+  pub refused : IfRefused (failed error) (λ e n. RefusedAdds old new s (hands r s) e n)
+  pub unknown : UnderDead (view_of_record r) s → failed error ≡ Err (errors.Fault faults.UnknownTxnId 0)
+  pub unknown_only : IfUnknown (failed error) (λ n. UnderDead (view_of_record r) s × (n ≡ 0))
+  pub refusal : IfRefused (failed error) (λ e n. MayFault (view_of_record r) s (hands r s) e)
   pub surely : IfRefused (failed error) (λ e n. StopsSurely sure s n)
   pub vetoed : new.reviews.vetoed ≡ old.reviews.vetoed
   pub counted : old.reviews.vetoes ≤ new.reviews.vetoes
   pub rose : IfRefused (failed error) (λ e n. Rose old.refusals new.refusals)
   pub ended : (reason : SessionStopReason) → ended_by s ≡ Some reason → (failed error ≡ Err (errors.Ended reason)) ⊎ (failed error ≡ Err errors.NoMemory)
   pub ended_only : IfEnded (failed error) (λ reason. ended_by s ≡ Some reason)
-  pub memory : OnNoMemory (failed error) (Stands g r × (takes_memory r s ≡ true))
+  pub memory : OnNoMemory (failed error) (Stands g r × (takes_memory (view_of_record r) s ≡ true))
   pub own : OnNoCall s (failed error) (new ≡ old)
   pub later : old.refusals ≤ new.refusals
   pub fixed : new.fixed ≡ old.fixed
@@ -227,7 +228,7 @@ both Z f true x y = f x y
 both Z f false x y = tt
 
 pub broke_cause : (sure : Bool) (g : Held) (old new : Told) (r : List Entry) (s : Step) (error : StepError) (kept : Option StopCode) (all rest : List Step) → Left all r (s ∷ rest) → Broke sure g old new r s error kept → StopCause all r (stop_by error)
-broke_cause sure g old new r s (errors.Fault error handed) kept all rest l b = (s, rest, l, pick (is_unknown error) (λ (x : UnderDead r s × (handed ≡ 0)). x.0) (λ (x : MayFault r s error). x) b.unknown_only b.refusal)
+broke_cause sure g old new r s (errors.Fault error handed) kept all rest l b = (s, rest, l, pick (is_unknown error) (λ (x : UnderDead (view_of_record r) s × (handed ≡ 0)). x.0) (λ (x : MayFault (view_of_record r) s (hands r s) error). x) b.unknown_only b.refusal)
 broke_cause sure g old new r s (errors.Ended reason) kept all rest l b = (s, rest, l, b.ended_only)
 broke_cause sure g old new r s (errors.Stopped code) kept all rest l b = absurd b.first
 broke_cause sure g old new r s errors.NoMemory kept all rest l b = (s, rest, l, b.memory.1)
@@ -241,10 +242,10 @@ broke_not_done sure g old new r s errors.NoMemory kept b e = cc e
 pub broke_done : (sure : Bool) (g : Held) (old new : Told) (r : List Entry) (s : Step) (error : StepError) (kept : Option StopCode) (all rest : List Step) → Left all r (s ∷ rest) → Broke sure g old new r s error kept → (stop_by error ≡ stops.Done) ↔ (steps_of r ≡ all)
 broke_done sure g old new r s error kept all rest l b = (λ e. absurd (broke_not_done sure g old new r s error kept b e), λ e. absurd (more_left all rest r s l e))
 
-pub broke_unknown : (sure : Bool) (g : Held) (old new : Told) (r : List Entry) (s : Step) (error : StepError) (kept : Option StopCode) (all rest : List Step) → Left all r (s ∷ rest) → Broke sure g old new r s error kept → NextStep all r (λ x. UnderDead r x) → stop_by error ≡ stops.Fault faults.UnknownTxnId
+pub broke_unknown : (sure : Bool) (g : Held) (old new : Told) (r : List Entry) (s : Step) (error : StepError) (kept : Option StopCode) (all rest : List Step) → Left all r (s ∷ rest) → Broke sure g old new r s error kept → NextStep all r (λ x. UnderDead (view_of_record r) x) → stop_by error ≡ stops.Fault faults.UnknownTxnId
 broke_unknown sure g old new r s error kept all rest l b n =
     let here : n.0 ≡ s = same_next (steps_of r) n.1 rest n.0 s (sym n.2 ∙ l) in
-    let said = b.unknown (subst (λ (x : Step). UnderDead r x) here n.3) in
+    let said = b.unknown (subst (λ (x : Step). UnderDead (view_of_record r) x) here n.3) in
     let same : error ≡ errors.Fault faults.UnknownTxnId 0 = cc said in
     ap stop_by same
 
@@ -260,8 +261,8 @@ broke_ended sure g old new r s error kept all rest l b reason n =
 pub broke_took : (sure : Bool) (g : Held) (old mid new : Told) (f k : ℕ → TransactionId) (h : Held) (r : List Entry) (s : Step) (error : StepError) (kept : Option StopCode) (all rest : List Step) → Left all r (s ∷ rest) → Ran old mid f k h r → Broke sure g mid new r s error kept → RunTook old.taken new.taken all r (stop_by error) (handed_of error)
 broke_took sure g old mid new f k h r s (errors.Fault error handed) kept all rest l ran b =
     pick (is_unknown error) (λ (x : (new ≡ mid) × (handed ≡ 0)). (ap (λ t. t.taken) x.0 ∙ ran.taken, x.1))
-    (λ (x : TookFirst mid new r s handed). (s, rest, l, (x.0, subst (λ (o : Option (List (Frame × List Frame))). TookFrames o new.taken (take handed (hands r s))) ran.taken x.1)))
-    (both ((new ≡ mid) × (handed ≡ 0)) (λ (x : new ≡ mid) (y : UnderDead r s × (handed ≡ 0)). (x, y.1)) (is_unknown error) b.own b.unknown_only) b.handed
+    (λ (x : TookFirst mid new (hands r s) handed). (s, rest, l, (x.0, subst (λ (o : Option (List (Frame × List Frame))). TookFrames o new.taken (take handed (hands r s))) ran.taken x.1)))
+    (both ((new ≡ mid) × (handed ≡ 0)) (λ (x : new ≡ mid) (y : UnderDead (view_of_record r) s × (handed ≡ 0)). (x, y.1)) (is_unknown error) b.own b.unknown_only) b.handed
 broke_took sure g old mid new f k h r s (errors.Ended reason) kept all rest l ran b = (ap (λ t. t.taken) b.own ∙ ran.taken, refl)
 broke_took sure g old mid new f k h r s (errors.Stopped code) kept all rest l ran b = absurd b.first
 broke_took sure g old mid new f k h r s errors.NoMemory kept all rest l ran b = (ap (λ t. t.taken) b.own ∙ ran.taken, refl)
@@ -269,7 +270,7 @@ broke_took sure g old mid new f k h r s errors.NoMemory kept all rest l ran b = 
 pub broke_refused : (sure : Bool) (g : Held) (old mid new : Told) (f k : ℕ → TransactionId) (h : Held) (r : List Entry) (s : Step) (error : StepError) (kept : Option StopCode) (all rest : List Step) → Left all r (s ∷ rest) → Ran old mid f k h r → Broke sure g mid new r s error kept → RunRefused old.refused new.refused all r (stop_by error) (handed_of error)
 broke_refused sure g old mid new f k h r s (errors.Fault error handed) kept all rest l ran b =
     pick (is_unknown error) (λ (x : new ≡ mid). ap (λ t. t.refused) x ∙ ran.refused)
-    (λ (x : RefusedAdds mid new r s error handed). (s, rest, l, (x.0, x.1, x.2 ∙ ap (λ o. grown o x.0) ran.refused ∙ grown-grown old.refused (refuses r) x.0)))
+    (λ (x : RefusedAdds mid new s (hands r s) error handed). (s, rest, l, (x.0, x.1, x.2 ∙ ap (λ o. grown o x.0) ran.refused ∙ grown-grown old.refused (refuses r) x.0)))
     b.own b.refused
 broke_refused sure g old mid new f k h r s (errors.Ended reason) kept all rest l ran b = ap (λ t. t.refused) b.own ∙ ran.refused
 broke_refused sure g old mid new f k h r s (errors.Stopped code) kept all rest l ran b = absurd b.first

@@ -1,4 +1,5 @@
 pub mod Held
+pub mod Views
 pub mod Posting
 pub mod Committing
 pub mod Draws

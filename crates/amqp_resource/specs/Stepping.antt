@@ -11,11 +11,13 @@ use Rattle.amqp_record.specs.declared.reply.Reply.{Reply}
 use Rattle.amqp_record.specs.declared.stop.StepError.{StepError}
 use Rattle.amqp_record.specs.declared.stop.StepError.TheVariants as errors
 use Rattle.amqp_record.specs.Answers.{Answer}
+use Rattle.amqp_record.specs.Hands.{hands}
 use Rattle.amqp_resource.specs.declared.session.TxnSession.{TxnSession}
 use Rattle.amqp_resource.specs.Steps.{entry_of, ended_by, takes_memory, AnswersEnd, IfEnded, IfRefused, IfUnknown, IsControlAttach, IsFirstStop, MayFault, OnAttachRefused, OnNoMemory, OnNoCall, OnVeto, OpenedBy, RefusedAdds, RefusedBy, StopsSurely, TookFirst, TookHands, UnderDead, VetoedBy}
 use Rattle.amqp_resource.specs.Complete.{InOrder, Completed}
-use Rattle.amqp_resource.specs.Keeping.{AnswerKeeps, UnderUnkept}
-use Rattle.amqp_resource.specs.Session.{FitsTogether, ForEachRecord, SameSession, StandsFor, StopAfter, below_of, held_of, refusals_of, stop_of, told_of, vetoes_of}
+use Rattle.amqp_resource.specs.Keeping.{AnswerKeeps}
+use Rattle.amqp_resource.specs.Views.{view_of_record}
+use Rattle.amqp_resource.specs.Session.{FitsTogether, ForEachRecord, SameSession, StandsFor, StopAfter, below_of, refusals_of, stop_of, told_of, vetoes_of, view_of}
 
 -- the clauses of a step, each by its name: on a session over a layer that tells this, and is sure or
 -- not, with a source that gives these ids
@@ -37,7 +39,7 @@ pub record StepSays {S G : Type 0} (told : S → Told) (sure : Bool) (next : G �
   pub taken : ForEachRecord old (λ r. IfOk result (λ out.
       TookHands (told_of told old) (told_of told new) r s out.1))
   pub handed : ForEachRecord old (λ r. IfRefused result (λ error handed.
-      TookFirst (told_of told old) (told_of told new) r s handed))
+      TookFirst (told_of told old) (told_of told new) (hands r s) handed))
   -- What below opened, refused and vetoed.
   pub opened : ForEachRecord old (λ r. IfOk result (λ out.
       OpenedBy (told_of told old) (told_of told new) s out.1))
@@ -46,21 +48,20 @@ pub record StepSays {S G : Type 0} (told : S → Told) (sure : Bool) (next : G �
   pub refused : ForEachRecord old (λ r. IfOk result (λ out.
       RefusedBy (told_of told old) (told_of told new) s out.1))
   pub refused_last : ForEachRecord old (λ r. IfRefused result (λ error handed.
-      RefusedAdds (told_of told old) (told_of told new) r s error
-      handed))
+      RefusedAdds (told_of told old) (told_of told new) s (hands r s) error handed))
   pub vetoed : ForEachRecord old (λ r. IfOk result (λ out.
       VetoedBy (told_of told old) (told_of told new) r s out.1))
   pub vetoed_none : ForEachRecord old (λ r. OnErr result
       ((told_of told new).reviews.vetoed ≡ (told_of told old).reviews.vetoed))
   -- An unknown id is the fault of work under an id that isn't live, and of nothing else.
   pub unknown : ForEachRecord old (λ r.
-      UnderDead r s → result ≡ Err (errors.Fault faults.UnknownTxnId 0))
+      UnderDead (view_of_record r) s → result ≡ Err (errors.Fault faults.UnknownTxnId 0))
   pub unknown_only : ForEachRecord old (λ r. IfUnknown result (λ handed.
-      UnderDead r s × (handed ≡ 0)))
+      UnderDead (view_of_record r) s × (handed ≡ 0)))
   -- Every other fault is a refusal below, of a step that makes a call there. In a commit it is
   -- want of memory, and over a sure layer no frame was taken.
   pub refusal : ForEachRecord old (λ r. IfRefused result
-      (λ error handed. MayFault r s error))
+      (λ error handed. MayFault (view_of_record r) s (hands r s) error))
   pub surely : IfRefused result (λ error handed. StopsSurely sure s handed)
   pub refusal_rose : IfRefused result (λ error handed.
       Rose (told_of told old).refusals (told_of told new).refusals)
@@ -78,7 +79,7 @@ pub record StepSays {S G : Type 0} (told : S → Told) (sure : Bool) (next : G �
   -- no step that takes none.
   pub same : OnNoMemory result (SameSession old new)
   pub memory : ForEachRecord old (λ r. OnNoMemory result
-      (StandsFor new r × (takes_memory r s ≡ true)))
+      (StandsFor new r × (takes_memory (view_of_record r) s ≡ true)))
   -- An error that isn't a refusal below makes no call there. The count of refusals never
   -- falls.
   pub untouched : OnNoCall s result (below_of new ≡ below_of old)
@@ -89,11 +90,9 @@ pub record StepSays {S G : Type 0} (told : S → Told) (sure : Bool) (next : G �
   -- was done below.
   pub fits : FitsTogether old → FitsTogether new
   pub keeps : stop_of old ≡ None → FitsTogether old
-      → AnswerKeeps (held_of old) (held_of new)
-      (told_of told old) (told_of told new) s result
+      → AnswerKeeps (view_of old) (view_of new) (told_of told old) (told_of told new) s result
   pub dead : stop_of old ≡ None → FitsTogether old
-      → UnderUnkept (held_of old) s →
-      result ≡ Err (errors.Fault faults.UnknownTxnId 0)
+      → UnderDead (view_of old) s → result ≡ Err (errors.Fault faults.UnknownTxnId 0)
   pub attach_rose : OnAttachRefused result
       (Rose (told_of told old).refusals (told_of told new).refusals)
   -- The counts of its own calls, those of its traits, have no part in it.

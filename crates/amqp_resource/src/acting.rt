@@ -7,7 +7,7 @@ ghost use Rattle.amqp_record.specs.declared.step.Step.TheVariants as steps;
 ghost use Rattle.amqp_resource.specs.Held.{SameHeld};
 ghost use Rattle.amqp_resource.specs.Keeping.{Fits, Keeps};
 ghost use Rattle.amqp_resource.specs.Looking.{Pays, frames_added, frames_ended};
-ghost use Rattle.amqp_resource.specs.Steps.{StepDoes, StepCause, AnswersEnd, IfRefused, OnNoMemory, OnNoCall, StopsSurely, ended_by};
+ghost use Rattle.amqp_resource.specs.Steps.{StepCause, AnswersEnd, IfRefused, OnNoMemory, OnNoCall, StopsSurely, ended_by};
 
 use crate::declaring::{declare_step, global_step};
 use crate::discharging::discharge_step;
@@ -34,8 +34,6 @@ fn control_step<S: LayerBelow, G: IdSource, L: Ledger>(
     ids: &mut G,
     looks: &mut Looks<L>,
 ) -> Result<(Drawn, Reply), StepError>
-    ensures goes { StepDoes held.old held.new (S.told below.old) (S.told below.new)
-        (steps.Control link payload.now) result }
     ensures keeps { Fits held.old → Keeps held.old held.new (S.told below.old) (S.told below.new)
         (steps.Control link payload.now) result }
     ensures cause { StepCause (S.told below.old) (S.told below.new)
@@ -84,8 +82,6 @@ fn act<S: LayerBelow, G: IdSource, L: Ledger>(
     looks: &mut Looks<L>,
 ) -> Result<(Drawn, Reply), StepError>
     requires room { held.old.opened < 2 ^ 64 - 1 }
-    ensures goes { StepDoes held.old held.new (S.told below.old) (S.told below.new) step.now
-        result }
     ensures keeps { Fits held.old → Keeps held.old held.new (S.told below.old) (S.told below.new)
         step.now result }
     ensures cause { StepCause (S.told below.old) (S.told below.new) step.now
@@ -125,8 +121,6 @@ pub fn take_step<S: LayerBelow, G: IdSource, L: Ledger>(
     looks: &mut Looks<L>,
 ) -> Result<(Drawn, Reply), StepError>
     requires room { held.old.opened < 2 ^ 64 - 1 }
-    ensures goes { StepDoes held.old held.new (S.told below.old) (S.told below.new) step.now
-        result }
     ensures keeps { Fits held.old → Keeps held.old held.new (S.told below.old) (S.told below.new)
         step.now result }
     ensures cause { StepCause (S.told below.old) (S.told below.new) step.now

@@ -14,7 +14,7 @@ ghost use Rattle.amqp_resource.specs.Committing.{HandsAll, HandsSurely};
 ghost use Rattle.amqp_resource.specs.Transacting.{CommittedIn, CommittedWith, Ended, RolledBackIn, step_error_of};
 ghost use Rattle.amqp_resource.specs.Keeping.{Fits, Keeps};
 ghost use Rattle.amqp_resource.specs.Looking.{Pays, frames_ended};
-ghost use Rattle.amqp_resource.specs.Steps.{StepDoes, StepCause, IfRefused, OnNoMemory, OnNoCall, StopsSurely, nothing_drawn};
+ghost use Rattle.amqp_resource.specs.Steps.{StepCause, IfRefused, OnNoMemory, OnNoCall, StopsSurely, nothing_drawn};
 
 use crate::committing::{hand_reviewed, strip_all};
 use crate::held::{Held, drop_work, is_declared_on};
@@ -124,8 +124,6 @@ pub fn discharge_step<S: LayerBelow, L: Ledger>(
 ) -> Result<(Drawn, Reply), StepError>
     requires message { message_of payload.now ≡ Some (messages.Discharge discharge) }
     requires opened { is_in held.old.links.entries link ≡ true }
-    ensures goes { StepDoes held.old held.new (S.told below.old) (S.told below.new)
-        (steps.Control link payload.now) result }
     ensures keeps { Fits held.old → Keeps held.old held.new (S.told below.old) (S.told below.new)
         (steps.Control link payload.now) result }
     ensures cause { StepCause (S.told below.old) (S.told below.new)

@@ -12,7 +12,7 @@ ghost use Rattle.amqp_resource.specs.Opening.{OpensLink};
 ghost use Rattle.amqp_resource.specs.Posting.{Posted};
 ghost use Rattle.amqp_resource.specs.Keeping.{Fits, Keeps};
 ghost use Rattle.amqp_resource.specs.Looking.{Adds, frames_added};
-ghost use Rattle.amqp_resource.specs.Steps.{StepDoes, StepCause, OnNoMemory, OnNoCall, nothing_drawn};
+ghost use Rattle.amqp_resource.specs.Steps.{StepCause, OnNoMemory, OnNoCall, nothing_drawn};
 
 use crate::held::{Held, open_link};
 use crate::outcomes::{fault_of, handed_with, no_draws};
@@ -34,8 +34,6 @@ fn plain_step<S: LayerBelow>(
     frame: &Frame,
 ) -> Result<(Drawn, Reply), StepError>
     requires { is_plain_frame frame.now ≡ true }
-    ensures goes { StepDoes held.now held.now (S.told below.old) (S.told below.new)
-        (steps.Frame frame.now) result }
     ensures keeps { Fits held.now → Keeps held.now held.now (S.told below.old) (S.told below.new)
         (steps.Frame frame.now) result }
     ensures cause { StepCause (S.told below.old) (S.told below.new)
@@ -150,8 +148,6 @@ fn post_step<S: LayerBelow>(
     id: TransactionId,
 ) -> Result<(Drawn, Reply), StepError>
     requires { txn frame.now ≡ Some id }
-    ensures goes { StepDoes held.old held.new (S.told below.old) (S.told below.new)
-        (steps.Frame frame.now) result }
     ensures keeps { Fits held.old → Keeps held.old held.new (S.told below.old) (S.told below.new)
         (steps.Frame frame.now) result }
     ensures cause { StepCause (S.told below.old) (S.told below.new)
@@ -224,8 +220,6 @@ fn attach_step<S: LayerBelow>(
 ) -> Result<(Drawn, Reply), StepError>
     requires coordinator { attaches_coordinator attach.now ≡ true }
     requires room { held.old.opened < 2 ^ 64 - 1 }
-    ensures goes { StepDoes held.old held.new (S.told below.old) (S.told below.new)
-        (steps.Frame (frames.Attach attach.now)) result }
     ensures keeps { Fits held.old → Keeps held.old held.new (S.told below.old) (S.told below.new)
         (steps.Frame (frames.Attach attach.now)) result }
     ensures cause { StepCause (S.told below.old) (S.told below.new)
@@ -275,8 +269,6 @@ pub fn frame_step<S: LayerBelow>(
     frame: &Frame,
 ) -> Result<(Drawn, Reply), StepError>
     requires room { held.old.opened < 2 ^ 64 - 1 }
-    ensures goes { StepDoes held.old held.new (S.told below.old) (S.told below.new)
-        (steps.Frame frame.now) result }
     ensures keeps { Fits held.old → Keeps held.old held.new (S.told below.old) (S.told below.new)
         (steps.Frame frame.now) result }
     ensures cause { StepCause (S.told below.old) (S.told below.new)

@@ -7,7 +7,7 @@ ghost use Rattle.amqp_record.specs.declared.step.Step.TheVariants as steps;
 ghost use Rattle.amqp_resource.specs.Held.{SameHeld, is_in};
 ghost use Rattle.amqp_resource.specs.Keeping.{Fits, Keeps};
 ghost use Rattle.amqp_resource.specs.Looking.{Pays, frames_ended};
-ghost use Rattle.amqp_resource.specs.Steps.{StepDoesHere, StepCause, OnNoMemory, nothing_drawn};
+ghost use Rattle.amqp_resource.specs.Steps.{StepCause, OnNoMemory, nothing_drawn};
 
 use crate::held::{Held, end_link, has_link};
 use crate::outcomes::no_draws;
@@ -25,7 +25,6 @@ pub fn link_end_step<L: Ledger>(
     link: u64,
     looks: &mut Looks<L>,
 ) -> Result<(Drawn, Reply), StepError>
-    ensures goes { StepDoesHere held.old held.new (steps.LinkEnd link) result }
     ensures keeps { (told : Told) → Fits held.old
         → Keeps held.old held.new told told (steps.LinkEnd link) result }
     ensures cause { (told : Told) → StepCause told told (steps.LinkEnd link) result }
@@ -51,7 +50,6 @@ pub fn close_step<L: Ledger>(
 ) -> Result<(Drawn, Reply), StepError>
     requires message { message_of payload.now ≡ None }
     requires opened { is_in held.old.links.entries link ≡ true }
-    ensures goes { StepDoesHere held.old held.new (steps.Control link payload.now) result }
     ensures keeps { (told : Told) → Fits held.old
         → Keeps held.old held.new told told (steps.Control link payload.now) result }
     ensures cause { (told : Told) → StepCause told told (steps.Control link payload.now) result }
@@ -72,7 +70,6 @@ pub fn no_link_step(
     payload: &Payload,
 ) -> Result<(Drawn, Reply), StepError>
     requires { is_in held.now.links.entries link ≡ false }
-    ensures goes { StepDoesHere held.now held.now (steps.Control link payload.now) result }
     ensures keeps { (told : Told) → Fits held.now
         → Keeps held.now held.now told told (steps.Control link payload.now) result }
     ensures cause { (told : Told) → StepCause told told (steps.Control link payload.now) result }

@@ -4,9 +4,6 @@ use Rattle.amqp_resource.proofs.Keeping.{keeps-end}
 use Rattle.amqp_resource.proofs.Looked.{pays_adds, pays_none}
 use Rattle.amqp_resource.proofs.acting.act.Goals as goal
 
-pub returns-in-LinkEnd-clause-goes : goal.returns-in-LinkEnd-clause-goes
-returns-in-LinkEnd-clause-goes g c r s = rw c.in-LinkEnd.is (c.link_end_step.ensures.goes r s _)
-
 pub returns-in-LinkEnd-clause-cause : goal.returns-in-LinkEnd-clause-cause
 returns-in-LinkEnd-clause-cause g c = rw c.in-LinkEnd.is (c.link_end_step.ensures.cause (g.S.Tells.told c.args.below.now))
 
@@ -29,13 +26,13 @@ pub returns-in-LinkEnd-clause-keeps : goal.returns-in-LinkEnd-clause-keeps
 returns-in-LinkEnd-clause-keeps g c f = rw c.in-LinkEnd.is (c.link_end_step.ensures.keeps _ f)
 
 pub returns-in-LocalEnd-clause-keeps : goal.returns-in-LocalEnd-clause-keeps
-returns-in-LocalEnd-clause-keeps g c f = rw c.in-LocalEnd.is (keeps-end c.args.held.now _ _ _ _ _ c.end_locally.ensures refl (λ u. u) f)
+returns-in-LocalEnd-clause-keeps g c f = rw c.in-LocalEnd.is (keeps-end c.args.held.now _ _ _ _ _ c.end_locally.ensures refl refl f)
 
 pub returns-in-RemoteEnd-clause-keeps : goal.returns-in-RemoteEnd-clause-keeps
-returns-in-RemoteEnd-clause-keeps g c f = rw c.in-RemoteEnd.is (keeps-end c.args.held.now _ _ _ _ _ c.end_remotely.ensures refl (λ u. u) f)
+returns-in-RemoteEnd-clause-keeps g c f = rw c.in-RemoteEnd.is (keeps-end c.args.held.now _ _ _ _ _ c.end_remotely.ensures refl refl f)
 
 pub returns-in-ConnectionStop-clause-keeps : goal.returns-in-ConnectionStop-clause-keeps
-returns-in-ConnectionStop-clause-keeps g c f = rw c.in-ConnectionStop.is (keeps-end c.args.held.now _ _ _ _ _ c.end_with_connection.ensures refl (λ u. u) f)
+returns-in-ConnectionStop-clause-keeps g c f = rw c.in-ConnectionStop.is (keeps-end c.args.held.now _ _ _ _ _ c.end_with_connection.ensures refl refl f)
 
 pub returns-in-LocalEnd-clause-untouched : goal.returns-in-LocalEnd-clause-untouched
 returns-in-LocalEnd-clause-untouched g c = no_call_holds c.args.step.now (Err c.end_locally.result) (c.args.below.now ≡ c.args.below.now) refl

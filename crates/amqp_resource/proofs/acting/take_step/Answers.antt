@@ -1,16 +1,13 @@
 use Rattle.std.proofs.Common.{refl}
 use Rattle.amqp_resource.specs.Held.{SameHeld}
 use Rattle.amqp_resource.proofs.Looked.{pays_settled}
-use Rattle.amqp_resource.proofs.Moved.{does_moved, keeps_moved, same_moved}
+use Rattle.amqp_resource.proofs.Moved.{keeps_moved, same_moved}
 use Rattle.amqp_resource.proofs.acting.take_step.Given.{Over}
 use Rattle.amqp_resource.proofs.acting.take_step.Goals as goal
 
 -- what the step left is as it was, the log closed up
 settled : (g : Over) (c : goal.After-settle g) → SameHeld c.act-result.new.held (record c.act-result.new.held { work = c.settle.new.self })
 settled g c = record { live = c.settle.ensures.same.kept; links = λ k. refl; opened = refl }
-
-pub returns-clause-goes : goal.returns-clause-goes
-returns-clause-goes g c = does_moved c.args.held.now _ _ _ _ c.args.step.now c.act-result.result (settled g c) c.act-result.ensures.goes
 
 pub returns-clause-keeps : goal.returns-clause-keeps
 returns-clause-keeps g c f = keeps_moved c.args.held.now _ _ _ _ c.args.step.now c.act-result.result (settled g c) (c.act-result.ensures.keeps f)

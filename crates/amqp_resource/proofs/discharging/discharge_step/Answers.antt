@@ -6,8 +6,7 @@ use Rattle.amqp_record.specs.declared.reply.Reply.TheVariants as replies
 use Rattle.amqp_record.specs.declared.reply.RejectText.TheVariants as texts
 use Rattle.amqp_record.specs.declared.step.Step.TheVariants as steps
 use Rattle.amqp_resource.specs.Held.{is_kept_on}
-use Rattle.amqp_resource.proofs.Going.{fault_goes, answered-absent, answered-rollback, answered-commit, answered-veto, not_held, held_here}
-use Rattle.amqp_resource.proofs.Keeping.{keeps-discharged, keeps-fault, keeps-rejected, keeps-vetoed, same_held}
+use Rattle.amqp_resource.proofs.Keeping.{held_here, keeps-absent, keeps-discharged, keeps-fault, keeps-vetoed}
 use Rattle.amqp_txn_types.specs.Frames.{stripped}
 use Rattle.amqp_txn_types.specs.declared.small.TransactionError.{TransactionError}
 use Rattle.amqp_layer.specs.declared.answers.Answers.{Answers}
@@ -23,42 +22,6 @@ drop_work-requires g c = ap (option_map home_of) (held_here c.args.held.now c.ar
 
 pub commit_live-requires : goal.commit_live-requires
 commit_live-requires g c = ap (option_map home_of) (held_here c.args.held.now c.args.discharge.txn_id c.args.link (sym c.is_declared_on.ensures ∙ c.if-not-is_declared_on.false))
-
-pub returns-then-not-is_declared_on-clause-goes : goal.returns-then-not-is_declared_on-clause-goes
-returns-then-not-is_declared_on-clause-goes g c r s =
-    rw (c.no_draws.ensures, c.rejected.ensures) (answered-absent c.args.held.now r c.args.link c.args.payload.now c.args.discharge (g.S.Tells.told c.args.below.now) c.requires.message c.requires.opened s
-    (not_held c.args.held.now r c.args.link c.args.discharge.txn_id s (sym c.is_declared_on.ensures ∙ c.if-not-is_declared_on.true)))
-
-pub returns-then-rolls_back-clause-goes : goal.returns-then-rolls_back-clause-goes
-returns-then-rolls_back-clause-goes g c r s =
-    let ended = c.drop_work.ensures in
-    let here : is_kept_on c.args.link (kept c.args.held.now.work c.args.discharge.txn_id) ≡ true = sym c.is_declared_on.ensures ∙ c.if-not-is_declared_on.false in
-    rw (c.no_draws-then-rolls_back.ensures, c.new.ensures)
-    (answered-rollback c.args.held.now c.drop_work.new.held r c.args.link c.args.payload.now c.args.discharge _ (g.S.Tells.told c.args.below.now) c.requires.message
-    (sym c.rolls_back.ensures ∙ c.if-rolls_back.true) c.requires.opened s
-    (held_here c.args.held.now c.args.discharge.txn_id c.args.link here)
-    (record { live = ended.rest; links = ended.links; tied = ended.tied; opened = ended.opened }))
-
-pub returns-in-Ok-Ok-clause-goes : goal.returns-in-Ok-Ok-clause-goes
-returns-in-Ok-Ok-clause-goes g c r s =
-    let P : Result (List Answers) TransactionError → Type 0 = λ answer. CommittedWith c.args.held.now c.commit_live.new.held (g.S.Tells.told c.args.below.now) (g.S.Tells.told c.commit_live.new.below) c.args.discharge.txn_id (frames_kept (kept c.args.held.now.work c.args.discharge.txn_id)) (c.commit_live.new.below ≡ c.args.below.now) (Ok answer) in
-    let committed : P (Ok c.in-Ok-Ok.echoes) = subst P c.in-Ok-Ok.field-0-is c.in-Ok-Ok.ensures.answer in
-    let here : is_kept_on c.args.link (kept c.args.held.now.work c.args.discharge.txn_id) ≡ true = sym c.is_declared_on.ensures ∙ c.if-not-is_declared_on.false in
-    rw c.no_draws-in-Ok-Ok.ensures
-    (answered-commit c.args.held.now c.commit_live.new.held r c.args.link c.args.payload.now c.args.discharge _ c.in-Ok-Ok.echoes (g.S.Tells.told c.args.below.now) (g.S.Tells.told c.commit_live.new.below) c.requires.message
-    (sym c.rolls_back.ensures ∙ c.if-rolls_back.false) c.requires.opened s
-    (held_here c.args.held.now c.args.discharge.txn_id c.args.link here) committed.0 committed.1)
-
-pub returns-in-Ok-Err-clause-goes : goal.returns-in-Ok-Err-clause-goes
-returns-in-Ok-Err-clause-goes g c r s =
-    let P : Result (List Answers) TransactionError → Type 0 = λ answer. CommittedWith c.args.held.now c.commit_live.new.held (g.S.Tells.told c.args.below.now) (g.S.Tells.told c.commit_live.new.below) c.args.discharge.txn_id (frames_kept (kept c.args.held.now.work c.args.discharge.txn_id)) (c.commit_live.new.below ≡ c.args.below.now) (Ok answer) in
-    let committed : P (Err c.in-Ok-Err.error) = subst P c.in-Ok-Err.field-0-is c.in-Ok-Err.ensures.answer in
-    let is = committed.1.handed.0 in
-    let here : is_kept_on c.args.link (kept c.args.held.now.work c.args.discharge.txn_id) ≡ true = sym c.is_declared_on.ensures ∙ c.if-not-is_declared_on.false in
-    rw (c.no_draws-in-Ok-Err.ensures, c.rejected-in-Ok-Err.ensures, is)
-    (answered-veto c.args.held.now c.commit_live.new.held r c.args.link c.args.payload.now c.args.discharge _ (g.S.Tells.told c.args.below.now) (g.S.Tells.told c.commit_live.new.below) c.requires.message
-    (sym c.rolls_back.ensures ∙ c.if-rolls_back.false) c.requires.opened s
-    (held_here c.args.held.now c.args.discharge.txn_id c.args.link here) committed.0 (subst (λ (e : TransactionError). HandsAll (g.S.Tells.told c.args.below.now) (g.S.Tells.told c.commit_live.new.below) (map stripped (frames_kept (kept c.args.held.now.work c.args.discharge.txn_id))) (Ok (Err e))) is committed.1))
 
 pub returns-in-Ok-Err-clause-keeps : goal.returns-in-Ok-Err-clause-keeps
 returns-in-Ok-Err-clause-keeps g c f =
@@ -91,18 +54,10 @@ returns-in-Ok-Err-clause-pays g c =
 pub returns-in-Err-clause-surely : goal.returns-in-Err-clause-surely
 returns-in-Err-clause-surely g c = rw c.step_error_of.ensures (surely_commit g.S.LayerBelow.sure c.args.link c.args.payload.now c.in-Err.fault c.in-Err.ensures.surely)
 
-pub returns-in-Err-clause-goes : goal.returns-in-Err-clause-goes
-returns-in-Err-clause-goes g c r s =
-    let here : is_kept_on c.args.link (kept c.args.held.now.work c.args.discharge.txn_id) ≡ true = sym c.is_declared_on.ensures ∙ c.if-not-is_declared_on.false in
-    rw c.step_error_of.ensures
-    (fault_goes c.args.held.now c.commit_live.new.held (g.S.Tells.told c.args.below.now) (g.S.Tells.told c.commit_live.new.below) r c.args.link c.args.payload.now c.args.discharge _ _ c.in-Err.fault c.requires.message
-    (sym c.rolls_back.ensures ∙ c.if-rolls_back.false) c.requires.opened s
-    (held_here c.args.held.now c.args.discharge.txn_id c.args.link here) c.in-Err.ensures.answer)
-
 pub returns-then-not-is_declared_on-clause-keeps : goal.returns-then-not-is_declared_on-clause-keeps
 returns-then-not-is_declared_on-clause-keeps g c f =
-    rw c.rejected.ensures (keeps-rejected c.args.held.now c.args.held.now _ c.args.link c.args.payload.now _ _ texts.Absent c.requires.message c.requires.opened
-    (sym c.is_declared_on.ensures ∙ c.if-not-is_declared_on.true, ap (λ (x : DrawnIds). x.ids) c.no_draws.ensures) (same_held c.args.held.now) f)
+    rw c.rejected.ensures (keeps-absent c.args.held.now _ c.args.link c.args.payload.now c.args.discharge _ c.no_draws.ensures c.requires.message c.requires.opened
+    (sym c.is_declared_on.ensures ∙ c.if-not-is_declared_on.true) f)
 
 pub returns-then-rolls_back-clause-keeps : goal.returns-then-rolls_back-clause-keeps
 returns-then-rolls_back-clause-keeps g c f =

@@ -3,23 +3,8 @@ use Rattle.amqp_txn_types.specs.declared.performatives.Frame.{Frame}
 use Rattle.amqp_record.specs.declared.step.Step.TheVariants as steps
 use Rattle.amqp_layer.specs.Taking.{TakesFrame}
 use Rattle.amqp_resource.specs.Steps.{fault_of}
-use Rattle.amqp_resource.proofs.Going.{answered-plain, refused-plain, refused_gives}
 use Rattle.amqp_resource.proofs.Keeping.{keeps-plain, keeps-plain_refused, keeps-plain_wanting}
 use Rattle.amqp_resource.proofs.frame_steps.plain_step.Goals as goal
-
-pub returns-in-Ok-take_frame-clause-goes : goal.returns-in-Ok-take_frame-clause-goes
-returns-in-Ok-take_frame-clause-goes g c r s =
-    let old = g.S.Tells.told c.args.below.now in
-    let new = g.S.Tells.told c.take_frame.new.below in
-    rw c.no_draws.ensures (answered-plain c.args.held.now r c.args.frame.now c.in-Ok-take_frame.answers old new c.requires s
-    (subst (λ (f : Frame). TakesFrame old new f (Ok c.in-Ok-take_frame.answers)) c.in-Ok.ensures.copy c.in-Ok-take_frame.ensures.told))
-
-pub returns-in-Err-clause-goes : goal.returns-in-Err-clause-goes
-returns-in-Err-clause-goes g c r s =
-    let old = g.S.Tells.told c.args.below.now in
-    let new = g.S.Tells.told c.take_frame.new.below in
-    rw (c.handed_with-refused.ensures.handed ∙ zero-add _) (refused_gives c.args.held.now old new r (steps.Frame c.args.frame.now) c.fault_of.result c.in-Err.refusal.error _ c.fault_of.ensures.known (c.fault_of.ensures.fault ∙ ap fault_of c.handed_with-refused.ensures.error)
-    (refused-plain r c.args.frame.now c.in-Err.refusal old new c.requires (subst (λ (f : Frame). TakesFrame old new f (Err c.in-Err.refusal)) c.in-Ok.ensures.copy c.in-Err.ensures.told)))
 
 pub returns-in_default-clause-keeps : goal.returns-in_default-clause-keeps
 returns-in_default-clause-keeps g c f = keeps-plain_wanting c.args.held.now _ _ c.args.frame.now c.requires f
