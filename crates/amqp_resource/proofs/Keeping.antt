@@ -1,11 +1,8 @@
--- What a step leaves on every session.
-use Rattle.std.proofs.Common.{◌≡◌, ℕ, zero, suc, ◌+◌, ◌≤◌, Bool, true, false, cond, not, ◌&&◌, Option, Some, None, Result, Ok, Err, List, [], ◌∷◌, length, map, take, refl, sym, ◌∙◌, ap, arith, subst, inl, inr}
+-- What a step leaves, from what the calls that it makes leave.
+use Rattle.std.proofs.Common.{◌≡◌, ℕ, zero, suc, ◌+◌, ◌≤◌, Bool, true, false, cond, not, ◌&&◌, Option, Some, None, Ok, Err, List, [], ◌∷◌, length, map, take, refl, sym, ◌∙◌, ap, arith, subst, inl, inr}
 use Rattle.std.specs.Prelude.{◌==◌, is_some, MatchBool}
-use Rattle.std.specs.List.{list_all}
-use Rattle.std.proofs.lemmas.Bool.{eqb-true, ne_eqb}
+use Rattle.std.proofs.lemmas.Bool.{eqb-true}
 use Rattle.amqp_txn_types.specs.declared.id.TransactionId.{TransactionId}
-use Rattle.amqp_txn_types.specs.declared.small.Accepted.{Accepted}
-use Rattle.amqp_txn_types.specs.declared.small.TransactionError.{TransactionError}
 use Rattle.amqp_txn_types.specs.declared.small.TransactionError.TheVariants as transaction_errors
 use Rattle.amqp_txn_types.specs.declared.small.AmqpError.TheVariants as amqp_errors
 use Rattle.amqp_txn_types.specs.declared.delivery.SessionStopReason.{SessionStopReason}
@@ -20,8 +17,6 @@ use Rattle.amqp_txn_codec.specs.Reading.{message_of}
 use Rattle.amqp_layer.specs.declared.answers.Answers.{Answers}
 use Rattle.amqp_layer.specs.declared.inner_error.SessionInnerError.{SessionInnerError}
 use Rattle.amqp_layer.specs.declared.inner_error.SessionInnerError.TheVariants as faults
-use Rattle.amqp_sessions.specs.declared.transacting.AllocTxnIdError.{AllocTxnIdError}
-use Rattle.amqp_sessions.specs.declared.transacting.AllocTxnIdError.TheVariants as allocations
 use Rattle.amqp_sessions.specs.declared.transacting.CommitFault.{CommitFault}
 use Rattle.amqp_sessions.specs.declared.transacting.CommitFault.TheVariants as commit_faults
 use Rattle.amqp_ids.specs.Drawn.{DrawnIds}
@@ -31,112 +26,36 @@ use Rattle.amqp_record.specs.declared.step.Step.{Step}
 use Rattle.amqp_record.specs.declared.step.Step.TheVariants as steps
 use Rattle.amqp_record.specs.declared.reply.Reply.{Reply}
 use Rattle.amqp_record.specs.declared.reply.Reply.TheVariants as replies
-use Rattle.amqp_record.specs.declared.reply.RejectText.{RejectText}
 use Rattle.amqp_record.specs.declared.reply.RejectText.TheVariants as texts
 use Rattle.amqp_record.specs.declared.stop.StepError.{StepError}
 use Rattle.amqp_record.specs.declared.stop.StepError.TheVariants as errors
-use Rattle.amqp_record.specs.declared.entry.Entry.{Entry}
-use Rattle.amqp_record.specs.Links.{is_open}
 use Rattle.amqp_record.specs.Live.{is_link}
 use Rattle.amqp_txn_types.specs.Presumptive.{answered_under}
 use Rattle.amqp_txn_codec.specs.Discharges.{is_rollback}
-use Rattle.amqp_record.proofs.Whole.{open_below, plain_none}
+use Rattle.amqp_record.proofs.Whole.{plain_none}
 use Rattle.amqp_resource.specs.declared.held.Held.{Held}
 use Rattle.amqp_layer.specs.declared.taking.TakeError.{TakeError}
 use Rattle.amqp_arrivals.specs.Live.{Kept, frames_kept, kept, with_frame}
-use Rattle.amqp_resource.specs.Held.{SameHeld, Stands, Tied, ids_on, is_among, is_in, is_kept_on, unless_on}
+use Rattle.amqp_resource.specs.Held.{SameHeld, Tied, ids_on, is_in, is_kept_on, unless_on}
 use Rattle.amqp_resource.specs.Draws.{DrewLive, DrewUnused, is_kept}
 use Rattle.amqp_layer.specs.Taking.{TakesFrame, TookFrames, taken_frames}
-use Rattle.amqp_resource.specs.Committing.{HandsAll}
-use Rattle.amqp_resource.specs.Transacting.{AllocatedIn, CommittedIn, CommittedWith, Ended, RolledBackIn, step_error_of}
-use Rattle.amqp_resource.specs.Steps.{AddsRefusal, EndGave, FrameMayFault, IsDead, IsPost, IsUnder, Refused, UnderDead, ended_by, fault_of, is_live_under, is_unknown, message_hands, message_takes_memory, nothing_drawn, step_hands, takes_memory}
+use Rattle.amqp_resource.specs.Committing.{HandsAll, HandsSurely}
+use Rattle.amqp_resource.specs.Transacting.{CommittedWith, Ended, step_error_of}
+use Rattle.amqp_resource.specs.Steps.{AddsRefusal, AnswersEnd, EndGave, FrameMayFault, IsDead, IsPost, IsUnder, Refused, UnderDead, ended_by, fault_of, has_error, is_live_under, is_unknown, message_hands, message_takes_memory, nothing_drawn, step_hands, takes_memory}
 use Rattle.amqp_resource.specs.Views.{View, view_of_held}
+use Rattle.amqp_resource.specs.Leaving.{LeavesHere, StepLeaves}
 use Rattle.amqp_resource.specs.Keeping.{ControlKeeps, DischargeHands, EndKeeps, Ends, Fits, FrameKeeps, Keeps, NothingChanges, PlainKeeps, StepKeeps}
-use Rattle.amqp_resource.proofs.Kept.{in_updated, tied_added, tied_opened, tied_same}
+use Rattle.amqp_resource.proofs.Kept.{in_updated}
 use Rattle.amqp_resource.proofs.Handing.{refused_after-err}
 use Rattle.amqp_txn_types.proofs.Growing.{grown-nil}
 use Rattle.amqp_resource.proofs.Views.{commit_hands, same-view, view-moved}
-
--- ---- what goes on to fit together
-
-fits_by : (h g : Held) → Tied g → ((k : ℕ) → is_in g.links.entries k ≡ is_in h.links.entries k) → g.opened ≡ h.opened → Fits h → Fits g
-fits_by h g tied links opened f = record { tied = tied; links = λ k l. links k ∙ f.links k (subst (λ (n : ℕ). n ≤ k) opened l) }
-
-pub fits-same : (h g : Held) → SameHeld h g → Fits h → Fits g
-fits-same h g same f = fits_by h g (tied_same h g same f.tied) (λ k. ap is_some (same.links k)) same.opened f
-
--- a frame more changes no holder
-tied-post : (h g : Held) (u : TransactionId) (frame : Frame) → Tied h → ((t : TransactionId) → kept g.work t ≡ cond (same_id t u) (with_frame (kept h.work t) frame) (kept h.work t)) → ((k : ℕ) → ids_on g.links.entries k ≡ ids_on h.links.entries k) → Tied g
-tied-post h g u frame tied lg kg k t = ap (is_among t) (kg k) ∙ tied k t ∙ sym (ap (is_kept_on k) (lg t) ∙ same_holder (same_id t u) (kept h.work t))
-  where
-    same_holder : (b : Bool) (o : Option Kept) → is_kept_on k (cond b (with_frame o frame) o) ≡ is_kept_on k o
-    same_holder true None = refl
-    same_holder true (Some kept) = refl
-    same_holder false o = refl
-
-pub fits-posted : (h g : Held) (u : TransactionId) (frame : Frame) → ((t : TransactionId) → kept g.work t ≡ cond (same_id t u) (with_frame (kept h.work t) frame) (kept h.work t)) → ((k : ℕ) → ids_on g.links.entries k ≡ ids_on h.links.entries k) → g.opened ≡ h.opened → Fits h → Fits g
-fits-posted h g u frame lg kg og f = fits_by h g (tied-post h g u frame f.tied lg kg) (λ k. ap is_some (kg k)) og f
-
-no_ids : (t : TransactionId) (ids : Option (List TransactionId)) → is_some ids ≡ false → is_among t ids ≡ false
-no_ids t None n = refl
-no_ids t (Some ids) n = cc n
-
-pub fits-attached : (h g : Held) → ((t : TransactionId) → kept g.work t ≡ kept h.work t) → ((k : ℕ) → ids_on g.links.entries k ≡ cond (h.opened == k) (Some []) (ids_on h.links.entries k)) → g.opened ≡ h.opened + 1 → Fits h → Fits g
-fits-attached h g lg kg og f = record {
-  tied = tied_opened h g f.tied (λ t. sym (f.tied h.opened t) ∙ no_ids t (ids_on h.links.entries h.opened) (f.links h.opened (omega arith))) lg kg;
-  links = λ k l. ap is_some (kg k) ∙ in_updated (h.opened == k) (Some []) (ids_on h.links.entries k)
-      ∙ ap (λ b. cond b true (is_in h.links.entries k)) (ne_eqb h.opened k (λ y. omega (arith, l, og, y))) ∙ f.links k (omega (arith, l, og));
-}
-
-never : (b : Bool) → cond b false false ≡ false
-never true = refl
-never false = refl
-
-pub fits-closed : (h g : Held) (link : ℕ) → (Tied h → Tied g) → ((k : ℕ) → is_in g.links.entries k ≡ cond (link == k) false (is_in h.links.entries k)) → g.opened ≡ h.opened → Fits h → Fits g
-fits-closed h g link tied links opened f = record {
-  tied = tied f.tied;
-  links = λ k l. links k ∙ ap (cond (link == k) false) (f.links k (subst (λ (n : ℕ). n ≤ k) opened l)) ∙ never (link == k);
-}
-
-pub fits-declared : (h g : Held) → (Tied h → Tied g) → ((k : ℕ) → is_in g.links.entries k ≡ is_in h.links.entries k) → g.opened ≡ h.opened → Fits h → Fits g
-fits-declared h g tied links opened f = fits_by h g (tied f.tied) links opened f
-
-pub fits-ended : (h g : Held) (id : TransactionId) → Ended h g id → Fits h → Fits g
-fits-ended h g id x f = fits_by h g (x.tied f.tied) x.links x.opened f
-
-pub fits-committed : (h g : Held) (told now : Told) (id : TransactionId) (kept : List Frame) (U : Type 0) (result : Result (Result (List Answers) TransactionError) CommitFault) → CommittedWith h g told now id kept U result → Fits h → Fits g
-fits-committed h g told now id kept U (Ok answer) x f = fits-ended h g id x.0 f
-fits-committed h g told now id kept U (Err commit_faults.NoMemory) x f = fits-same h g x.0 f
-fits-committed h g told now id kept U (Err (commit_faults.Refused error handed)) x f = fits-ended h g id x.0 f
-
-pub fits-discharged : (h g : Held) (told now : Told) (id : TransactionId) (U : Type 0) (result : Result (Result (List Answers) TransactionError) CommitFault) → CommittedIn h g told now id U result → Fits h → Fits g
-fits-discharged h g told now id U (Ok (Ok echoes)) x f = fits-committed h g told now id _ U (Ok (Ok echoes)) x.1 f
-fits-discharged h g told now id U (Ok (Err transaction_errors.UnknownId)) x f = fits-same h g x.1 f
-fits-discharged h g told now id U (Ok (Err error)) x f = fits-committed h g told now id _ U (Ok (Err error)) x.1 f
-fits-discharged h g told now id U (Err fault) x f = fits-committed h g told now id _ U (Err fault) x.1 f
-
-pub fits-rolled_back : (h g : Held) (id : TransactionId) (result : Result Accepted TransactionError) → RolledBackIn h g id result → Fits h → Fits g
-fits-rolled_back h g id (Ok accepted) x f = fits-ended h g id x.1 f
-fits-rolled_back h g id (Err error) x f = fits-same h g x.2 f
-
-pub fits-allocated : (h g : Held) (result : Result DrawnIds AllocTxnIdError) → AllocatedIn h g result → Fits h → Fits g
-fits-allocated h g (Ok drawn) x f =
-    let id : TransactionId = x.0 in
-    let unused : kept h.work id ≡ None = x.1.unused in
-    fits_by h g (tied_added h g id unused x.2.live x.2.links f.tied) (λ k. ap is_some (x.2.links k)) x.2.opened f
-fits-allocated h g (Err (allocations.IdsRepeat drawn)) x f = fits-same h g x.1 f
-fits-allocated h g (Err allocations.NotImplemented) x f = absurd x
-fits-allocated h g (Err allocations.NoMemory) x f = fits-same h g x f
-
--- a record's
-pub fits-stands : (h : Held) (r : List Entry) → Stands h r → Fits h
-fits-stands h r s = record { tied = s.tied; links = λ k l. s.links k ∙ closed k l (is_open r k) refl }
-  where
-    closed : (k : ℕ) → h.opened ≤ k → (b : Bool) → is_open r k ≡ b → is_open r k ≡ false
-    closed k l true o = let a = open_below r k s.legal o in let e = s.opened in absurd (omega (arith, a, l, e))
-    closed k l false o = o
+use Rattle.amqp_resource.proofs.Fitting.{fits-attached, fits-closed, fits-declared, fits-ended, fits-posted, fits-same}
+use Rattle.amqp_resource.proofs.Leaving.{surely_commit}
 
 -- ---- what stays
+
+pub same_held : (h : Held) → SameHeld h h
+same_held h = record { live = λ t. refl; links = λ k. refl; opened = refl }
 
 unchanged : (h : Held) (told : Told) → NothingChanges (view_of_held h) (view_of_held h) told told
 unchanged h told = record { same = same-view (view_of_held h); below = refl }
@@ -149,7 +68,7 @@ none_drawn : (d : DrawnIds) → d ≡ nothing_drawn → d.ids ≡ []
 none_drawn d n = ap (λ (x : DrawnIds). x.ids) n
 
 -- a refusal below is given as no unknown id
-when_known : (b : Bool) (P Q : Type 0) → b ≡ false → Q → MatchBool b P Q
+pub when_known : (b : Bool) (P Q : Type 0) → b ≡ false → Q → MatchBool b P Q
 when_known true P Q e q = cc e
 when_known false P Q e q = q
 
@@ -205,8 +124,13 @@ keeps-plain_refused h told now frame e error handed p known same n t f = record 
   answer = fault_answers (view_of_held h) told now (steps.Frame frame) _ error e.error handed known same (subst (λ (k : ℕ). Refused (view_of_held h) told now (steps.Frame frame) (step_hands (view_of_held h) (steps.Frame frame)) (fault_of e.error) k) (sym n) (plain_stopped (view_of_held h) told now frame e p t));
 }
 
-pub keeps-plain_wanting : (h : Held) (told now : Told) (frame : Frame) → is_plain_frame frame ≡ true → Fits h → Keeps h h told now (steps.Frame frame) (Err errors.NoMemory)
-keeps-plain_wanting h told now frame p f = record { fits = f; answer = ap (is_live_under (view_of_held h)) (plain_none frame p) }
+pub here-plain_wanting : (h : Held) (frame : Frame) → is_plain_frame frame ≡ true → LeavesHere h h (steps.Frame frame) (Err errors.NoMemory)
+here-plain_wanting h frame p = record {
+  keeps = λ told f. record { fits = f; answer = ap (is_live_under (view_of_held h)) (plain_none frame p) };
+  cause = λ told. tt;
+  ended = tt;
+  same = same_held h;
+}
 
 -- ---- frames under an id
 
@@ -228,9 +152,6 @@ keeps-post h g told now frame u d n e at lg kg og same f = record {
   );
 }
 
-pub keeps-dead : (h g : Held) (told now : Told) (frame : Frame) (u : TransactionId) → txn frame ≡ Some u → is_kept h.work u ≡ false → Fits g → Keeps h g told now (steps.Frame frame) (Err (errors.Fault faults.UnknownTxnId 0))
-keeps-dead h g told now frame u e n f = record { fits = f; answer = (subst (IsDead (view_of_held h)) (sym e) n, refl) }
-
 pub keeps-post_refused : (h g : Held) (told now : Told) (frame : Frame) (u : TransactionId) (error own : SessionInnerError) → txn frame ≡ Some u → is_kept h.work u ≡ true → 1 ≤ length (answered_under u frame) → is_unknown error ≡ false → error ≡ fault_of own → Steady told now → Fits g → Keeps h g told now (steps.Frame frame) (Err (errors.Fault error 0))
 keeps-post_refused h g told now frame u error own e at some known same steady f =
     let is_under : IsPost (steps.Frame frame) = subst IsUnder (sym e) tt in
@@ -245,8 +166,21 @@ keeps-post_refused h g told now frame u error own e at some known same steady f 
       });
     }
 
-pub keeps-post_wanting : (h g : Held) (told now : Told) (frame : Frame) (u : TransactionId) → txn frame ≡ Some u → is_kept h.work u ≡ true → Fits g → Keeps h g told now (steps.Frame frame) (Err errors.NoMemory)
-keeps-post_wanting h g told now frame u e at f = record { fits = f; answer = ap (is_live_under (view_of_held h)) e ∙ at }
+pub here-dead : (h g : Held) (frame : Frame) (u : TransactionId) → txn frame ≡ Some u → is_kept h.work u ≡ false → SameHeld h g → LeavesHere h g (steps.Frame frame) (Err (errors.Fault faults.UnknownTxnId 0))
+here-dead h g frame u e n same = record {
+  keeps = λ told f. record { fits = fits-same h g same f; answer = (subst (IsDead (view_of_held h)) (sym e) n, refl) };
+  cause = λ told. (subst IsUnder (sym e) tt, refl);
+  ended = tt;
+  same = tt;
+}
+
+pub here-post_wanting : (h g : Held) (frame : Frame) (u : TransactionId) → txn frame ≡ Some u → is_kept h.work u ≡ true → SameHeld h g → LeavesHere h g (steps.Frame frame) (Err errors.NoMemory)
+here-post_wanting h g frame u e at same = record {
+  keeps = λ told f. record { fits = fits-same h g same f; answer = ap (is_live_under (view_of_held h)) e ∙ at };
+  cause = λ told. tt;
+  ended = tt;
+  same = same;
+}
 
 -- ---- attaches to a coordinator
 
@@ -288,21 +222,30 @@ keeps-attach_refused h g told now attach d error n c held t f = record {
   );
 }
 
-pub keeps-attach_wanting : (h g : Held) (told now : Told) (attach : Attach) → SameHeld h g → Fits h → Keeps h g told now (steps.Frame (frames.Attach attach)) (Err errors.NoMemory)
-keeps-attach_wanting h g told now attach held f = record { fits = fits-same h g held f; answer = ap (is_live_under (view_of_held h)) (txn-attach attach) }
+pub here-attach_wanting : (h g : Held) (attach : Attach) → SameHeld h g → LeavesHere h g (steps.Frame (frames.Attach attach)) (Err errors.NoMemory)
+here-attach_wanting h g attach same = record {
+  keeps = λ told f. record { fits = fits-same h g same f; answer = ap (is_live_under (view_of_held h)) (txn-attach attach) };
+  cause = λ told. tt;
+  ended = tt;
+  same = same;
+}
 
 -- ---- the ends of links
 
-pub keeps-link_end : (h g : Held) (told : Told) (k : ℕ) (d : DrawnIds) → d ≡ nothing_drawn → is_in h.links.entries k ≡ true → (Tied h → (t : TransactionId) → kept g.work t ≡ unless_on k (kept h.work t)) → ((j : ℕ) → is_in g.links.entries j ≡ cond (k == j) false (is_in h.links.entries j)) → (Tied h → Tied g) → g.opened ≡ h.opened → Fits h → Keeps h g told told (steps.LinkEnd k) (Ok (d, replies.LinkEnded))
-keeps-link_end h g told k d n o lg kg tied og f = record {
-  fits = fits-closed h g k tied kg og f;
-  answer = (none_drawn d n, subst (λ (b : Bool). EndKeeps k (view_of_held h) (view_of_held g) told told b replies.LinkEnded) (sym o) (record { live = lg f.tied; links = kg; opened = og; below = refl }));
+pub here-link_end : (h g : Held) (k : ℕ) (d : DrawnIds) → d ≡ nothing_drawn → is_in h.links.entries k ≡ true → (Tied h → (t : TransactionId) → kept g.work t ≡ unless_on k (kept h.work t)) → ((j : ℕ) → is_in g.links.entries j ≡ cond (k == j) false (is_in h.links.entries j)) → (Tied h → Tied g) → g.opened ≡ h.opened → LeavesHere h g (steps.LinkEnd k) (Ok (d, replies.LinkEnded))
+here-link_end h g k d n o lg kg tied og = record {
+  keeps = λ told f. record { fits = fits-closed h g k tied kg og f; answer = (none_drawn d n, subst (λ (b : Bool). EndKeeps k (view_of_held h) (view_of_held g) told told b replies.LinkEnded) (sym o) (record { live = lg f.tied; links = kg; opened = og; below = refl })) };
+  cause = λ told. (tt, tt);
+  ended = tt;
+  same = tt;
 }
 
-pub keeps-no_end : (h : Held) (told : Told) (k : ℕ) (d : DrawnIds) → d ≡ nothing_drawn → is_in h.links.entries k ≡ false → Fits h → Keeps h h told told (steps.LinkEnd k) (Ok (d, replies.NoLink))
-keeps-no_end h told k d n o f = record {
-  fits = f;
-  answer = (none_drawn d n, subst (λ (b : Bool). EndKeeps k (view_of_held h) (view_of_held h) told told b replies.NoLink) (sym o) (unchanged h told));
+pub here-no_end : (h : Held) (k : ℕ) (d : DrawnIds) → d ≡ nothing_drawn → is_in h.links.entries k ≡ false → LeavesHere h h (steps.LinkEnd k) (Ok (d, replies.NoLink))
+here-no_end h k d n o = record {
+  keeps = λ told f. record { fits = f; answer = (none_drawn d n, subst (λ (b : Bool). EndKeeps k (view_of_held h) (view_of_held h) told told b replies.NoLink) (sym o) (unchanged h told)) };
+  cause = λ told. (tt, tt);
+  ended = tt;
+  same = tt;
 }
 
 -- ---- control messages
@@ -312,31 +255,26 @@ control_answers v w told now k payload b m drawn reply e o x =
     subst (λ (y : Option ControlMessageBody). ControlKeeps k v w told now (v.links k) y drawn reply) (sym e)
     (subst (λ (c : Bool). ControlKeeps k v w told now c m drawn reply) (sym o) x)
 
-pub keeps-no_link : (h : Held) (told : Told) (k : ℕ) (payload : List ℕ) (d : DrawnIds) → d ≡ nothing_drawn → is_in h.links.entries k ≡ false → Fits h → Keeps h h told told (steps.Control k payload) (Ok (d, replies.NoLink))
-keeps-no_link h told k payload d n o f = record {
-  fits = f;
-  answer = control_answers (view_of_held h) (view_of_held h) told told k payload false (message_of payload) d.ids replies.NoLink refl o (none_drawn d n, unchanged h told);
+pub here-no_link : (h : Held) (k : ℕ) (payload : List ℕ) (d : DrawnIds) → d ≡ nothing_drawn → is_in h.links.entries k ≡ false → LeavesHere h h (steps.Control k payload) (Ok (d, replies.NoLink))
+here-no_link h k payload d n o = record {
+  keeps = λ told f. record { fits = f; answer = control_answers (view_of_held h) (view_of_held h) told told k payload false (message_of payload) d.ids replies.NoLink refl o (none_drawn d n, unchanged h told) };
+  cause = λ told. (tt, tt);
+  ended = tt;
+  same = tt;
 }
 
-pub keeps-closed : (h g : Held) (told : Told) (k : ℕ) (payload : List ℕ) (d : DrawnIds) → d ≡ nothing_drawn → message_of payload ≡ None → is_in h.links.entries k ≡ true → (Tied h → (t : TransactionId) → kept g.work t ≡ unless_on k (kept h.work t)) → ((j : ℕ) → is_in g.links.entries j ≡ cond (k == j) false (is_in h.links.entries j)) → (Tied h → Tied g) → g.opened ≡ h.opened → Fits h → Keeps h g told told (steps.Control k payload) (Ok (d, replies.LinkClosed amqp_errors.NotAllowed))
-keeps-closed h g told k payload d n e o lg kg tied og f = record {
-  fits = fits-closed h g k tied kg og f;
-  answer = control_answers (view_of_held h) (view_of_held g) told told k payload true None d.ids (replies.LinkClosed amqp_errors.NotAllowed) e o (none_drawn d n, record { live = lg f.tied; links = kg; opened = og; below = refl });
+pub here-closed : (h g : Held) (k : ℕ) (payload : List ℕ) (d : DrawnIds) → d ≡ nothing_drawn → message_of payload ≡ None → is_in h.links.entries k ≡ true → (Tied h → (t : TransactionId) → kept g.work t ≡ unless_on k (kept h.work t)) → ((j : ℕ) → is_in g.links.entries j ≡ cond (k == j) false (is_in h.links.entries j)) → (Tied h → Tied g) → g.opened ≡ h.opened → LeavesHere h g (steps.Control k payload) (Ok (d, replies.LinkClosed amqp_errors.NotAllowed))
+here-closed h g k payload d n e o lg kg tied og = record {
+  keeps = λ told f. record { fits = fits-closed h g k tied kg og f; answer = control_answers (view_of_held h) (view_of_held g) told told k payload true None d.ids (replies.LinkClosed amqp_errors.NotAllowed) e o (none_drawn d n, record { live = lg f.tied; links = kg; opened = og; below = refl }) };
+  cause = λ told. (tt, tt);
+  ended = tt;
+  same = tt;
 }
-
-pub same_held : (h : Held) → SameHeld h h
-same_held h = record { live = λ t. refl; links = λ k. refl; opened = refl }
 
 -- ---- declares
 
 abbrev declare_of : Option TransactionId → Option ControlMessageBody
 declare_of global = Some (messages.Declare (record { global_id = global }))
-
-pub keeps-global : (h : Held) (told : Told) (k : ℕ) (payload : List ℕ) (global : TransactionId) (d : DrawnIds) → d ≡ nothing_drawn → message_of payload ≡ declare_of (Some global) → is_in h.links.entries k ≡ true → Fits h → Keeps h h told told (steps.Control k payload) (Ok (d, replies.Rejected transaction_errors.UnknownId texts.GlobalId))
-keeps-global h told k payload global d n e o f = record {
-  fits = f;
-  answer = control_answers (view_of_held h) (view_of_held h) told told k payload true (declare_of (Some global)) d.ids (replies.Rejected transaction_errors.UnknownId texts.GlobalId) e o (none_drawn d n, unchanged h told);
-}
 
 -- what was drawn, with what is kept in other memory
 live-moved : (h g : Held) → SameHeld h g → kept g.work ≡ kept h.work
@@ -348,29 +286,49 @@ drew-live h g ts same x = subst (λ (live : TransactionId → Option Kept). Drew
 pub drew-unused : (h g : Held) (ts : List TransactionId) (t : TransactionId) → SameHeld h g → DrewUnused (kept g.work) ts t → DrewUnused (kept h.work) ts t
 drew-unused h g ts t same x = subst (λ (live : TransactionId → Option Kept). DrewUnused live ts t) (live-moved h g same) x
 
-pub keeps-repeat : (h g : Held) (told : Told) (k : ℕ) (payload : List ℕ) (d : DrawnIds) → message_of payload ≡ declare_of None → is_in h.links.entries k ≡ true → SameHeld h g → DrewLive (kept g.work) d.ids → Fits h → Keeps h g told told (steps.Control k payload) (Ok (d, replies.Rejected transaction_errors.UnknownId texts.IdsRepeat))
-keeps-repeat h g told k payload d e o same drew f = record {
-  fits = fits-same h g same f;
-  answer = control_answers (view_of_held h) (view_of_held g) told told k payload true (declare_of None) d.ids (replies.Rejected transaction_errors.UnknownId texts.IdsRepeat) e o (drew-live h g d.ids same drew, unchanged-moved h g told same);
-}
-
-pub keeps-declared : (h roomy g : Held) (told : Told) (k : ℕ) (payload : List ℕ) (d : DrawnIds) (id : TransactionId) → message_of payload ≡ declare_of None → is_in h.links.entries k ≡ true → SameHeld h roomy → DrewUnused (kept roomy.work) d.ids id → ((t : TransactionId) → kept g.work t ≡ cond (same_id t id) (Some (Some k, [])) (kept roomy.work t)) → ((j : ℕ) → is_in g.links.entries j ≡ is_in roomy.links.entries j) → (Tied roomy → Tied g) → g.opened ≡ roomy.opened → Fits h → Keeps h g told told (steps.Control k payload) (Ok (d, replies.Declared id))
-keeps-declared h roomy g told k payload d id e o same drew lg kg tied og f = record {
-  fits = fits-declared roomy g tied kg og (fits-same h roomy same f);
-  answer = control_answers (view_of_held h) (view_of_held g) told told k payload true (declare_of None) d.ids (replies.Declared id) e o (record {
-    unused = drew-unused h roomy d.ids id same drew;
-    live = λ t. lg t ∙ ap (cond (same_id t id) (Some (Some k, []))) (same.live t);
-    links = record { links = λ j. kg j ∙ ap is_some (same.links j); opened = og ∙ same.opened };
-    below = refl;
-  });
-}
-
 -- a message on an open link that takes memory
 wants : (v : View) (k : ℕ) (payload : List ℕ) (m : Option ControlMessageBody) → message_of payload ≡ m → v.links k ≡ true → message_takes_memory v k m ≡ true → takes_memory v (steps.Control k payload) ≡ true
 wants v k payload m e o x = ap (λ b. b && message_takes_memory v k (message_of payload)) o ∙ ap (message_takes_memory v k) e ∙ x
 
-pub keeps-declare_wanting : (h g : Held) (told : Told) (k : ℕ) (payload : List ℕ) → message_of payload ≡ declare_of None → is_in h.links.entries k ≡ true → SameHeld h g → Fits h → Keeps h g told told (steps.Control k payload) (Err errors.NoMemory)
-keeps-declare_wanting h g told k payload e o same f = record { fits = fits-same h g same f; answer = wants (view_of_held h) k payload (declare_of None) e o refl }
+pub here-global : (h : Held) (k : ℕ) (payload : List ℕ) (global : TransactionId) (d : DrawnIds) → d ≡ nothing_drawn → message_of payload ≡ declare_of (Some global) → is_in h.links.entries k ≡ true → LeavesHere h h (steps.Control k payload) (Ok (d, replies.Rejected transaction_errors.UnknownId texts.GlobalId))
+here-global h k payload global d n e o = record {
+  keeps = λ told f. record { fits = f; answer = control_answers (view_of_held h) (view_of_held h) told told k payload true (declare_of (Some global)) d.ids (replies.Rejected transaction_errors.UnknownId texts.GlobalId) e o (none_drawn d n, unchanged h told) };
+  cause = λ told. (tt, tt);
+  ended = tt;
+  same = tt;
+}
+
+pub here-repeat : (h g : Held) (k : ℕ) (payload : List ℕ) (d : DrawnIds) → message_of payload ≡ declare_of None → is_in h.links.entries k ≡ true → SameHeld h g → DrewLive (kept g.work) d.ids → LeavesHere h g (steps.Control k payload) (Ok (d, replies.Rejected transaction_errors.UnknownId texts.IdsRepeat))
+here-repeat h g k payload d e o same drew = record {
+  keeps = λ told f. record { fits = fits-same h g same f; answer = control_answers (view_of_held h) (view_of_held g) told told k payload true (declare_of None) d.ids (replies.Rejected transaction_errors.UnknownId texts.IdsRepeat) e o (drew-live h g d.ids same drew, unchanged-moved h g told same) };
+  cause = λ told. (tt, tt);
+  ended = tt;
+  same = tt;
+}
+
+pub here-declared : (h roomy g : Held) (k : ℕ) (payload : List ℕ) (d : DrawnIds) (id : TransactionId) → message_of payload ≡ declare_of None → is_in h.links.entries k ≡ true → SameHeld h roomy → DrewUnused (kept roomy.work) d.ids id → ((t : TransactionId) → kept g.work t ≡ cond (same_id t id) (Some (Some k, [])) (kept roomy.work t)) → ((j : ℕ) → is_in g.links.entries j ≡ is_in roomy.links.entries j) → (Tied roomy → Tied g) → g.opened ≡ roomy.opened → LeavesHere h g (steps.Control k payload) (Ok (d, replies.Declared id))
+here-declared h roomy g k payload d id e o same drew lg kg tied og = record {
+  keeps = λ told f. record {
+    fits = fits-declared roomy g tied kg og (fits-same h roomy same f);
+    answer = control_answers (view_of_held h) (view_of_held g) told told k payload true (declare_of None) d.ids (replies.Declared id) e o (record {
+      unused = drew-unused h roomy d.ids id same drew;
+      live = λ t. lg t ∙ ap (cond (same_id t id) (Some (Some k, []))) (same.live t);
+      links = record { links = λ j. kg j ∙ ap is_some (same.links j); opened = og ∙ same.opened };
+      below = refl;
+    });
+  };
+  cause = λ told. (tt, tt);
+  ended = tt;
+  same = tt;
+}
+
+pub here-declare_wanting : (h g : Held) (k : ℕ) (payload : List ℕ) → message_of payload ≡ declare_of None → is_in h.links.entries k ≡ true → SameHeld h g → LeavesHere h g (steps.Control k payload) (Err errors.NoMemory)
+here-declare_wanting h g k payload e o same = record {
+  keeps = λ told f. record { fits = fits-same h g same f; answer = wants (view_of_held h) k payload (declare_of None) e o refl };
+  cause = λ told. tt;
+  ended = tt;
+  same = same;
+}
 
 -- ---- discharges
 
@@ -394,10 +352,12 @@ discharge_of discharge = Some (messages.Discharge discharge)
 ends : (h g : Held) (k : ℕ) (id : TransactionId) → is_kept_on k (kept h.work id) ≡ true → Ended h g id → Ends k (view_of_held h) (view_of_held g) id
 ends h g k id on x = record { held = on; live = x.live; links = record { links = x.links; opened = x.opened } }
 
-pub keeps-absent : (h : Held) (told : Told) (k : ℕ) (payload : List ℕ) (discharge : Discharge) (d : DrawnIds) → d ≡ nothing_drawn → message_of payload ≡ discharge_of discharge → is_in h.links.entries k ≡ true → is_kept_on k (kept h.work discharge.txn_id) ≡ false → Fits h → Keeps h h told told (steps.Control k payload) (Ok (d, replies.Rejected transaction_errors.UnknownId texts.Absent))
-keeps-absent h told k payload discharge d n e o not_on f = record {
-  fits = f;
-  answer = control_answers (view_of_held h) (view_of_held h) told told k payload true (discharge_of discharge) d.ids (replies.Rejected transaction_errors.UnknownId texts.Absent) e o (not_on, none_drawn d n, unchanged h told);
+pub here-absent : (h : Held) (k : ℕ) (payload : List ℕ) (discharge : Discharge) (d : DrawnIds) → d ≡ nothing_drawn → message_of payload ≡ discharge_of discharge → is_in h.links.entries k ≡ true → is_kept_on k (kept h.work discharge.txn_id) ≡ false → LeavesHere h h (steps.Control k payload) (Ok (d, replies.Rejected transaction_errors.UnknownId texts.Absent))
+here-absent h k payload discharge d n e o not_on = record {
+  keeps = λ told f. record { fits = f; answer = control_answers (view_of_held h) (view_of_held h) told told k payload true (discharge_of discharge) d.ids (replies.Rejected transaction_errors.UnknownId texts.Absent) e o (not_on, none_drawn d n, unchanged h told) };
+  cause = λ told. (tt, tt);
+  ended = tt;
+  same = tt;
 }
 
 pub keeps-discharged : (h g : Held) (told now : Told) (k : ℕ) (payload : List ℕ) (discharge : Discharge) (d : DrawnIds) (b : Bool) (echoes : List Answers) → d ≡ nothing_drawn → message_of payload ≡ discharge_of discharge → is_rollback discharge.fail ≡ b → is_in h.links.entries k ≡ true → is_kept_on k (kept h.work discharge.txn_id) ≡ true → Ended h g discharge.txn_id → DischargeHands told now b (frames_kept (kept h.work discharge.txn_id)) echoes → Fits h → Keeps h g told now (steps.Control k payload) (Ok (d, replies.Accepted echoes))
@@ -455,10 +415,46 @@ keeps-fault h g told now k payload discharge U (commit_faults.Refused error hand
       answer = subst (λ (fs : List Frame). MatchBool (is_unknown error) (UnderDead v (steps.Control k payload) × (handed ≡ 0)) (Refused v told now (steps.Control k payload) fs error handed)) gives (commit_stopped v told now k payload _ error handed x.1);
     }
 
+pub leaves-fault : {S : Type 0} (tells : S → Told) (sure : Bool) (h g : Held) (below now : S) (k : ℕ) (payload : List ℕ) (discharge : Discharge) (fault : CommitFault) → message_of payload ≡ discharge_of discharge → is_rollback discharge.fail ≡ false → is_in h.links.entries k ≡ true → is_kept_on k (kept h.work discharge.txn_id) ≡ true → CommittedWith h g (tells below) (tells now) discharge.txn_id (frames_kept (kept h.work discharge.txn_id)) (now ≡ below) (Err fault) → HandsSurely sure (Err fault) → (tells now).fixed ≡ (tells below).fixed → (tells below).refusals ≤ (tells now).refusals → (tells below).reviews.vetoes ≤ (tells now).reviews.vetoes → StepLeaves tells sure h g below now (steps.Control k payload) (Err (step_error_of fault))
+leaves-fault tells sure h g below now k payload discharge commit_faults.NoMemory e rb o on x surely fixed later counted = record {
+  keeps = keeps-fault h g (tells below) (tells now) k payload discharge (now ≡ below) commit_faults.NoMemory e rb o on x;
+  cause = tt;
+  surely = tt;
+  ended = tt;
+  same = x.0;
+  untouched = x.1;
+  fixed = fixed;
+  later = later;
+  counted = counted;
+}
+leaves-fault tells sure h g below now k payload discharge (commit_faults.Refused error handed) e rb o on x surely fixed later counted =
+    let is : error ≡ faults.NoMemory = x.1.handed.0 in
+    record {
+      keeps = keeps-fault h g (tells below) (tells now) k payload discharge (now ≡ below) (commit_faults.Refused error handed) e rb o on x;
+      cause = when_known (is_unknown error) _ _ (ap is_unknown is) x.1.cause;
+      surely = surely_commit sure k payload (commit_faults.Refused error handed) surely;
+      ended = tt;
+      same = tt;
+      untouched = when_known (is_unknown error) _ _ (ap is_unknown is) tt;
+      fixed = fixed;
+      later = later;
+      counted = counted;
+    }
+
 -- ---- the ends of a session
 
-pub keeps-end : (h : Held) (told : Told) (s : Step) (reason : SessionStopReason) (takes : Bool) (error : StepError) → EndGave reason takes error → ended_by s ≡ Some reason → takes_memory (view_of_held h) s ≡ takes → Fits h → Keeps h h told told s (Err error)
-keeps-end h told s reason takes (errors.Fault error handed) x e w f = absurd x
-keeps-end h told s reason takes (errors.Ended got) x e w f = record { fits = f; answer = e ∙ ap Some (sym x) }
-keeps-end h told s reason takes (errors.Stopped code) x e w f = absurd x
-keeps-end h told s reason takes errors.NoMemory x e w f = record { fits = f; answer = w ∙ x }
+pub here-end : (h : Held) (s : Step) (own : SessionStopReason) (takes : Bool) (error : StepError) → EndGave own takes error → ended_by s ≡ Some own → takes ≡ has_error own → takes_memory (view_of_held h) s ≡ takes → LeavesHere h h s (Err error)
+here-end h s own takes (errors.Fault error handed) x e has w = absurd x
+here-end h s own takes (errors.Ended got) x e has w = record {
+  keeps = λ told f. record { fits = f; answer = e ∙ ap Some (sym x) };
+  cause = λ told. e ∙ ap Some (sym x);
+  ended = subst (λ (o : Option SessionStopReason). AnswersEnd o (Err (errors.Ended got))) (sym e) x;
+  same = tt;
+}
+here-end h s own takes (errors.Stopped code) x e has w = absurd x
+here-end h s own takes errors.NoMemory x e has w = record {
+  keeps = λ told f. record { fits = f; answer = w ∙ x };
+  cause = λ told. tt;
+  ended = subst (λ (o : Option SessionStopReason). AnswersEnd o (Err errors.NoMemory)) (sym e) (sym has ∙ x);
+  same = same_held h;
+}

@@ -6,7 +6,9 @@ pub mod Recorded
 pub mod Parts
 pub mod Complete
 pub mod Running
+pub mod Fitting
 pub mod Keeping
+pub mod Leaving
 pub mod Moved
 pub mod Looked
 pub mod Calling

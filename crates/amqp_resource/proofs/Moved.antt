@@ -22,7 +22,7 @@ use Rattle.amqp_resource.specs.Keeping.{AnswerKeeps, Keeps}
 use Rattle.amqp_resource.specs.Views.{View, view_of_held}
 use Rattle.amqp_resource.proofs.Views.{one-view, view-moved}
 use Rattle.amqp_resource.specs.Transacting.{CommittedIn, CommittedWith, Ended, RolledBackIn}
-use Rattle.amqp_resource.proofs.Keeping.{fits-same}
+use Rattle.amqp_resource.proofs.Fitting.{fits-same}
 use Rattle.amqp_resource.proofs.Kept.{tied_same}
 
 -- ---- a step

@@ -1,29 +1,23 @@
 -- The parts of what a step leaves, as its public clauses say them.
-use Rattle.std.proofs.Common.{◌≡◌, ℕ, Bool, true, false, Option, Some, None, Result, Ok, Err, List, [], ◌∷◌, ◌++◌, refl, sym, ◌∙◌, ap, arith, subst, inl, inr}
-use Rattle.std.specs.Prelude.{◌⊎◌, ⊤, is_some, MatchBool, IfOk, IfErr, OnErr}
+use Rattle.std.proofs.Common.{◌≡◌, ℕ, Bool, true, false, Option, Some, None, Result, Ok, Err, List, refl, sym, ◌∙◌, ap, inl, inr}
+use Rattle.std.specs.Prelude.{◌⊎◌, ⊤, MatchBool, IfOk, IfErr, OnErr}
 use Rattle.amqp_txn_types.specs.declared.id.TransactionId.{TransactionId}
-use Rattle.amqp_txn_types.specs.declared.delivery.Error.{Error}
 use Rattle.amqp_txn_types.specs.declared.delivery.SessionStopReason.{SessionStopReason}
 use Rattle.amqp_txn_types.specs.declared.performatives.Frame.{Frame}
 use Rattle.amqp_txn_types.specs.Frames.{txn}
 use Rattle.amqp_txn_codec.specs.declared.message.ControlMessageBody.{ControlMessageBody}
 use Rattle.amqp_txn_codec.specs.declared.message.ControlMessageBody.TheVariants as messages
-use Rattle.amqp_txn_codec.specs.declared.message.Discharge.{Discharge}
-use Rattle.amqp_txn_codec.specs.Discharges.{is_rollback}
 use Rattle.amqp_txn_codec.specs.Reading.{message_of}
-use Rattle.amqp_layer.specs.declared.answers.Answers.{Answers}
 use Rattle.amqp_layer.specs.declared.inner_error.SessionInnerError.{SessionInnerError}
 use Rattle.amqp_layer.specs.declared.inner_error.SessionInnerError.TheVariants as faults
 use Rattle.amqp_ids.specs.Drawn.{DrawnIds}
-use Rattle.amqp_layer.specs.Told.{Told, open_told}
+use Rattle.amqp_layer.specs.Told.{Told}
 use Rattle.amqp_txn_types.specs.Counts.{Rose}
 use Rattle.amqp_record.specs.declared.entry.Entry.{Entry}
 use Rattle.amqp_record.specs.declared.step.Step.{Step}
 use Rattle.amqp_record.specs.declared.step.Step.TheVariants as steps
 use Rattle.amqp_record.specs.declared.reply.Reply.{Reply}
 use Rattle.amqp_record.specs.declared.reply.Reply.TheVariants as replies
-use Rattle.amqp_record.specs.declared.reply.RejectText.{RejectText}
-use Rattle.amqp_txn_types.specs.declared.small.TransactionError.TheVariants as transaction_errors
 use Rattle.amqp_record.specs.declared.stop.StepError.{StepError}
 use Rattle.amqp_record.specs.declared.stop.StepError.TheVariants as errors
 use Rattle.amqp_record.specs.Links.{is_open}
@@ -32,11 +26,7 @@ use Rattle.amqp_resource.specs.declared.held.Held.{Held}
 use Rattle.amqp_resource.specs.Held.{SameHeld, Stands}
 use Rattle.amqp_resource.specs.declared.session.TxnSession.{TxnSession}
 use Rattle.amqp_resource.specs.Session.{SameSession, StopAfter, below_of, held_of, stop_of}
-use Rattle.amqp_sessions.specs.declared.transacting.CommitFault.{CommitFault}
-use Rattle.amqp_sessions.specs.declared.transacting.CommitFault.TheVariants as commit_faults
-use Rattle.amqp_resource.specs.Committing.{HandsSurely}
-use Rattle.amqp_resource.specs.Transacting.{step_error_of}
-use Rattle.amqp_resource.specs.Steps.{AnswersEnd, EndGave, FrameMayFault, IfAttachRefused, IfEnded, IfRefused, IfUnknown, IsControlAttach, IsDead, IsFirstStop, IsPost, MayFault, OnAttachRefused, OnNoMemory, OnNoCall, OnVeto, Refused, StepCause, StopsSurely, UnderDead, calls_nothing, ended_by, is_live_under, is_unknown, has_error, local_end, remote_end, rolls_back_by, step_hands, takes_memory}
+use Rattle.amqp_resource.specs.Steps.{AnswersEnd, FrameMayFault, IfAttachRefused, IfEnded, IfRefused, IfUnknown, IsControlAttach, IsDead, IsFirstStop, MayFault, OnAttachRefused, OnNoMemory, OnNoCall, OnVeto, Refused, StepCause, UnderDead, calls_nothing, ended_by, is_live_under, is_unknown, step_hands, takes_memory}
 use Rattle.amqp_resource.specs.Keeping.{AnswerKeeps, FrameKeeps, StepKeeps}
 use Rattle.amqp_resource.specs.Views.{View, view_of_record}
 use Rattle.amqp_record.specs.Hands.{hands}
@@ -44,7 +34,7 @@ use Rattle.amqp_resource.proofs.Recorded.{StepAnswered, StepGave}
 
 -- ---- choices
 
-on_false : (A : Type 0) {B C : Type 0} (b : Bool) → (B → C) → MatchBool b A B → MatchBool b ⊤ C
+pub on_false : (A : Type 0) {B C : Type 0} (b : Bool) → (B → C) → MatchBool b A B → MatchBool b ⊤ C
 on_false A true f x = tt
 on_false A false f x = f x
 
@@ -62,25 +52,6 @@ no_call_weaker s (Err (errors.Fault error handed)) P Q f x = on_true _ (is_unkno
 no_call_weaker s (Err (errors.Ended reason)) P Q f x = f x
 no_call_weaker s (Err (errors.Stopped code)) P Q f x = f x
 no_call_weaker s (Err errors.NoMemory) P Q f x = f x
-
-on_either : (P : Type 0) (b : Bool) → P → MatchBool b P ⊤
-on_either P true x = x
-on_either P false x = tt
-
-pub no_call_holds : (s : Step) (result : Result (DrawnIds × Reply) StepError) (P : Type 0) → P → OnNoCall s result P
-no_call_holds s (Ok out) P x = on_either P (calls_nothing s out.1) x
-no_call_holds s (Err (errors.Fault error handed)) P x = on_either P (is_unknown error) x
-no_call_holds s (Err (errors.Ended reason)) P x = x
-no_call_holds s (Err (errors.Stopped code)) P x = x
-no_call_holds s (Err errors.NoMemory) P x = x
-
--- a veto has called
-pub veto_calls : (s : Step) (d : DrawnIds) (text : RejectText) (P : Type 0) → OnNoCall s (Ok (d, replies.Rejected transaction_errors.Rollback text)) P
-veto_calls s d text P = tt
-
--- an accepted commit may have called
-pub commit_calls : (k : ℕ) (payload : List ℕ) (discharge : Discharge) (d : DrawnIds) (echoes : List Answers) (P : Type 0) → message_of payload ≡ Some (messages.Discharge discharge) → is_rollback discharge.fail ≡ false → OnNoCall (steps.Control k payload) (Ok (d, replies.Accepted echoes)) P
-commit_calls k payload discharge d echoes P m b = subst (λ (c : Bool). MatchBool c P ⊤) (sym (ap rolls_back_by m ∙ b)) tt
 
 -- ---- what is so of a reply
 
@@ -158,20 +129,6 @@ step_unknown_only h old new r s (Err (errors.Stopped code)) g = tt
 step_unknown_only h old new r s (Err errors.NoMemory) g = tt
 
 -- ---- ends
-
-pub local_error : (o : Option Error) → is_some o ≡ has_error (local_end o)
-local_error None = refl
-local_error (Some error) = refl
-
-pub remote_error : (o : Option Error) → is_some o ≡ has_error (remote_end o)
-remote_error None = refl
-remote_error (Some error) = refl
-
-pub answers_end : (own : SessionStopReason) (takes : Bool) (error : StepError) → takes ≡ has_error own → EndGave own takes error → AnswersEnd (Some own) (Err error)
-answers_end own takes (errors.Fault error handed) has g = g
-answers_end own takes (errors.Ended got) has g = g
-answers_end own takes (errors.Stopped code) has g = g
-answers_end own takes errors.NoMemory has g = sym has ∙ g
 
 pub end_is : (o : Option SessionStopReason) (result : Result (DrawnIds × Reply) StepError) (reason : SessionStopReason) → AnswersEnd o result → o ≡ Some reason → (result ≡ Err (errors.Ended reason)) ⊎ (result ≡ Err errors.NoMemory)
 end_is None result reason a e = absurd (cc e)
@@ -261,49 +218,3 @@ by_attach before now r s d _ a c = tt
 pub step_attach : (h : Held) (old new : Told) (r : List Entry) (s : Step) (result : Result (DrawnIds × Reply) StepError) → StepGave h old new r s result → StepCause old new s result → OnAttachRefused result (Rose old.refusals new.refusals × IsControlAttach s)
 step_attach h old new r s (Ok out) g c = by_attach old.refusals new.refusals r s out.0.ids out.1 g.answer c.0
 step_attach h old new r s (Err error) g c = tt
-
--- ---- over a sure layer
-
--- of a step that isn't a control message nothing is said
-pub surely_other : (result : Result (DrawnIds × Reply) StepError) → IfRefused result (λ error handed. ⊤)
-surely_other (Ok out) = tt
-surely_other (Err (errors.Fault error handed)) = by_known (is_unknown error)
-  where
-    by_known : (b : Bool) → MatchBool b ⊤ ⊤
-    by_known true = tt
-    by_known false = tt
-surely_other (Err (errors.Ended reason)) = tt
-surely_other (Err (errors.Stopped code)) = tt
-surely_other (Err errors.NoMemory) = tt
-
--- what makes no call below is no refusal there
-no_refusal : (s : Step) (result : Result (DrawnIds × Reply) StepError) → StepCause open_told open_told s result → IfRefused result (λ error handed. ⊥)
-no_refusal s (Ok out) c = tt
-no_refusal s (Err (errors.Fault error handed)) c = by_known (is_unknown error) c
-  where
-    by_known : (b : Bool) → MatchBool b (IsPost s × (handed ≡ 0)) (Rose 0 0) → MatchBool b ⊤ ⊥
-    by_known true x = tt
-    by_known false x = omega (arith, x)
-no_refusal s (Err (errors.Ended reason)) c = tt
-no_refusal s (Err (errors.Stopped code)) c = tt
-no_refusal s (Err errors.NoMemory) c = tt
-
-if_refused : (P Q : SessionInnerError → ℕ → Type 0) (result : Result (DrawnIds × Reply) StepError) → ((error : SessionInnerError) (handed : ℕ) → P error handed → Q error handed) → IfRefused result P → IfRefused result Q
-if_refused P Q (Ok out) f x = tt
-if_refused P Q (Err (errors.Fault error handed)) f x = on_false _ (is_unknown error) (f error handed) x
-if_refused P Q (Err (errors.Ended reason)) f x = tt
-if_refused P Q (Err (errors.Stopped code)) f x = tt
-if_refused P Q (Err errors.NoMemory) f x = tt
-
-pub surely_here : (sure : Bool) (s : Step) (result : Result (DrawnIds × Reply) StepError) → ((told : Told) → StepCause told told s result) → IfRefused result (λ error handed. StopsSurely sure s handed)
-surely_here sure s result c =
-    if_refused (λ error handed. ⊥) (λ error handed. StopsSurely sure s handed) result (λ error handed x. absurd x) (no_refusal s result (c open_told))
-
--- a commit that failed
-pub surely_commit : (sure : Bool) (k : ℕ) (payload : List ℕ) (fault : CommitFault) → HandsSurely sure (Err fault) → IfRefused (Err (step_error_of fault)) (λ error handed. StopsSurely sure (steps.Control k payload) handed)
-surely_commit sure k payload commit_faults.NoMemory f = tt
-surely_commit sure k payload (commit_faults.Refused error handed) f = by_known (is_unknown error)
-  where
-    by_known : (b : Bool) → MatchBool b ⊤ (StopsSurely sure (steps.Control k payload) handed)
-    by_known true = tt
-    by_known false = f

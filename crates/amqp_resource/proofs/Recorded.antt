@@ -1,5 +1,5 @@
 -- What a step answers by the record, from what it answers by the record's view.
-use Rattle.std.proofs.Common.{◌≡◌, ℕ, ◌+◌, ◌≤◌, Bool, true, false, cond, not, Option, Some, None, Result, Ok, Err, List, [], ◌∷◌, ◌++◌, length, map, refl, sym, ◌∙◌, ap, arith, subst}
+use Rattle.std.proofs.Common.{◌≡◌, ℕ, Bool, true, false, cond, not, Option, Some, None, Result, Ok, Err, List, [], ◌∷◌, ◌++◌, length, map, refl, sym, ◌∙◌, ap, arith, subst}
 use Rattle.std.specs.Prelude.{is_some, MatchBool}
 use Rattle.std.specs.List.{zip}
 use Rattle.std.proofs.lemmas.List.{length-map}
@@ -44,7 +44,7 @@ use Rattle.amqp_resource.specs.Views.{SameView, View, frames_in, is_held_in, vie
 use Rattle.amqp_resource.specs.Keeping.{AnswerKeeps, ControlKeeps, DeclareKeeps, DischargeHands, DischargeKeeps, EndKeeps, Fits, FrameKeeps, Keeps, MessageKeeps, PlainKeeps, StepKeeps}
 use Rattle.amqp_resource.specs.Steps.{OnNoMemory, OpenedBy, Refused, RefusedBy, TookHands, UnderDead, VetoedBy, ended_by, entry_of, is_unknown, message_hands, step_hands, takes_memory}
 use Rattle.amqp_resource.proofs.Handing.{windows-stripped}
-use Rattle.amqp_resource.proofs.Standing.{LeavesLinks, stands-moved, view-attached, view-closed, view-declared, view-ended, view-post, view-quiet}
+use Rattle.amqp_resource.proofs.Standing.{stands-moved, view-attached, view-closed, view-declared, view-ended, view-post, view-quiet}
 use Rattle.amqp_resource.proofs.Views.{all-record, commit_hands, frames-record, hands-record, held-record, live-record, stands-view, view-stands}
 
 -- ---- the reply is an answer of the record

@@ -24,7 +24,7 @@ use Rattle.amqp_resource.proofs.Kept.{tied_same}
 use Rattle.amqp_record.specs.Legal.{IsLegal}
 use Rattle.amqp_resource.specs.declared.held.Held.{Held}
 use Rattle.amqp_arrivals.specs.Live.{Kept, Live, kept, with_frame}
-use Rattle.amqp_resource.specs.Held.{OpenLinks, SameHeld, Stands, Tied, ids_on, is_among, is_in, is_kept_on, kept_by, unless_on}
+use Rattle.amqp_resource.specs.Held.{OpenLinks, SameHeld, Stands, ids_on, is_among, is_in, is_kept_on, kept_by, unless_on}
 use Rattle.amqp_resource.specs.Draws.{is_kept}
 use Rattle.amqp_resource.specs.Views.{SameLinks, SameView, View, view_of_held, view_of_record}
 use Rattle.amqp_resource.specs.Keeping.{Attaches, Closes, Declares}

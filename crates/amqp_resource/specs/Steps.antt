@@ -1,5 +1,5 @@
 -- What one step is, what it hands and takes by a view, and when each answer may come.
-use Rattle.std.specs.Prelude.{ℕ, Bool, true, false, not, cond, ◌&&◌, ◌≡◌, ◌≤◌, ◌⊎◌, ⊤, Option, Some, None, Result, Ok, Err, List, [], ◌∷◌, ◌++◌, length, map, take, slice_get, is_some, is_none, MatchBool}
+use Rattle.std.specs.Prelude.{ℕ, Bool, true, false, not, cond, ◌&&◌, ◌≡◌, ◌≤◌, ◌⊎◌, ⊤, Option, Some, None, Result, Ok, Err, List, [], ◌∷◌, length, map, take, slice_get, is_some, is_none, MatchBool}
 use Rattle.std.specs.List.{zip}
 use Rattle.amqp_txn_types.specs.declared.id.TransactionId.{TransactionId}
 use Rattle.amqp_txn_types.specs.declared.small.TransactionError.TheVariants as transaction_errors

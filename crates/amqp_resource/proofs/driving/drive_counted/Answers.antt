@@ -8,7 +8,7 @@ use Rattle.amqp_resource.specs.Session.{held_of, below_of, stop_of}
 use Rattle.amqp_resource.specs.Drive.{Left, work_count}
 use Rattle.amqp_resource.proofs.Filling.{filled_all, filled_more, left_at, same_at, steps_filled, steps_waiting}
 use Rattle.amqp_resource.proofs.Standing.{emptied}
-use Rattle.amqp_resource.proofs.Keeping.{fits-stands}
+use Rattle.amqp_resource.proofs.Fitting.{fits-stands}
 use Rattle.amqp_resource.proofs.Looked.{step_spends, work_more}
 use Rattle.amqp_resource.proofs.Parts.{end_is, no_call_weaker}
 use Rattle.amqp_resource.proofs.Running.{Broke, broke_cause, broke_ended, broke_refused, broke_surely, broke_took, broke_unknown, failed, ran-more, ran-nil, steps-first, stops_by}
