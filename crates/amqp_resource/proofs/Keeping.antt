@@ -41,7 +41,7 @@ use Rattle.amqp_resource.specs.Draws.{DrewLive, DrewUnused, is_kept}
 use Rattle.amqp_layer.specs.Taking.{TakesFrame, TookFrames, taken_frames}
 use Rattle.amqp_resource.specs.Committing.{HandsAll, HandsSurely}
 use Rattle.amqp_resource.specs.Transacting.{CommittedWith, Ended, step_error_of}
-use Rattle.amqp_resource.specs.Steps.{AddsRefusal, AnswersEnd, EndGave, FrameMayFault, IsDead, IsPost, IsUnder, Refused, UnderDead, ended_by, fault_of, has_error, is_live_under, is_unknown, message_hands, message_takes_memory, nothing_drawn, step_hands, takes_memory}
+use Rattle.amqp_resource.specs.Steps.{StepCause, AddsRefusal, AnswersEnd, EndGave, FrameMayFault, IsDead, IsPost, IsUnder, Refused, UnderDead, ended_by, fault_of, has_error, is_live_under, is_unknown, message_hands, message_takes_memory, nothing_drawn, step_hands, takes_memory}
 use Rattle.amqp_resource.specs.Views.{View, view_of_held}
 use Rattle.amqp_resource.specs.Leaving.{LeavesHere, StepLeaves}
 use Rattle.amqp_resource.specs.Keeping.{ControlKeeps, DischargeHands, EndKeeps, Ends, Fits, FrameKeeps, Keeps, NothingChanges, PlainKeeps, StepKeeps}
@@ -60,9 +60,6 @@ same_held h = record { live = λ t. refl; links = λ k. refl; opened = refl }
 unchanged : (h : Held) (told : Told) → NothingChanges (view_of_held h) (view_of_held h) told told
 unchanged h told = record { same = same-view (view_of_held h); below = refl }
 
-unchanged-moved : (h g : Held) (told : Told) → SameHeld h g → NothingChanges (view_of_held h) (view_of_held g) told told
-unchanged-moved h g told same = record { same = view-moved h g same; below = refl }
-
 -- no ids were drawn
 none_drawn : (d : DrawnIds) → d ≡ nothing_drawn → d.ids ≡ []
 none_drawn d n = ap (λ (x : DrawnIds). x.ids) n
@@ -76,6 +73,25 @@ when_known false P Q e q = q
 fault_answers : (v : View) (told now : Told) (s : Step) (hands : List Frame) (error own : SessionInnerError) (handed : ℕ) → is_unknown error ≡ false → error ≡ fault_of own → Refused v told now s hands (fault_of own) handed → MatchBool (is_unknown error) (UnderDead v s × (handed ≡ 0)) (Refused v told now s hands error handed)
 fault_answers v told now s hands error own handed known e x =
     when_known (is_unknown error) _ _ known (subst (λ (y : SessionInnerError). Refused v told now s hands y handed) (sym e) x)
+
+-- ---- no call below
+
+-- a reply
+answered-here : (h g : Held) (s : Step) (d : DrawnIds) (reply : Reply) → ((told : Told) → StepCause told told s (Ok (d, reply))) → AnswersEnd (ended_by s) (Ok (d, reply)) → (Fits h → Fits g) → ((told : Told) → Fits h → StepKeeps (view_of_held h) (view_of_held g) told told s d.ids reply) → LeavesHere h g s (Ok (d, reply))
+answered-here h g s d reply cause ended fits answer = record { keeps = λ told f. record { fits = fits f; answer = answer told f }; cause = cause; ended = ended; same = tt }
+
+-- want of memory
+wanting-here : (h g : Held) (s : Step) → SameHeld h g → takes_memory (view_of_held h) s ≡ true → AnswersEnd (ended_by s) (Err errors.NoMemory) → LeavesHere h g s (Err errors.NoMemory)
+wanting-here h g s same takes ended = record { keeps = λ told f. record { fits = fits-same h g same f; answer = takes }; cause = λ told. tt; ended = ended; same = same }
+
+-- a reply to a control message
+control_answers : (v w : View) (told now : Told) (k : ℕ) (payload : List ℕ) (b : Bool) (m : Option ControlMessageBody) (drawn : List TransactionId) (reply : Reply) → message_of payload ≡ m → v.links k ≡ b → ControlKeeps k v w told now b m drawn reply → StepKeeps v w told now (steps.Control k payload) drawn reply
+control_answers v w told now k payload b m drawn reply e o x =
+    subst (λ (y : Option ControlMessageBody). ControlKeeps k v w told now (v.links k) y drawn reply) (sym e)
+    (subst (λ (c : Bool). ControlKeeps k v w told now c m drawn reply) (sym o) x)
+
+control-here : (h g : Held) (k : ℕ) (payload : List ℕ) (d : DrawnIds) (b : Bool) (m : Option ControlMessageBody) (reply : Reply) → message_of payload ≡ m → is_in h.links.entries k ≡ b → ((told : Told) → StepCause told told (steps.Control k payload) (Ok (d, reply))) → (Fits h → Fits g) → ((told : Told) → Fits h → ControlKeeps k (view_of_held h) (view_of_held g) told told b m d.ids reply) → LeavesHere h g (steps.Control k payload) (Ok (d, reply))
+control-here h g k payload d b m reply e o cause fits answer = answered-here h g (steps.Control k payload) d reply cause tt fits (λ told f. control_answers (view_of_held h) (view_of_held g) told told k payload b m d.ids reply e o (answer told f))
 
 -- ---- plain frames
 
@@ -125,12 +141,7 @@ keeps-plain_refused h told now frame e error handed p known same n t f = record 
 }
 
 pub here-plain_wanting : (h : Held) (frame : Frame) → is_plain_frame frame ≡ true → LeavesHere h h (steps.Frame frame) (Err errors.NoMemory)
-here-plain_wanting h frame p = record {
-  keeps = λ told f. record { fits = f; answer = ap (is_live_under (view_of_held h)) (plain_none frame p) };
-  cause = λ told. tt;
-  ended = tt;
-  same = same_held h;
-}
+here-plain_wanting h frame p = wanting-here h h (steps.Frame frame) (same_held h) (ap (is_live_under (view_of_held h)) (plain_none frame p)) tt
 
 -- ---- frames under an id
 
@@ -175,12 +186,7 @@ here-dead h g frame u e n same = record {
 }
 
 pub here-post_wanting : (h g : Held) (frame : Frame) (u : TransactionId) → txn frame ≡ Some u → is_kept h.work u ≡ true → SameHeld h g → LeavesHere h g (steps.Frame frame) (Err errors.NoMemory)
-here-post_wanting h g frame u e at same = record {
-  keeps = λ told f. record { fits = fits-same h g same f; answer = ap (is_live_under (view_of_held h)) e ∙ at };
-  cause = λ told. tt;
-  ended = tt;
-  same = same;
-}
+here-post_wanting h g frame u e at same = wanting-here h g (steps.Frame frame) same (ap (is_live_under (view_of_held h)) e ∙ at) tt
 
 -- ---- attaches to a coordinator
 
@@ -223,53 +229,31 @@ keeps-attach_refused h g told now attach d error n c held t f = record {
 }
 
 pub here-attach_wanting : (h g : Held) (attach : Attach) → SameHeld h g → LeavesHere h g (steps.Frame (frames.Attach attach)) (Err errors.NoMemory)
-here-attach_wanting h g attach same = record {
-  keeps = λ told f. record { fits = fits-same h g same f; answer = ap (is_live_under (view_of_held h)) (txn-attach attach) };
-  cause = λ told. tt;
-  ended = tt;
-  same = same;
-}
+here-attach_wanting h g attach same = wanting-here h g (steps.Frame (frames.Attach attach)) same (ap (is_live_under (view_of_held h)) (txn-attach attach)) tt
 
 -- ---- the ends of links
 
 pub here-link_end : (h g : Held) (k : ℕ) (d : DrawnIds) → d ≡ nothing_drawn → is_in h.links.entries k ≡ true → (Tied h → (t : TransactionId) → kept g.work t ≡ unless_on k (kept h.work t)) → ((j : ℕ) → is_in g.links.entries j ≡ cond (k == j) false (is_in h.links.entries j)) → (Tied h → Tied g) → g.opened ≡ h.opened → LeavesHere h g (steps.LinkEnd k) (Ok (d, replies.LinkEnded))
-here-link_end h g k d n o lg kg tied og = record {
-  keeps = λ told f. record { fits = fits-closed h g k tied kg og f; answer = (none_drawn d n, subst (λ (b : Bool). EndKeeps k (view_of_held h) (view_of_held g) told told b replies.LinkEnded) (sym o) (record { live = lg f.tied; links = kg; opened = og; below = refl })) };
-  cause = λ told. (tt, tt);
-  ended = tt;
-  same = tt;
-}
+here-link_end h g k d n o lg kg tied og =
+    answered-here h g (steps.LinkEnd k) d replies.LinkEnded (λ told. (tt, tt)) tt (fits-closed h g k tied kg og)
+    (λ told f. (none_drawn d n, subst (λ (b : Bool). EndKeeps k (view_of_held h) (view_of_held g) told told b replies.LinkEnded) (sym o) (record { live = lg f.tied; links = kg; opened = og; below = refl })))
 
 pub here-no_end : (h : Held) (k : ℕ) (d : DrawnIds) → d ≡ nothing_drawn → is_in h.links.entries k ≡ false → LeavesHere h h (steps.LinkEnd k) (Ok (d, replies.NoLink))
-here-no_end h k d n o = record {
-  keeps = λ told f. record { fits = f; answer = (none_drawn d n, subst (λ (b : Bool). EndKeeps k (view_of_held h) (view_of_held h) told told b replies.NoLink) (sym o) (unchanged h told)) };
-  cause = λ told. (tt, tt);
-  ended = tt;
-  same = tt;
-}
+here-no_end h k d n o =
+    answered-here h h (steps.LinkEnd k) d replies.NoLink (λ told. (tt, tt)) tt (λ f. f)
+    (λ told f. (none_drawn d n, subst (λ (b : Bool). EndKeeps k (view_of_held h) (view_of_held h) told told b replies.NoLink) (sym o) (unchanged h told)))
 
 -- ---- control messages
 
-control_answers : (v w : View) (told now : Told) (k : ℕ) (payload : List ℕ) (b : Bool) (m : Option ControlMessageBody) (drawn : List TransactionId) (reply : Reply) → message_of payload ≡ m → v.links k ≡ b → ControlKeeps k v w told now b m drawn reply → StepKeeps v w told now (steps.Control k payload) drawn reply
-control_answers v w told now k payload b m drawn reply e o x =
-    subst (λ (y : Option ControlMessageBody). ControlKeeps k v w told now (v.links k) y drawn reply) (sym e)
-    (subst (λ (c : Bool). ControlKeeps k v w told now c m drawn reply) (sym o) x)
-
 pub here-no_link : (h : Held) (k : ℕ) (payload : List ℕ) (d : DrawnIds) → d ≡ nothing_drawn → is_in h.links.entries k ≡ false → LeavesHere h h (steps.Control k payload) (Ok (d, replies.NoLink))
-here-no_link h k payload d n o = record {
-  keeps = λ told f. record { fits = f; answer = control_answers (view_of_held h) (view_of_held h) told told k payload false (message_of payload) d.ids replies.NoLink refl o (none_drawn d n, unchanged h told) };
-  cause = λ told. (tt, tt);
-  ended = tt;
-  same = tt;
-}
+here-no_link h k payload d n o =
+    control-here h h k payload d false (message_of payload) (replies.NoLink) refl o (λ told. (tt, tt)) (λ f. f)
+    (λ told f. (none_drawn d n, unchanged h told))
 
 pub here-closed : (h g : Held) (k : ℕ) (payload : List ℕ) (d : DrawnIds) → d ≡ nothing_drawn → message_of payload ≡ None → is_in h.links.entries k ≡ true → (Tied h → (t : TransactionId) → kept g.work t ≡ unless_on k (kept h.work t)) → ((j : ℕ) → is_in g.links.entries j ≡ cond (k == j) false (is_in h.links.entries j)) → (Tied h → Tied g) → g.opened ≡ h.opened → LeavesHere h g (steps.Control k payload) (Ok (d, replies.LinkClosed amqp_errors.NotAllowed))
-here-closed h g k payload d n e o lg kg tied og = record {
-  keeps = λ told f. record { fits = fits-closed h g k tied kg og f; answer = control_answers (view_of_held h) (view_of_held g) told told k payload true None d.ids (replies.LinkClosed amqp_errors.NotAllowed) e o (none_drawn d n, record { live = lg f.tied; links = kg; opened = og; below = refl }) };
-  cause = λ told. (tt, tt);
-  ended = tt;
-  same = tt;
-}
+here-closed h g k payload d n e o lg kg tied og =
+    control-here h g k payload d true None (replies.LinkClosed amqp_errors.NotAllowed) e o (λ told. (tt, tt)) (fits-closed h g k tied kg og)
+    (λ told f. (none_drawn d n, record { live = lg f.tied; links = kg; opened = og; below = refl }))
 
 -- ---- declares
 
@@ -291,44 +275,27 @@ wants : (v : View) (k : ℕ) (payload : List ℕ) (m : Option ControlMessageBody
 wants v k payload m e o x = ap (λ b. b && message_takes_memory v k (message_of payload)) o ∙ ap (message_takes_memory v k) e ∙ x
 
 pub here-global : (h : Held) (k : ℕ) (payload : List ℕ) (global : TransactionId) (d : DrawnIds) → d ≡ nothing_drawn → message_of payload ≡ declare_of (Some global) → is_in h.links.entries k ≡ true → LeavesHere h h (steps.Control k payload) (Ok (d, replies.Rejected transaction_errors.UnknownId texts.GlobalId))
-here-global h k payload global d n e o = record {
-  keeps = λ told f. record { fits = f; answer = control_answers (view_of_held h) (view_of_held h) told told k payload true (declare_of (Some global)) d.ids (replies.Rejected transaction_errors.UnknownId texts.GlobalId) e o (none_drawn d n, unchanged h told) };
-  cause = λ told. (tt, tt);
-  ended = tt;
-  same = tt;
-}
+here-global h k payload global d n e o =
+    control-here h h k payload d true (declare_of (Some global)) (replies.Rejected transaction_errors.UnknownId texts.GlobalId) e o (λ told. (tt, tt)) (λ f. f)
+    (λ told f. (none_drawn d n, unchanged h told))
 
 pub here-repeat : (h g : Held) (k : ℕ) (payload : List ℕ) (d : DrawnIds) → message_of payload ≡ declare_of None → is_in h.links.entries k ≡ true → SameHeld h g → DrewLive (kept g.work) d.ids → LeavesHere h g (steps.Control k payload) (Ok (d, replies.Rejected transaction_errors.UnknownId texts.IdsRepeat))
-here-repeat h g k payload d e o same drew = record {
-  keeps = λ told f. record { fits = fits-same h g same f; answer = control_answers (view_of_held h) (view_of_held g) told told k payload true (declare_of None) d.ids (replies.Rejected transaction_errors.UnknownId texts.IdsRepeat) e o (drew-live h g d.ids same drew, unchanged-moved h g told same) };
-  cause = λ told. (tt, tt);
-  ended = tt;
-  same = tt;
-}
+here-repeat h g k payload d e o same drew =
+    control-here h g k payload d true (declare_of None) (replies.Rejected transaction_errors.UnknownId texts.IdsRepeat) e o (λ told. (tt, tt)) (fits-same h g same)
+    (λ told f. (drew-live h g d.ids same drew, record { same = view-moved h g same; below = refl }))
 
 pub here-declared : (h roomy g : Held) (k : ℕ) (payload : List ℕ) (d : DrawnIds) (id : TransactionId) → message_of payload ≡ declare_of None → is_in h.links.entries k ≡ true → SameHeld h roomy → DrewUnused (kept roomy.work) d.ids id → ((t : TransactionId) → kept g.work t ≡ cond (same_id t id) (Some (Some k, [])) (kept roomy.work t)) → ((j : ℕ) → is_in g.links.entries j ≡ is_in roomy.links.entries j) → (Tied roomy → Tied g) → g.opened ≡ roomy.opened → LeavesHere h g (steps.Control k payload) (Ok (d, replies.Declared id))
-here-declared h roomy g k payload d id e o same drew lg kg tied og = record {
-  keeps = λ told f. record {
-    fits = fits-declared roomy g tied kg og (fits-same h roomy same f);
-    answer = control_answers (view_of_held h) (view_of_held g) told told k payload true (declare_of None) d.ids (replies.Declared id) e o (record {
+here-declared h roomy g k payload d id e o same drew lg kg tied og =
+    control-here h g k payload d true (declare_of None) (replies.Declared id) e o (λ told. (tt, tt)) (λ f. fits-declared roomy g tied kg og (fits-same h roomy same f))
+    (λ told f. record {
       unused = drew-unused h roomy d.ids id same drew;
       live = λ t. lg t ∙ ap (cond (same_id t id) (Some (Some k, []))) (same.live t);
       links = record { links = λ j. kg j ∙ ap is_some (same.links j); opened = og ∙ same.opened };
       below = refl;
-    });
-  };
-  cause = λ told. (tt, tt);
-  ended = tt;
-  same = tt;
-}
+    })
 
 pub here-declare_wanting : (h g : Held) (k : ℕ) (payload : List ℕ) → message_of payload ≡ declare_of None → is_in h.links.entries k ≡ true → SameHeld h g → LeavesHere h g (steps.Control k payload) (Err errors.NoMemory)
-here-declare_wanting h g k payload e o same = record {
-  keeps = λ told f. record { fits = fits-same h g same f; answer = wants (view_of_held h) k payload (declare_of None) e o refl };
-  cause = λ told. tt;
-  ended = tt;
-  same = same;
-}
+here-declare_wanting h g k payload e o same = wanting-here h g (steps.Control k payload) same (wants (view_of_held h) k payload (declare_of None) e o refl) tt
 
 -- ---- discharges
 
@@ -353,15 +320,21 @@ ends : (h g : Held) (k : ℕ) (id : TransactionId) → is_kept_on k (kept h.work
 ends h g k id on x = record { held = on; live = x.live; links = record { links = x.links; opened = x.opened } }
 
 pub here-absent : (h : Held) (k : ℕ) (payload : List ℕ) (discharge : Discharge) (d : DrawnIds) → d ≡ nothing_drawn → message_of payload ≡ discharge_of discharge → is_in h.links.entries k ≡ true → is_kept_on k (kept h.work discharge.txn_id) ≡ false → LeavesHere h h (steps.Control k payload) (Ok (d, replies.Rejected transaction_errors.UnknownId texts.Absent))
-here-absent h k payload discharge d n e o not_on = record {
-  keeps = λ told f. record { fits = f; answer = control_answers (view_of_held h) (view_of_held h) told told k payload true (discharge_of discharge) d.ids (replies.Rejected transaction_errors.UnknownId texts.Absent) e o (not_on, none_drawn d n, unchanged h told) };
-  cause = λ told. (tt, tt);
-  ended = tt;
-  same = tt;
-}
+here-absent h k payload discharge d n e o not_on =
+    control-here h h k payload d true (discharge_of discharge) (replies.Rejected transaction_errors.UnknownId texts.Absent) e o (λ told. (tt, tt)) (λ f. f)
+    (λ told f. (not_on, none_drawn d n, unchanged h told))
 
-pub keeps-discharged : (h g : Held) (told now : Told) (k : ℕ) (payload : List ℕ) (discharge : Discharge) (d : DrawnIds) (b : Bool) (echoes : List Answers) → d ≡ nothing_drawn → message_of payload ≡ discharge_of discharge → is_rollback discharge.fail ≡ b → is_in h.links.entries k ≡ true → is_kept_on k (kept h.work discharge.txn_id) ≡ true → Ended h g discharge.txn_id → DischargeHands told now b (frames_kept (kept h.work discharge.txn_id)) echoes → Fits h → Keeps h g told now (steps.Control k payload) (Ok (d, replies.Accepted echoes))
-keeps-discharged h g told now k payload discharge d b echoes n e rb o on x hands f = record {
+pub here-rolled_back : (h g : Held) (k : ℕ) (payload : List ℕ) (discharge : Discharge) (d : DrawnIds) → d ≡ nothing_drawn → message_of payload ≡ discharge_of discharge → is_rollback discharge.fail ≡ true → is_in h.links.entries k ≡ true → is_kept_on k (kept h.work discharge.txn_id) ≡ true → Ended h g discharge.txn_id → LeavesHere h g (steps.Control k payload) (Ok (d, replies.Accepted []))
+here-rolled_back h g k payload discharge d n e rb o on x =
+    control-here h g k payload d true (discharge_of discharge) (replies.Accepted []) e o (λ told. (tt, tt)) (fits-ended h g discharge.txn_id x)
+    (λ told f. (
+    ends h g k discharge.txn_id on x,
+    none_drawn d n,
+    subst (λ (b : Bool). DischargeHands told told b (frames_kept (kept h.work discharge.txn_id)) []) (sym rb) (refl, refl),
+    ))
+
+pub keeps-committed : (h g : Held) (told now : Told) (k : ℕ) (payload : List ℕ) (discharge : Discharge) (d : DrawnIds) (echoes : List Answers) → d ≡ nothing_drawn → message_of payload ≡ discharge_of discharge → is_rollback discharge.fail ≡ false → is_in h.links.entries k ≡ true → is_kept_on k (kept h.work discharge.txn_id) ≡ true → Ended h g discharge.txn_id → HandsAll told now (map stripped (frames_kept (kept h.work discharge.txn_id))) (Ok (Ok echoes)) → Fits h → Keeps h g told now (steps.Control k payload) (Ok (d, replies.Accepted echoes))
+keeps-committed h g told now k payload discharge d echoes n e rb o on x hands f = record {
   fits = fits-ended h g discharge.txn_id x f;
   answer = control_answers (view_of_held h) (view_of_held g) told now k payload true (discharge_of discharge) d.ids (replies.Accepted echoes) e o (
     ends h g k discharge.txn_id on x,
@@ -452,9 +425,4 @@ here-end h s own takes (errors.Ended got) x e has w = record {
   same = tt;
 }
 here-end h s own takes (errors.Stopped code) x e has w = absurd x
-here-end h s own takes errors.NoMemory x e has w = record {
-  keeps = λ told f. record { fits = f; answer = w ∙ x };
-  cause = λ told. tt;
-  ended = subst (λ (o : Option SessionStopReason). AnswersEnd o (Err errors.NoMemory)) (sym e) (sym has ∙ x);
-  same = same_held h;
-}
+here-end h s own takes errors.NoMemory x e has w = wanting-here h h s (same_held h) (w ∙ x) (subst (λ (o : Option SessionStopReason). AnswersEnd o (Err errors.NoMemory)) (sym e) (sym has ∙ x))

@@ -68,19 +68,13 @@ on_refused h old new r s (Err (errors.Ended reason)) P f g = tt
 on_refused h old new r s (Err (errors.Stopped code)) P f g = tt
 on_refused h old new r s (Err errors.NoMemory) P f g = tt
 
-pub opened_none : (h : Held) (old new : Told) (r : List Entry) (s : Step) (result : Result (DrawnIds × Reply) StepError) → StepGave h old new r s result → OnNoCall s result (new.opened ≡ old.opened) → OnErr result (new.opened ≡ old.opened)
-opened_none h old new r s (Ok out) g x = tt
-opened_none h old new r s (Err (errors.Fault error handed)) g x = in_both _ (is_unknown error) (λ f. f.opened) g x
-opened_none h old new r s (Err (errors.Ended reason)) g x = x
-opened_none h old new r s (Err (errors.Stopped code)) g x = x
-opened_none h old new r s (Err errors.NoMemory) g x = x
-
-pub vetoed_none : (h : Held) (old new : Told) (r : List Entry) (s : Step) (result : Result (DrawnIds × Reply) StepError) → StepGave h old new r s result → OnNoCall s result (new.reviews.vetoed ≡ old.reviews.vetoed) → OnErr result (new.reviews.vetoed ≡ old.reviews.vetoed)
-vetoed_none h old new r s (Ok out) g x = tt
-vetoed_none h old new r s (Err (errors.Fault error handed)) g x = in_both _ (is_unknown error) (λ f. f.vetoed) g x
-vetoed_none h old new r s (Err (errors.Ended reason)) g x = x
-vetoed_none h old new r s (Err (errors.Stopped code)) g x = x
-vetoed_none h old new r s (Err errors.NoMemory) g x = x
+-- an error that is no refusal below makes no call there
+pub on_error : (h : Held) (old new : Told) (r : List Entry) (s : Step) (result : Result (DrawnIds × Reply) StepError) (P : Type 0) → ((error : SessionInnerError) (handed : ℕ) → Refused (view_of_record r) old new s (hands r s) error handed → P) → StepGave h old new r s result → OnNoCall s result P → OnErr result P
+on_error h old new r s (Ok out) P f g x = tt
+on_error h old new r s (Err (errors.Fault error handed)) P f g x = in_both _ (is_unknown error) (f error handed) g x
+on_error h old new r s (Err (errors.Ended reason)) P f g x = x
+on_error h old new r s (Err (errors.Stopped code)) P f g x = x
+on_error h old new r s (Err errors.NoMemory) P f g x = x
 
 -- ---- unknown ids
 

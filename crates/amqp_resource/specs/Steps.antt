@@ -96,7 +96,8 @@ message_hands v k (Some (messages.Discharge discharge)) =
     (map stripped (frames_in v discharge.txn_id)) []
 message_hands v k _ = []
 
--- what a step hands: a plain frame itself, a control message what it hands on an open link
+-- what a step hands: a plain frame itself, a control message what it hands on an open link. By a
+-- record's view that is what it hands by the record (`hands`)
 abbrev pub step_hands : View → Step → List Frame
 step_hands v (steps.Frame frame) = cond (is_plain_frame frame) (frame ∷ []) []
 step_hands v (steps.Control k payload) =

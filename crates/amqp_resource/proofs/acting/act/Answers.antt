@@ -1,6 +1,6 @@
 use Rattle.std.proofs.Common.{refl}
 use Rattle.amqp_resource.proofs.Keeping.{here-end}
-use Rattle.amqp_resource.proofs.Leaving.{draws-none, leaves-here, local_error, remote_error}
+use Rattle.amqp_resource.proofs.Leaving.{leaves-here, local_error, remote_error}
 use Rattle.amqp_resource.proofs.Looked.{pays_adds, pays_none}
 use Rattle.amqp_resource.proofs.acting.act.Goals as goal
 
@@ -21,21 +21,6 @@ returns-in-RemoteEnd-clause-leaves g c = rw c.in-RemoteEnd.is (leaves-here _ _ _
 
 pub returns-in-ConnectionStop-clause-leaves : goal.returns-in-ConnectionStop-clause-leaves
 returns-in-ConnectionStop-clause-leaves g c = rw c.in-ConnectionStop.is (leaves-here _ _ _ _ _ _ _ (here-end c.args.held.now _ _ _ _ c.end_with_connection.ensures refl refl refl))
-
-pub returns-in-Frame-clause-draws : goal.returns-in-Frame-clause-draws
-returns-in-Frame-clause-draws g c = draws-none _ _ _ _ c.frame_step.ensures.draws
-
-pub returns-in-LinkEnd-clause-draws : goal.returns-in-LinkEnd-clause-draws
-returns-in-LinkEnd-clause-draws g c = draws-none _ _ _ _ c.link_end_step.ensures.draws
-
-pub returns-in-LocalEnd-clause-draws : goal.returns-in-LocalEnd-clause-draws
-returns-in-LocalEnd-clause-draws g c = draws-none _ _ _ _ tt
-
-pub returns-in-RemoteEnd-clause-draws : goal.returns-in-RemoteEnd-clause-draws
-returns-in-RemoteEnd-clause-draws g c = draws-none _ _ _ _ tt
-
-pub returns-in-ConnectionStop-clause-draws : goal.returns-in-ConnectionStop-clause-draws
-returns-in-ConnectionStop-clause-draws g c = draws-none _ _ _ _ tt
 
 pub returns-in-Frame-clause-pays : goal.returns-in-Frame-clause-pays
 returns-in-Frame-clause-pays g c = rw c.in-Frame.is (pays_adds _ _ _ _ _ c.frame_step.ensures.counts)

@@ -1,4 +1,4 @@
-use Rattle.amqp_resource.proofs.Leaving.{draws-none, leaves-here}
+use Rattle.amqp_resource.proofs.Leaving.{leaves-here}
 use Rattle.amqp_resource.proofs.Looked.{pays_adds, pays_none}
 use Rattle.amqp_resource.proofs.acting.control_step.Goals as goal
 
@@ -13,18 +13,6 @@ returns-in-Ok-Declare-Some-clause-leaves g c = leaves-here _ _ _ _ _ _ _ c.globa
 
 pub returns-in-Ok-Declare-None-clause-leaves : goal.returns-in-Ok-Declare-None-clause-leaves
 returns-in-Ok-Declare-None-clause-leaves g c = leaves-here _ _ _ _ _ _ _ c.declare_step.ensures.leaves
-
-pub returns-then-not-has_link-clause-draws : goal.returns-then-not-has_link-clause-draws
-returns-then-not-has_link-clause-draws g c = draws-none _ _ _ _ c.no_link_step.ensures.draws
-
-pub returns-in-Err-clause-draws : goal.returns-in-Err-clause-draws
-returns-in-Err-clause-draws g c = draws-none _ _ _ _ c.close_step.ensures.draws
-
-pub returns-in-Ok-Declare-Some-clause-draws : goal.returns-in-Ok-Declare-Some-clause-draws
-returns-in-Ok-Declare-Some-clause-draws g c = draws-none _ _ _ _ c.global_step.ensures.draws
-
-pub returns-in-Ok-Discharge-clause-draws : goal.returns-in-Ok-Discharge-clause-draws
-returns-in-Ok-Discharge-clause-draws g c = draws-none _ _ _ _ c.discharge_step.ensures.draws
 
 pub returns-then-not-has_link-clause-pays : goal.returns-then-not-has_link-clause-pays
 returns-then-not-has_link-clause-pays g c = pays_none _ _ _ _

@@ -1,7 +1,7 @@
 use Rattle.std.proofs.Common.{◌≡◌, ℕ, map, List, Result, Ok, Err, ap, sym, subst, ◌∙◌, refl}
 use Rattle.std.specs.Option.{option_map}
 use Rattle.amqp_arrivals.specs.Live.{frames_kept, home_of, kept}
-use Rattle.amqp_resource.proofs.Keeping.{held_here, here-absent, keeps-discharged, keeps-vetoed, leaves-fault}
+use Rattle.amqp_resource.proofs.Keeping.{held_here, here-absent, here-rolled_back, keeps-committed, keeps-vetoed, leaves-fault}
 use Rattle.amqp_resource.proofs.Leaving.{commit_calls, leaves-here}
 use Rattle.amqp_txn_types.specs.Frames.{stripped}
 use Rattle.amqp_txn_types.specs.declared.small.TransactionError.{TransactionError}
@@ -26,22 +26,17 @@ returns-then-not-is_declared_on-clause-leaves g c =
 pub returns-then-rolls_back-clause-leaves : goal.returns-then-rolls_back-clause-leaves
 returns-then-rolls_back-clause-leaves g c =
     let ended = c.drop_work.ensures in
-    rw c.new.ensures (leaves-here _ _ _ _ _ _ _ (record {
-      keeps = λ told f. keeps-discharged c.args.held.now c.drop_work.new.held told told c.args.link c.args.payload.now c.args.discharge _ _ _ c.no_draws-then-rolls_back.ensures c.requires.message
-      (sym c.rolls_back.ensures ∙ c.if-rolls_back.true) c.requires.opened
-      (sym c.is_declared_on.ensures ∙ c.if-not-is_declared_on.false)
-      (record { live = ended.rest; links = ended.links; tied = ended.tied; opened = ended.opened }) (refl, refl) f;
-      cause = λ told. (tt, tt);
-      ended = tt;
-      same = tt;
-    }))
+    rw c.new.ensures (leaves-here _ _ _ _ _ _ _ (here-rolled_back c.args.held.now c.drop_work.new.held c.args.link c.args.payload.now c.args.discharge _ c.no_draws-then-rolls_back.ensures c.requires.message
+    (sym c.rolls_back.ensures ∙ c.if-rolls_back.true) c.requires.opened
+    (sym c.is_declared_on.ensures ∙ c.if-not-is_declared_on.false)
+    (record { live = ended.rest; links = ended.links; tied = ended.tied; opened = ended.opened })))
 
 pub returns-in-Ok-Ok-clause-leaves : goal.returns-in-Ok-Ok-clause-leaves
 returns-in-Ok-Ok-clause-leaves g c =
     let P : Result (List Answers) TransactionError → Type 0 = λ answer. CommittedWith c.args.held.now c.commit_live.new.held (g.S.Tells.told c.args.below.now) (g.S.Tells.told c.commit_live.new.below) c.args.discharge.txn_id (frames_kept (kept c.args.held.now.work c.args.discharge.txn_id)) (c.commit_live.new.below ≡ c.args.below.now) (Ok answer) in
     let committed : P (Ok c.in-Ok-Ok.echoes) = subst P c.in-Ok-Ok.field-0-is c.in-Ok-Ok.ensures.answer in
     record {
-      keeps = λ f. keeps-discharged c.args.held.now c.commit_live.new.held (g.S.Tells.told c.args.below.now) (g.S.Tells.told c.commit_live.new.below) c.args.link c.args.payload.now c.args.discharge _ _ c.in-Ok-Ok.echoes c.no_draws-in-Ok-Ok.ensures c.requires.message
+      keeps = λ f. keeps-committed c.args.held.now c.commit_live.new.held (g.S.Tells.told c.args.below.now) (g.S.Tells.told c.commit_live.new.below) c.args.link c.args.payload.now c.args.discharge _ c.in-Ok-Ok.echoes c.no_draws-in-Ok-Ok.ensures c.requires.message
       (sym c.rolls_back.ensures ∙ c.if-rolls_back.false) c.requires.opened
       (sym c.is_declared_on.ensures ∙ c.if-not-is_declared_on.false)
       committed.0 committed.1 f;

@@ -4,7 +4,7 @@ use Rattle.amqp_record.specs.declared.entry.Entry.{Entry}
 use Rattle.amqp_resource.specs.Held.{Stands}
 use Rattle.amqp_resource.proofs.Fitting.{fits-stands}
 use Rattle.amqp_resource.proofs.Recorded.{StepGave, gave, keeps-record}
-use Rattle.amqp_resource.proofs.Parts.{on_answered, on_refused, opened_none, step_unknown, step_unknown_only, vetoed_none, step_attach, step_memory, cause_attach, cause_rose, cause_veto, cause_ended, cause_first, no_call_weaker}
+use Rattle.amqp_resource.proofs.Parts.{on_answered, on_error, on_refused, step_unknown, step_unknown_only, step_attach, step_memory, cause_attach, cause_rose, cause_veto, cause_ended, cause_first, no_call_weaker}
 use Rattle.amqp_resource.proofs.Complete.{complete, drew_next}
 use Rattle.amqp_resource.proofs.session.TxnSession.step_counted.Goals as goal
 
@@ -65,11 +65,11 @@ returns-clause-says g c =
       taken = λ e r s. on_answered _ _ _ r _ _ _ (λ out x. x.taken) (by r s);
       handed = λ e r s. on_refused _ _ _ r _ _ _ (λ error handed x. x.took) (by r s);
       opened = λ e r s. on_answered _ _ _ r _ _ _ (λ out x. x.opened) (by r s);
-      opened_none = λ e r s. opened_none _ _ _ r _ _ (by r s) (no_call_weaker _ _ _ _ (ap (λ b. (g.S.Tells.told b).opened)) c.take_step-result.ensures.leaves.untouched);
+      opened_none = λ e r s. on_error _ _ _ r _ _ _ (λ error handed x. x.opened) (by r s) (no_call_weaker _ _ _ _ (ap (λ b. (g.S.Tells.told b).opened)) c.take_step-result.ensures.leaves.untouched);
       refused = λ e r s. on_answered _ _ _ r _ _ _ (λ out x. x.refused) (by r s);
       refused_last = λ e r s. on_refused _ _ _ r _ _ _ (λ error handed x. x.refused) (by r s);
       vetoed = λ e r s. on_answered _ _ _ r _ _ _ (λ out x. x.vetoed) (by r s);
-      vetoed_none = λ e r s. vetoed_none _ _ _ r _ _ (by r s) (no_call_weaker _ _ _ _ (ap (λ b. (g.S.Tells.told b).reviews.vetoed)) c.take_step-result.ensures.leaves.untouched);
+      vetoed_none = λ e r s. on_error _ _ _ r _ _ _ (λ error handed x. x.vetoed) (by r s) (no_call_weaker _ _ _ _ (ap (λ b. (g.S.Tells.told b).reviews.vetoed)) c.take_step-result.ensures.leaves.untouched);
       unknown = λ e r s u. step_unknown _ _ old new _ _ (keeps-record _ _ old new r _ _ s (c.take_step-result.ensures.leaves.keeps (fits-stands _ r s))) u;
       unknown_only = λ e r s. step_unknown_only _ _ _ r _ _ (by r s);
       refusal = λ e r s. on_refused _ _ _ r _ _ _ (λ error handed x. x.fits) (by r s);
