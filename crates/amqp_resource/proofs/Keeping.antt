@@ -328,9 +328,9 @@ pub here-rolled_back : (h g : Held) (k : ℕ) (payload : List ℕ) (discharge : 
 here-rolled_back h g k payload discharge d n e rb o on x =
     control-here h g k payload d true (discharge_of discharge) (replies.Accepted []) e o (λ told. (tt, tt)) (fits-ended h g discharge.txn_id x)
     (λ told f. (
-    ends h g k discharge.txn_id on x,
-    none_drawn d n,
-    subst (λ (b : Bool). DischargeHands told told b (frames_kept (kept h.work discharge.txn_id)) []) (sym rb) (refl, refl),
+      ends h g k discharge.txn_id on x,
+      none_drawn d n,
+      subst (λ (b : Bool). DischargeHands told told b (frames_kept (kept h.work discharge.txn_id)) []) (sym rb) (refl, refl),
     ))
 
 pub keeps-committed : (h g : Held) (told now : Told) (k : ℕ) (payload : List ℕ) (discharge : Discharge) (d : DrawnIds) (echoes : List Answers) → d ≡ nothing_drawn → message_of payload ≡ discharge_of discharge → is_rollback discharge.fail ≡ false → is_in h.links.entries k ≡ true → is_kept_on k (kept h.work discharge.txn_id) ≡ true → Ended h g discharge.txn_id → HandsAll told now (map stripped (frames_kept (kept h.work discharge.txn_id))) (Ok (Ok echoes)) → Fits h → Keeps h g told now (steps.Control k payload) (Ok (d, replies.Accepted echoes))

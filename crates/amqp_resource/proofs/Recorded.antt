@@ -101,50 +101,60 @@ module _ (r : List Entry) (legal : IsLegal r) (w : View) (told now : Told) where
   plain : (frame : Frame) (d : DrawnIds) (c : Bool) (reply : Reply) → txn frame ≡ None → is_coordinator_attach frame ≡ c → PlainKeeps (view_of_record r) w told now frame c reply → AnswerFrame r frame None reply × Follows (steps.Frame frame) d reply (step_hands (view_of_record r) (steps.Frame frame))
   plain frame d false (replies.Frames a) e c x =
       let t = x.1 in
-      let is_plain : is_plain_frame frame ≡ true = ap (λ o. is_plain_by o (is_coordinator_attach frame)) e ∙ ap not c in
-      ((c, t.taken.1), (
-        view-quiet r (entry_of (steps.Frame frame) d (replies.Frames a)) w (record { attaches = λ k. refl; closes = λ k. refl; attached = refl }) (λ u. refl) (λ u. refl) (λ u. ap (is_some_id u) e) x.0,
-        record {
-          taken = t.taken.0 ∙ ap (λ b. grown told.taken (zip (cond b (frame ∷ []) []) (cond b (a.given ∷ []) []))) (sym is_plain);
-          opened = adds_nothing told.opened now.opened [] refl t.opened;
-          refused = t.refused;
-          vetoed = adds_nothing told.reviews.vetoed now.reviews.vetoed [] refl (ap (λ y. y.vetoed) t.reviews);
-        },
-      ))
+      let is_plain : is_plain_frame frame ≡ true = ap (λ o. is_plain_by o (is_coordinator_attach frame)) e ∙ ap not c in (
+        (c, t.taken.1),
+        (
+          view-quiet r (entry_of (steps.Frame frame) d (replies.Frames a)) w (record { attaches = λ k. refl; closes = λ k. refl; attached = refl }) (λ u. refl) (λ u. refl) (λ u. ap (is_some_id u) e) x.0,
+          record {
+            taken = t.taken.0 ∙ ap (λ b. grown told.taken (zip (cond b (frame ∷ []) []) (cond b (a.given ∷ []) []))) (sym is_plain);
+            opened = adds_nothing told.opened now.opened [] refl t.opened;
+            refused = t.refused;
+            vetoed = adds_nothing told.reviews.vetoed now.reviews.vetoed [] refl (ap (λ y. y.vetoed) t.reviews);
+          },
+        ),
+      )
   plain frame d true (replies.Attached link given) e c x =
-      let t = x.1 in
-      ((c, x.0.number), (
-        view-attached r (entry_of (steps.Frame frame) d (replies.Attached link given)) w link given legal refl (λ u. refl) (λ u. refl) (λ u. ap (is_some_id u) e) (λ k. refl) x.0,
-        called-none told now (steps.Frame frame) _ (replies.Attached link given) refl refl t.taken t.opened t.refused (ap (λ y. y.vetoed) t.reviews),
-      ))
+      let t = x.1 in (
+        (c, x.0.number),
+        (
+          view-attached r (entry_of (steps.Frame frame) d (replies.Attached link given)) w link given legal refl (λ u. refl) (λ u. refl) (λ u. ap (is_some_id u) e) (λ k. refl) x.0,
+          called-none told now (steps.Frame frame) _ (replies.Attached link given) refl refl t.taken t.opened t.refused (ap (λ y. y.vetoed) t.reviews),
+        ),
+      )
   plain frame d true (replies.AttachRefused error) e c x =
-      let t = x.1 in
-      (c, (
-        view-quiet r (entry_of (steps.Frame frame) d (replies.AttachRefused error)) w (record { attaches = λ k. refl; closes = λ k. refl; attached = refl }) (λ u. refl) (λ u. refl) (λ u. ap (is_some_id u) e) x.0,
-        called-none told now (steps.Frame frame) _ (replies.AttachRefused error) refl refl t.taken t.opened t.refused (ap (λ y. y.vetoed) t.reviews),
-      ))
+      let t = x.1 in (
+        c,
+        (
+          view-quiet r (entry_of (steps.Frame frame) d (replies.AttachRefused error)) w (record { attaches = λ k. refl; closes = λ k. refl; attached = refl }) (λ u. refl) (λ u. refl) (λ u. ap (is_some_id u) e) x.0,
+          called-none told now (steps.Frame frame) _ (replies.AttachRefused error) refl refl t.taken t.opened t.refused (ap (λ y. y.vetoed) t.reviews),
+        ),
+      )
   plain frame d _ _ e c x = absurd x
 
   framed : (frame : Frame) (d : DrawnIds) (o : Option TransactionId) (reply : Reply) → txn frame ≡ o → FrameKeeps (view_of_record r) w told now frame o reply → AnswerFrame r frame o reply × Follows (steps.Frame frame) d reply (step_hands (view_of_record r) (steps.Frame frame))
   framed frame d None reply e x = plain frame d (is_coordinator_attach frame) reply e refl x
   framed frame d (Some u) (replies.Frames a) e x =
       let t = x.below in
-      let other : is_plain_frame frame ≡ false = ap (λ o. is_plain_by o (is_coordinator_attach frame)) e in
-      ((sym (live-record r u) ∙ x.was_live, x.answered), (
-        view-post r (entry_of (steps.Frame frame) d (replies.Frames a)) w frame u (record { attaches = λ k. refl; closes = λ k. refl; attached = refl }) (λ y. refl) (λ y. refl) refl (λ y. ap (is_some_id y) e) x.live x.links,
-        called-none told now (steps.Frame frame) _ (replies.Frames a) (ap (λ b. cond b (a.given ∷ []) []) other) refl t.taken
-        (adds_nothing told.opened now.opened [] refl t.opened) (adds_nothing told.refused now.refused [] refl t.refused) (ap (λ y. y.vetoed) t.reviews),
-      ))
+      let other : is_plain_frame frame ≡ false = ap (λ o. is_plain_by o (is_coordinator_attach frame)) e in (
+        (sym (live-record r u) ∙ x.was_live, x.answered),
+        (
+          view-post r (entry_of (steps.Frame frame) d (replies.Frames a)) w frame u (record { attaches = λ k. refl; closes = λ k. refl; attached = refl }) (λ y. refl) (λ y. refl) refl (λ y. ap (is_some_id y) e) x.live x.links,
+          called-none told now (steps.Frame frame) _ (replies.Frames a) (ap (λ b. cond b (a.given ∷ []) []) other) refl t.taken
+              (adds_nothing told.opened now.opened [] refl t.opened) (adds_nothing told.refused now.refused [] refl t.refused) (ap (λ y. y.vetoed) t.reviews),
+        ),
+      )
   framed frame d (Some u) _ e x = absurd x
 
   declared : (k : ℕ) (payload : List ℕ) (d : DrawnIds) (global : Option TransactionId) (reply : Reply) → is_open r k ≡ true → DeclareKeeps k (view_of_record r) w told now global d.ids reply → AnswerDeclare r global d.ids reply × Follows (steps.Control k payload) d reply []
   declared k payload d (Some global) (replies.Rejected transaction_errors.UnknownId texts.GlobalId) o x = (x.0, nothing (steps.Control k payload) d (replies.Rejected transaction_errors.UnknownId texts.GlobalId) [] (record { attaches = λ j. refl; closes = λ j. refl; attached = refl }) (λ t. refl) (λ t. refl) (λ t. refl) refl refl refl refl x.1)
   declared k payload d None (replies.Declared id) o x =
-      let u = x.unused in
-      ((u.parts.0, u.parts.1, u.count, sym (all-record r u.parts.0) ∙ u.parts.2, sym (live-record r id) ∙ ap is_some u.unused), (
-        view-declared r (entry_of (steps.Control k payload) d (replies.Declared id)) w told now k id (record { attaches = λ j. refl; closes = λ j. refl; attached = refl }) refl o (λ t. refl) (λ t. refl) (λ t. refl) x,
-        called-same told now (steps.Control k payload) [] (replies.Declared id) refl refl refl refl x.below,
-      ))
+      let u = x.unused in (
+        (u.parts.0, u.parts.1, u.count, sym (all-record r u.parts.0) ∙ u.parts.2, sym (live-record r id) ∙ ap is_some u.unused),
+        (
+          view-declared r (entry_of (steps.Control k payload) d (replies.Declared id)) w told now k id (record { attaches = λ j. refl; closes = λ j. refl; attached = refl }) refl o (λ t. refl) (λ t. refl) (λ t. refl) x,
+          called-same told now (steps.Control k payload) [] (replies.Declared id) refl refl refl refl x.below,
+        ),
+      )
   declared k payload d None (replies.Rejected transaction_errors.UnknownId texts.IdsRepeat) o x =
       let drew = x.0 in
       ((drew.count, sym (all-record r d.ids) ∙ drew.all), nothing (steps.Control k payload) d (replies.Rejected transaction_errors.UnknownId texts.IdsRepeat) [] (record { attaches = λ j. refl; closes = λ j. refl; attached = refl }) (λ t. refl) (λ t. refl) (λ t. refl) refl refl refl refl x.1)
@@ -172,43 +182,52 @@ module _ (r : List Entry) (legal : IsLegal r) (w : View) (told now : Told) where
       let vetoes = x.2 in
       let t = vetoes.vetoed in
       let none = t.handed.1 in
-      let count : length (map stripped (frames_in (view_of_record r) id)) ≡ length (frames_of r id) = length-map (frames_in (view_of_record r) id) stripped ∙ ap length (held_frames r k id ends.held) in
-      ((sym (held-record r k id) ∙ ends.held, x.1, (vetoes.commits, omega (arith, none.some, count))), (
-        ended k payload d discharge (replies.Rejected transaction_errors.Rollback texts.Absent) m (λ u. refl) (record { attaches = λ j. refl; closes = λ j. refl; attached = refl }) (λ u. refl) ends,
-        record {
-          taken = adds_nothing told.taken now.taken [] refl none.taken;
-          opened = adds_nothing told.opened now.opened [] refl t.opened;
-          refused = adds_nothing told.refused now.refused [] refl t.refused;
-          vetoed = t.vetoed ∙ ap (λ (fs : List Frame). grown told.reviews.vetoed (fs ∷ [])) (sym (commit_hands (view_of_record r) k discharge vetoes.commits ends.held));
-        },
-      ))
+      let count : length (map stripped (frames_in (view_of_record r) id)) ≡ length (frames_of r id) = length-map (frames_in (view_of_record r) id) stripped ∙ ap length (held_frames r k id ends.held) in (
+        (sym (held-record r k id) ∙ ends.held, x.1, (vetoes.commits, omega (arith, none.some, count))),
+        (
+          ended k payload d discharge (replies.Rejected transaction_errors.Rollback texts.Absent) m (λ u. refl) (record { attaches = λ j. refl; closes = λ j. refl; attached = refl }) (λ u. refl) ends,
+          record {
+            taken = adds_nothing told.taken now.taken [] refl none.taken;
+            opened = adds_nothing told.opened now.opened [] refl t.opened;
+            refused = adds_nothing told.refused now.refused [] refl t.refused;
+            vetoed = t.vetoed ∙ ap (λ (fs : List Frame). grown told.reviews.vetoed (fs ∷ [])) (sym (commit_hands (view_of_record r) k discharge vetoes.commits ends.held));
+          },
+        ),
+      )
   discharged k payload d discharge (replies.Accepted echoes) m x =
       let id = discharge.txn_id in
-      let ends = x.0 in
-      ((sym (held-record r k id) ∙ ends.held, x.1, echoed r told now id (is_rollback discharge.fail) echoes (held_frames r k id ends.held) x.2), (
-        ended k payload d discharge (replies.Accepted echoes) m (λ u. refl) (record { attaches = λ j. refl; closes = λ j. refl; attached = refl }) (λ u. refl) ends,
-        committed k payload discharge (is_rollback discharge.fail) echoes refl ends.held x.2,
-      ))
+      let ends = x.0 in (
+        (sym (held-record r k id) ∙ ends.held, x.1, echoed r told now id (is_rollback discharge.fail) echoes (held_frames r k id ends.held) x.2),
+        (
+          ended k payload d discharge (replies.Accepted echoes) m (λ u. refl) (record { attaches = λ j. refl; closes = λ j. refl; attached = refl }) (λ u. refl) ends,
+          committed k payload discharge (is_rollback discharge.fail) echoes refl ends.held x.2,
+        ),
+      )
   discharged k payload d discharge _ m x = absurd x
 
   controlled : (k : ℕ) (payload : List ℕ) (d : DrawnIds) (b : Bool) (m : Option ControlMessageBody) (reply : Reply) → is_open r k ≡ b → message_of payload ≡ m → ControlKeeps k (view_of_record r) w told now b m d.ids reply → AnswerControl r k b m d.ids reply × Follows (steps.Control k payload) d reply (cond b (message_hands (view_of_record r) k m) [])
   controlled k payload d false m replies.NoLink o e x = (x.0, nothing (steps.Control k payload) d replies.NoLink [] (record { attaches = λ j. refl; closes = λ j. refl; attached = refl }) (λ t. refl) (λ t. refl) (λ t. refl) refl refl refl refl x.1)
   controlled k payload d false m _ o e x = absurd x
   controlled k payload d true None (replies.LinkClosed amqp_errors.NotAllowed) o e x =
-      let closes = x.1 in
-      (x.0, (
-        view-closed r (entry_of (steps.Control k payload) d (replies.LinkClosed amqp_errors.NotAllowed)) w told now k (λ t. refl) (λ t. refl) (λ t. refl) (λ j. refl) (λ j. refl) refl closes,
-        called-same told now (steps.Control k payload) [] (replies.LinkClosed amqp_errors.NotAllowed) refl refl refl refl closes.below,
-      ))
+      let closes = x.1 in (
+        x.0,
+        (
+          view-closed r (entry_of (steps.Control k payload) d (replies.LinkClosed amqp_errors.NotAllowed)) w told now k (λ t. refl) (λ t. refl) (λ t. refl) (λ j. refl) (λ j. refl) refl closes,
+          called-same told now (steps.Control k payload) [] (replies.LinkClosed amqp_errors.NotAllowed) refl refl refl refl closes.below,
+        ),
+      )
   controlled k payload d true None _ o e x = absurd x
   controlled k payload d true (Some (messages.Declare declare)) reply o e x = declared k payload d declare.global_id reply o x
   controlled k payload d true (Some (messages.Discharge discharge)) reply o e x = discharged k payload d discharge reply e x
 
   link_ended : (k : ℕ) (d : DrawnIds) (b : Bool) (reply : Reply) → EndKeeps k (view_of_record r) w told now b reply → AnswerLinkEnd b reply × Follows (steps.LinkEnd k) d reply []
-  link_ended k d true replies.LinkEnded x = (tt, (
-    view-closed r (entry_of (steps.LinkEnd k) d replies.LinkEnded) w told now k (λ t. refl) (λ t. refl) (λ t. refl) (λ j. refl) (λ j. refl) refl x,
-    called-same told now (steps.LinkEnd k) [] replies.LinkEnded refl refl refl refl x.below,
-  ))
+  link_ended k d true replies.LinkEnded x = (
+    tt,
+    (
+      view-closed r (entry_of (steps.LinkEnd k) d replies.LinkEnded) w told now k (λ t. refl) (λ t. refl) (λ t. refl) (λ j. refl) (λ j. refl) refl x,
+      called-same told now (steps.LinkEnd k) [] replies.LinkEnded refl refl refl refl x.below,
+    ),
+  )
   link_ended k d false replies.NoLink x = (tt, nothing (steps.LinkEnd k) d replies.NoLink [] (record { attaches = λ j. refl; closes = λ j. refl; attached = refl }) (λ t. refl) (λ t. refl) (λ t. refl) refl refl refl refl x)
   link_ended k d _ _ x = absurd x
 

@@ -37,9 +37,9 @@ returns-in-Ok-Ok-clause-leaves g c =
     let committed : P (Ok c.in-Ok-Ok.echoes) = subst P c.in-Ok-Ok.field-0-is c.in-Ok-Ok.ensures.answer in
     record {
       keeps = λ f. keeps-committed c.args.held.now c.commit_live.new.held (g.S.Tells.told c.args.below.now) (g.S.Tells.told c.commit_live.new.below) c.args.link c.args.payload.now c.args.discharge _ c.in-Ok-Ok.echoes c.no_draws-in-Ok-Ok.ensures c.requires.message
-      (sym c.rolls_back.ensures ∙ c.if-rolls_back.false) c.requires.opened
-      (sym c.is_declared_on.ensures ∙ c.if-not-is_declared_on.false)
-      committed.0 committed.1 f;
+          (sym c.rolls_back.ensures ∙ c.if-rolls_back.false) c.requires.opened
+          (sym c.is_declared_on.ensures ∙ c.if-not-is_declared_on.false)
+          committed.0 committed.1 f;
       cause = (tt, tt);
       surely = tt;
       ended = tt;
@@ -57,9 +57,9 @@ returns-in-Ok-Err-clause-leaves g c =
     let is = committed.1.handed.0 in
     rw (c.rejected-in-Ok-Err.ensures, is) (record {
       keeps = λ f. keeps-vetoed c.args.held.now c.commit_live.new.held (g.S.Tells.told c.args.below.now) (g.S.Tells.told c.commit_live.new.below) c.args.link c.args.payload.now c.args.discharge _ c.no_draws-in-Ok-Err.ensures c.requires.message
-      (sym c.rolls_back.ensures ∙ c.if-rolls_back.false) c.requires.opened
-      (sym c.is_declared_on.ensures ∙ c.if-not-is_declared_on.false)
-      committed.0 (subst (λ (e : TransactionError). HandsAll (g.S.Tells.told c.args.below.now) (g.S.Tells.told c.commit_live.new.below) (map stripped (frames_kept (kept c.args.held.now.work c.args.discharge.txn_id))) (Ok (Err e))) is committed.1) f;
+          (sym c.rolls_back.ensures ∙ c.if-rolls_back.false) c.requires.opened
+          (sym c.is_declared_on.ensures ∙ c.if-not-is_declared_on.false)
+          committed.0 (subst (λ (e : TransactionError). HandsAll (g.S.Tells.told c.args.below.now) (g.S.Tells.told c.commit_live.new.below) (map stripped (frames_kept (kept c.args.held.now.work c.args.discharge.txn_id))) (Ok (Err e))) is committed.1) f;
       cause = (tt, committed.1.cause);
       surely = tt;
       ended = tt;
