@@ -5,6 +5,7 @@ pub mod Handing
 pub mod Recorded
 pub mod Parts
 pub mod Complete
+pub mod Saying
 pub mod Running
 pub mod Fitting
 pub mod Keeping

@@ -1,4 +1,4 @@
-use Rattle.std.proofs.Common.{◌≡◌, ℕ, map, List, Result, Ok, Err, ap, sym, subst, ◌∙◌, refl}
+use Rattle.std.proofs.Common.{◌≡◌, ℕ, map, List, Result, Ok, Err, ap, sym, subst, ◌∙◌}
 use Rattle.std.specs.Option.{option_map}
 use Rattle.amqp_arrivals.specs.Live.{frames_kept, home_of, kept}
 use Rattle.amqp_resource.proofs.Keeping.{held_here, here-absent, here-rolled_back, keeps-committed, keeps-vetoed, leaves-fault}
