@@ -90,8 +90,8 @@ FrameKeeps old new told now frame (Some id) _ = ⊥
 
 -- ---- control messages and the ends of links
 
--- a link is open no more, the ids that it declared aren't live, and all else stays; no call was made
--- below
+-- a link is open no more, the ids that it declared aren't live, and all else stays; no call was
+-- made below
 pub record Closes (k : ℕ) (old new : View) (told now : Told) : Type 0 where
   pub live : (t : TransactionId) → new.live t ≡ unless_on k (old.live t)
   pub links : (j : ℕ) → new.links j ≡ cond (k == j) false (old.links j)
@@ -131,7 +131,8 @@ pub record Ends (k : ℕ) (old new : View) (id : TransactionId) : Type 0 where
 -- a rollback hands nothing, a commit the frames under the id, each stripped
 abbrev pub DischargeHands : Told → Told → Bool → List Frame → List Answers → Type 0
 DischargeHands told now true frames echoes = (echoes ≡ []) × (now ≡ told)
-DischargeHands told now false frames echoes = HandsAll told now (map stripped frames) (Ok (Ok echoes))
+DischargeHands told now false frames echoes =
+    HandsAll told now (map stripped frames) (Ok (Ok echoes))
 
 -- a commit was vetoed, with the frames under the id, each stripped
 pub record Vetoes (told now : Told) (rollback : Bool) (frames : List Frame) : Type 0 where

@@ -1,4 +1,4 @@
--- A view: which ids are live and which links are open, as a record says it or as a session keeps it.
+-- A view: which ids are live and which links are open, by a record or as a session keeps it.
 use Rattle.std.specs.Prelude.{ℕ, Bool, ◌≡◌, Option, List, is_some}
 use Rattle.amqp_txn_types.specs.declared.id.TransactionId.{TransactionId}
 use Rattle.amqp_txn_types.specs.declared.performatives.Frame.{Frame}
@@ -8,8 +8,8 @@ use Rattle.amqp_record.specs.Links.{attached_count, is_open}
 use Rattle.amqp_resource.specs.declared.held.Held.{Held}
 use Rattle.amqp_resource.specs.Held.{is_in, is_kept_on, kept_by}
 
--- the live ids, each with the link that declared it, if one did, and its frames; the open links; and
--- how many were opened
+-- the live ids, each with the link that declared it, if one did, and its frames; the open links;
+-- and how many were opened
 pub record View : Type 0 where
   pub live : TransactionId → Option Kept
   pub links : ℕ → Bool
