@@ -27,7 +27,11 @@ use Rattle.amqp_record.specs.Live.{is_live, is_held_on}
 use Rattle.amqp_record.specs.Answers.{Answer, AnswerFrame, AnswerControl, AnswerDeclare, AnswerDischarge, AnswerMessage, AnswerLinkEnd}
 use Rattle.amqp_record.specs.Valid.{Valid, ValidFrame, ValidDeclare, ValidMessage}
 use Rattle.amqp_resource.specs.declared.held.Held.{Held}
-use Rattle.amqp_resource.specs.Steps.{IfAttachRefused, IfVeto, IsDead, Refused, StepGave, StepCause, UnderDead, is_unknown}
+use Rattle.amqp_resource.specs.Steps.{IfAttachRefused, IfVeto, IsDead, Refused, StepCause, UnderDead, is_unknown}
+use Rattle.amqp_record.specs.Hands.{hands}
+use Rattle.amqp_resource.specs.Views.{view_of_record}
+use Rattle.amqp_resource.proofs.Views.{live-record}
+use Rattle.amqp_resource.proofs.Recorded.{StepGave}
 use Rattle.amqp_resource.specs.Complete.{DoesIt, Completed, InOrder}
 
 -- ids of one stream from one place are the same, if they are as many
@@ -89,12 +93,12 @@ reply_does old new ids r (steps.LocalEnd error) n d reply i e a c v = absurd i.v
 reply_does old new ids r (steps.RemoteEnd error) n d reply i e a c v = absurd i.valid
 reply_does old new ids r (steps.ConnectionStop reason) n d reply i e a c v = absurd i.valid
 
-valid_not_dead : (r : List Entry) (s : Step) (n : List TransactionId) → Valid r s n → UnderDead r s → ⊥
+valid_not_dead : (r : List Entry) (s : Step) (n : List TransactionId) → Valid r s n → UnderDead (view_of_record r) s → ⊥
 valid_not_dead r (steps.Frame frame) n v u = by_id (txn frame) v u
   where
-    by_id : (o : Option TransactionId) → ValidFrame r o → IsDead r o → ⊥
+    by_id : (o : Option TransactionId) → ValidFrame r o → IsDead (view_of_record r) o → ⊥
     by_id None v u = u
-    by_id (Some t) v u = cc (v, u)
+    by_id (Some t) v u = cc (v, u, live-record r t)
 valid_not_dead r _ n v u = u
 
 no_fault : (b : Bool) (A B C : Type 0) → (A → ⊥) → (C → ⊥) → MatchBool b A B → (b ≡ false → C) → ⊥
@@ -116,7 +120,7 @@ complete ids h old new r (steps.RemoteEnd error) n (Err (errors.Ended reason)) g
 complete ids h old new r (steps.ConnectionStop stop) n (Err (errors.Ended reason)) g c d i = absurd i.valid
 complete ids h old new r s n (Err (errors.Stopped code)) g c d i = absurd c
 complete ids h old new r s n (Err (errors.Fault error handed)) g c d i =
-    absurd (no_fault (is_unknown error) (UnderDead r s × (handed ≡ 0)) (Refused old new r s error handed) (Rose old.refusals new.refusals) (λ x. valid_not_dead r s n i.valid x.0) i.quiet g (fault_rose (is_unknown error) _ (Rose old.refusals new.refusals) c))
+    absurd (no_fault (is_unknown error) (UnderDead (view_of_record r) s × (handed ≡ 0)) (Refused (view_of_record r) old new s (hands r s) error handed) (Rose old.refusals new.refusals) (λ x. valid_not_dead r s n i.valid x.0) i.quiet g (fault_rose (is_unknown error) _ (Rose old.refusals new.refusals) c))
 
 pub drew_next : (before after : ℕ → TransactionId) (result : Result (DrawnIds × Reply) StepError) → IfOk result (λ out. Drew before after out.0.ids) → IfOk result (λ out. AreNext before 0 out.0.ids)
 drew_next before after (Ok out) d = d.these

@@ -18,7 +18,7 @@ use Rattle.amqp_resource.specs.Opening.{frames_of}
 use Rattle.amqp_resource.specs.Passing.{counted}
 use Rattle.amqp_resource.specs.Session.{is_live_on, stop_of}
 use Rattle.amqp_resource.proofs.Calling.{listless}
-use Rattle.amqp_resource.proofs.Going.{coord-attach, txn-attach}
+use Rattle.amqp_resource.proofs.Keeping.{coord-attach, txn-attach}
 
 -- ---- what is told
 

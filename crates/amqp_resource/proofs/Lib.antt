@@ -1,11 +1,15 @@
 pub mod Kept
+pub mod Views
 pub mod Standing
 pub mod Handing
-pub mod Going
+pub mod Recorded
 pub mod Parts
 pub mod Complete
+pub mod Saying
 pub mod Running
+pub mod Fitting
 pub mod Keeping
+pub mod Leaving
 pub mod Moved
 pub mod Looked
 pub mod Calling

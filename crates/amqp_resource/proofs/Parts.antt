@@ -1,29 +1,23 @@
 -- The parts of what a step leaves, as its public clauses say them.
-use Rattle.std.proofs.Common.{◌≡◌, ℕ, Bool, true, false, Option, Some, None, Result, Ok, Err, List, [], ◌∷◌, ◌++◌, refl, sym, ◌∙◌, ap, arith, subst, inl, inr}
-use Rattle.std.specs.Prelude.{◌⊎◌, ⊤, is_some, MatchBool, IfOk, IfErr, OnErr}
+use Rattle.std.proofs.Common.{◌≡◌, ℕ, Bool, true, false, Option, Some, None, Result, Ok, Err, List, refl, sym, ◌∙◌, ap, inl, inr}
+use Rattle.std.specs.Prelude.{◌⊎◌, ⊤, MatchBool, IfOk, IfErr, OnErr}
 use Rattle.amqp_txn_types.specs.declared.id.TransactionId.{TransactionId}
-use Rattle.amqp_txn_types.specs.declared.delivery.Error.{Error}
 use Rattle.amqp_txn_types.specs.declared.delivery.SessionStopReason.{SessionStopReason}
 use Rattle.amqp_txn_types.specs.declared.performatives.Frame.{Frame}
 use Rattle.amqp_txn_types.specs.Frames.{txn}
 use Rattle.amqp_txn_codec.specs.declared.message.ControlMessageBody.{ControlMessageBody}
 use Rattle.amqp_txn_codec.specs.declared.message.ControlMessageBody.TheVariants as messages
-use Rattle.amqp_txn_codec.specs.declared.message.Discharge.{Discharge}
-use Rattle.amqp_txn_codec.specs.Discharges.{is_rollback}
 use Rattle.amqp_txn_codec.specs.Reading.{message_of}
-use Rattle.amqp_layer.specs.declared.answers.Answers.{Answers}
 use Rattle.amqp_layer.specs.declared.inner_error.SessionInnerError.{SessionInnerError}
 use Rattle.amqp_layer.specs.declared.inner_error.SessionInnerError.TheVariants as faults
 use Rattle.amqp_ids.specs.Drawn.{DrawnIds}
-use Rattle.amqp_layer.specs.Told.{Told, open_told}
+use Rattle.amqp_layer.specs.Told.{Told}
 use Rattle.amqp_txn_types.specs.Counts.{Rose}
 use Rattle.amqp_record.specs.declared.entry.Entry.{Entry}
 use Rattle.amqp_record.specs.declared.step.Step.{Step}
 use Rattle.amqp_record.specs.declared.step.Step.TheVariants as steps
 use Rattle.amqp_record.specs.declared.reply.Reply.{Reply}
 use Rattle.amqp_record.specs.declared.reply.Reply.TheVariants as replies
-use Rattle.amqp_record.specs.declared.reply.RejectText.{RejectText}
-use Rattle.amqp_txn_types.specs.declared.small.TransactionError.TheVariants as transaction_errors
 use Rattle.amqp_record.specs.declared.stop.StepError.{StepError}
 use Rattle.amqp_record.specs.declared.stop.StepError.TheVariants as errors
 use Rattle.amqp_record.specs.Links.{is_open}
@@ -32,15 +26,15 @@ use Rattle.amqp_resource.specs.declared.held.Held.{Held}
 use Rattle.amqp_resource.specs.Held.{SameHeld, Stands}
 use Rattle.amqp_resource.specs.declared.session.TxnSession.{TxnSession}
 use Rattle.amqp_resource.specs.Session.{SameSession, StopAfter, below_of, held_of, stop_of}
-use Rattle.amqp_sessions.specs.declared.transacting.CommitFault.{CommitFault}
-use Rattle.amqp_sessions.specs.declared.transacting.CommitFault.TheVariants as commit_faults
-use Rattle.amqp_resource.specs.Committing.{HandsSurely}
-use Rattle.amqp_resource.specs.Transacting.{step_error_of}
-use Rattle.amqp_resource.specs.Steps.{AnswersEnd, EndGave, FrameMayFault, IfAttachRefused, IfEnded, IfRefused, IfUnknown, IsControlAttach, IsDead, IsFirstStop, IsPost, MayFault, OnAttachRefused, OnNoMemory, OnNoCall, OnVeto, OpenedBy, Refused, RefusedAdds, RefusedBy, StepCause, StepGave, StopsSurely, TookFirst, TookHands, UnderDead, VetoedBy, calls_nothing, ended_by, entry_of, is_live_under, is_unknown, has_error, local_end, remote_end, rolls_back_by, takes_memory}
+use Rattle.amqp_resource.specs.Steps.{AnswersEnd, FrameMayFault, IfAttachRefused, IfEnded, IfRefused, IfUnknown, IsControlAttach, IsDead, IsFirstStop, MayFault, OnAttachRefused, OnNoMemory, OnNoCall, OnVeto, Refused, StepCause, UnderDead, calls_nothing, ended_by, is_live_under, is_unknown, step_hands, takes_memory}
+use Rattle.amqp_resource.specs.Keeping.{AnswerKeeps, FrameKeeps, StepKeeps}
+use Rattle.amqp_resource.specs.Views.{View, view_of_record}
+use Rattle.amqp_record.specs.Hands.{hands}
+use Rattle.amqp_resource.proofs.Recorded.{StepAnswered, StepGave}
 
 -- ---- choices
 
-on_false : (A : Type 0) {B C : Type 0} (b : Bool) → (B → C) → MatchBool b A B → MatchBool b ⊤ C
+pub on_false : (A : Type 0) {B C : Type 0} (b : Bool) → (B → C) → MatchBool b A B → MatchBool b ⊤ C
 on_false A true f x = tt
 on_false A false f x = f x
 
@@ -59,123 +53,69 @@ no_call_weaker s (Err (errors.Ended reason)) P Q f x = f x
 no_call_weaker s (Err (errors.Stopped code)) P Q f x = f x
 no_call_weaker s (Err errors.NoMemory) P Q f x = f x
 
-on_either : (P : Type 0) (b : Bool) → P → MatchBool b P ⊤
-on_either P true x = x
-on_either P false x = tt
-
-pub no_call_holds : (s : Step) (result : Result (DrawnIds × Reply) StepError) (P : Type 0) → P → OnNoCall s result P
-no_call_holds s (Ok out) P x = on_either P (calls_nothing s out.1) x
-no_call_holds s (Err (errors.Fault error handed)) P x = on_either P (is_unknown error) x
-no_call_holds s (Err (errors.Ended reason)) P x = x
-no_call_holds s (Err (errors.Stopped code)) P x = x
-no_call_holds s (Err errors.NoMemory) P x = x
-
--- a veto has called
-pub veto_calls : (s : Step) (d : DrawnIds) (text : RejectText) (P : Type 0) → OnNoCall s (Ok (d, replies.Rejected transaction_errors.Rollback text)) P
-veto_calls s d text P = tt
-
--- an accepted commit may have called
-pub commit_calls : (k : ℕ) (payload : List ℕ) (discharge : Discharge) (d : DrawnIds) (echoes : List Answers) (P : Type 0) → message_of payload ≡ Some (messages.Discharge discharge) → is_rollback discharge.fail ≡ false → OnNoCall (steps.Control k payload) (Ok (d, replies.Accepted echoes)) P
-commit_calls k payload discharge d echoes P m b = subst (λ (c : Bool). MatchBool c P ⊤) (sym (ap rolls_back_by m ∙ b)) tt
-
 -- ---- what is so of a reply
 
-pub step_answer : (h : Held) (old new : Told) (r : List Entry) (s : Step) (result : Result (DrawnIds × Reply) StepError) → StepGave h old new r s result → IfOk result (λ out. Answer r s out.0.ids out.1)
-step_answer h old new r s (Ok out) g = g.answer
-step_answer h old new r s (Err error) g = tt
-
-pub step_stands : (h : Held) (old new : Told) (r : List Entry) (s : Step) (result : Result (DrawnIds × Reply) StepError) → StepGave h old new r s result → IfOk result (λ out. Stands h (r ++ entry_of s out.0 out.1 ∷ []))
-step_stands h old new r s (Ok out) g = g.stands
-step_stands h old new r s (Err error) g = tt
-
-pub step_taken : (h : Held) (old new : Told) (r : List Entry) (s : Step) (result : Result (DrawnIds × Reply) StepError) → StepGave h old new r s result → IfOk result (λ out. TookHands old new r s out.1)
-step_taken h old new r s (Ok out) g = g.taken
-step_taken h old new r s (Err error) g = tt
-
-pub step_opened : (h : Held) (old new : Told) (r : List Entry) (s : Step) (result : Result (DrawnIds × Reply) StepError) → StepGave h old new r s result → IfOk result (λ out. OpenedBy old new s out.1)
-step_opened h old new r s (Ok out) g = g.opened
-step_opened h old new r s (Err error) g = tt
-
-pub step_refused : (h : Held) (old new : Told) (r : List Entry) (s : Step) (result : Result (DrawnIds × Reply) StepError) → StepGave h old new r s result → IfOk result (λ out. RefusedBy old new s out.1)
-step_refused h old new r s (Ok out) g = g.refused
-step_refused h old new r s (Err error) g = tt
-
-pub step_vetoed : (h : Held) (old new : Told) (r : List Entry) (s : Step) (result : Result (DrawnIds × Reply) StepError) → StepGave h old new r s result → IfOk result (λ out. VetoedBy old new r s out.1)
-step_vetoed h old new r s (Ok out) g = g.vetoed
-step_vetoed h old new r s (Err error) g = tt
+pub on_answered : (h : Held) (old new : Told) (r : List Entry) (s : Step) (result : Result (DrawnIds × Reply) StepError) (P : DrawnIds × Reply → Type 0) → ((out : DrawnIds × Reply) → StepAnswered h old new r s out.0 out.1 → P out) → StepGave h old new r s result → IfOk result P
+on_answered h old new r s (Ok out) P f g = f out g
+on_answered h old new r s (Err error) P f g = tt
 
 -- ---- what is so of a refusal below
 
-on_refused : (h : Held) (old new : Told) (r : List Entry) (s : Step) (result : Result (DrawnIds × Reply) StepError) (P : SessionInnerError → ℕ → Type 0) → ((error : SessionInnerError) (handed : ℕ) → Refused old new r s error handed → P error handed) → StepGave h old new r s result → IfRefused result P
+pub on_refused : (h : Held) (old new : Told) (r : List Entry) (s : Step) (result : Result (DrawnIds × Reply) StepError) (P : SessionInnerError → ℕ → Type 0) → ((error : SessionInnerError) (handed : ℕ) → Refused (view_of_record r) old new s (hands r s) error handed → P error handed) → StepGave h old new r s result → IfRefused result P
 on_refused h old new r s (Ok out) P f g = tt
 on_refused h old new r s (Err (errors.Fault error handed)) P f g = on_false _ (is_unknown error) (f error handed) g
 on_refused h old new r s (Err (errors.Ended reason)) P f g = tt
 on_refused h old new r s (Err (errors.Stopped code)) P f g = tt
 on_refused h old new r s (Err errors.NoMemory) P f g = tt
 
-pub step_part : (h : Held) (old new : Told) (r : List Entry) (s : Step) (result : Result (DrawnIds × Reply) StepError) → StepGave h old new r s result → IfRefused result (λ error handed. TookFirst old new r s handed)
-step_part h old new r s result g = on_refused h old new r s result (λ error handed. TookFirst old new r s handed) (λ error handed x. x.took) g
-
-pub step_last : (h : Held) (old new : Told) (r : List Entry) (s : Step) (result : Result (DrawnIds × Reply) StepError) → StepGave h old new r s result → IfRefused result (λ error handed. RefusedAdds old new r s error handed)
-step_last h old new r s result g = on_refused h old new r s result (λ error handed. RefusedAdds old new r s error handed) (λ error handed x. x.refused) g
-
-pub step_cause : (h : Held) (old new : Told) (r : List Entry) (s : Step) (result : Result (DrawnIds × Reply) StepError) → StepGave h old new r s result → IfRefused result (λ error handed. MayFault r s error)
-step_cause h old new r s result g = on_refused h old new r s result (λ error handed. MayFault r s error) (λ error handed x. x.fits) g
-
-pub opened_none : (h : Held) (old new : Told) (r : List Entry) (s : Step) (result : Result (DrawnIds × Reply) StepError) → StepGave h old new r s result → OnNoCall s result (new.opened ≡ old.opened) → OnErr result (new.opened ≡ old.opened)
-opened_none h old new r s (Ok out) g x = tt
-opened_none h old new r s (Err (errors.Fault error handed)) g x = in_both _ (is_unknown error) (λ f. f.opened) g x
-opened_none h old new r s (Err (errors.Ended reason)) g x = x
-opened_none h old new r s (Err (errors.Stopped code)) g x = x
-opened_none h old new r s (Err errors.NoMemory) g x = x
-
-pub vetoed_none : (h : Held) (old new : Told) (r : List Entry) (s : Step) (result : Result (DrawnIds × Reply) StepError) → StepGave h old new r s result → OnNoCall s result (new.reviews.vetoed ≡ old.reviews.vetoed) → OnErr result (new.reviews.vetoed ≡ old.reviews.vetoed)
-vetoed_none h old new r s (Ok out) g x = tt
-vetoed_none h old new r s (Err (errors.Fault error handed)) g x = in_both _ (is_unknown error) (λ f. f.vetoed) g x
-vetoed_none h old new r s (Err (errors.Ended reason)) g x = x
-vetoed_none h old new r s (Err (errors.Stopped code)) g x = x
-vetoed_none h old new r s (Err errors.NoMemory) g x = x
+-- an error that is no refusal below makes no call there
+pub on_error : (h : Held) (old new : Told) (r : List Entry) (s : Step) (result : Result (DrawnIds × Reply) StepError) (P : Type 0) → ((error : SessionInnerError) (handed : ℕ) → Refused (view_of_record r) old new s (hands r s) error handed → P) → StepGave h old new r s result → OnNoCall s result P → OnErr result P
+on_error h old new r s (Ok out) P f g x = tt
+on_error h old new r s (Err (errors.Fault error handed)) P f g x = in_both _ (is_unknown error) (f error handed) g x
+on_error h old new r s (Err (errors.Ended reason)) P f g x = x
+on_error h old new r s (Err (errors.Stopped code)) P f g x = x
+on_error h old new r s (Err errors.NoMemory) P f g x = x
 
 -- ---- unknown ids
 
-dead_frame : (r : List Entry) (frame : Frame) (o : Option TransactionId) (reply : Reply) → IsDead r o → AnswerFrame r frame o reply → ⊥
-dead_frame r frame None reply d a = d
-dead_frame r frame (Some t) (replies.Frames given) d a = let h = a.0 in cc (h, d)
-dead_frame r frame (Some t) _ d a = a
-
-dead_unanswered : (r : List Entry) (s : Step) (d : List TransactionId) (reply : Reply) → UnderDead r s → Answer r s d reply → ⊥
-dead_unanswered r (steps.Frame frame) d reply u a = dead_frame r frame (txn frame) reply u a.1
-dead_unanswered r _ d reply u a = u
-
-dead_no_fault : (r : List Entry) (s : Step) (error : SessionInnerError) → UnderDead r s → MayFault r s error → ⊥
-dead_no_fault r (steps.Frame frame) error u f = by_id (txn frame) u f
+dead_unanswered : (v w : View) (old new : Told) (s : Step) (d : List TransactionId) (reply : Reply) → UnderDead v s → StepKeeps v w old new s d reply → ⊥
+dead_unanswered v w old new (steps.Frame frame) d reply u x = by_id (txn frame) reply u x.1
   where
-    by_id : (o : Option TransactionId) → IsDead r o → FrameMayFault r frame o → ⊥
+    by_id : (o : Option TransactionId) (reply : Reply) → IsDead v o → FrameKeeps v w old new frame o reply → ⊥
+    by_id None reply u x = u
+    by_id (Some t) (replies.Frames a) u x = let l = x.was_live in cc (l, u)
+    by_id (Some t) _ u x = x
+dead_unanswered v w old new _ d reply u x = u
+
+dead_no_fault : (v : View) (s : Step) (handed : List Frame) (error : SessionInnerError) → UnderDead v s → MayFault v s handed error → ⊥
+dead_no_fault v (steps.Frame frame) handed error u f = by_id (txn frame) u f
+  where
+    by_id : (o : Option TransactionId) → IsDead v o → FrameMayFault v frame o → ⊥
     by_id None u f = u
     by_id (Some t) u f = let h = f.0 in cc (h, u)
-dead_no_fault r _ error u f = u
+dead_no_fault v _ handed error u f = u
 
-dead_no_memory : (r : List Entry) (s : Step) → UnderDead r s → takes_memory r s ≡ true → ⊥
-dead_no_memory r (steps.Frame frame) u f = by_id (txn frame) u f
+dead_no_memory : (v : View) (s : Step) → UnderDead v s → takes_memory v s ≡ true → ⊥
+dead_no_memory v (steps.Frame frame) u f = by_id (txn frame) u f
   where
-    by_id : (o : Option TransactionId) → IsDead r o → is_live_under r o ≡ true → ⊥
+    by_id : (o : Option TransactionId) → IsDead v o → is_live_under v o ≡ true → ⊥
     by_id None u f = u
     by_id (Some t) u f = cc (f, u)
-dead_no_memory r _ u f = u
+dead_no_memory v _ u f = u
 
-dead_no_end : (r : List Entry) (s : Step) (reason : SessionStopReason) → UnderDead r s → ended_by s ≡ Some reason → ⊥
-dead_no_end r (steps.Frame frame) reason u e = cc e
-dead_no_end r _ reason u e = u
+dead_no_end : (v : View) (s : Step) (reason : SessionStopReason) → UnderDead v s → ended_by s ≡ Some reason → ⊥
+dead_no_end v (steps.Frame frame) reason u e = cc e
+dead_no_end v _ reason u e = u
 
-pub step_unknown : (h : Held) (old new : Told) (r : List Entry) (s : Step) (result : Result (DrawnIds × Reply) StepError) → StepGave h old new r s result → UnderDead r s → result ≡ Err (errors.Fault faults.UnknownTxnId 0)
-step_unknown h old new r s (Ok out) g u = absurd (dead_unanswered r s out.0.ids out.1 u g.answer)
-step_unknown h old new r s (Err (errors.Fault faults.UnknownTxnId handed)) g u = ap (λ n. Err (errors.Fault faults.UnknownTxnId n)) g.1
-step_unknown h old new r s (Err (errors.Fault error handed)) g u = absurd (dead_no_fault r s error u g.fits)
-step_unknown h old new r s (Err (errors.Ended reason)) g u = absurd (dead_no_end r s reason u g)
-step_unknown h old new r s (Err (errors.Stopped code)) g u = absurd g
-step_unknown h old new r s (Err errors.NoMemory) g u = absurd (dead_no_memory r s u g.takes)
+pub step_unknown : (v w : View) (old new : Told) (s : Step) (result : Result (DrawnIds × Reply) StepError) → AnswerKeeps v w old new s result → UnderDead v s → result ≡ Err (errors.Fault faults.UnknownTxnId 0)
+step_unknown v w old new s (Ok out) x u = absurd (dead_unanswered v w old new s out.0.ids out.1 u x)
+step_unknown v w old new s (Err (errors.Fault faults.UnknownTxnId handed)) x u = ap (λ n. Err (errors.Fault faults.UnknownTxnId n)) x.1
+step_unknown v w old new s (Err (errors.Fault error handed)) x u = absurd (dead_no_fault v s (step_hands v s) error u x.fits)
+step_unknown v w old new s (Err (errors.Ended reason)) x u = absurd (dead_no_end v s reason u x)
+step_unknown v w old new s (Err (errors.Stopped code)) x u = absurd x
+step_unknown v w old new s (Err errors.NoMemory) x u = absurd (dead_no_memory v s u x)
 
-pub step_unknown_only : (h : Held) (old new : Told) (r : List Entry) (s : Step) (result : Result (DrawnIds × Reply) StepError) → StepGave h old new r s result → IfUnknown result (λ handed. UnderDead r s × (handed ≡ 0))
+pub step_unknown_only : (h : Held) (old new : Told) (r : List Entry) (s : Step) (result : Result (DrawnIds × Reply) StepError) → StepGave h old new r s result → IfUnknown result (λ handed. UnderDead (view_of_record r) s × (handed ≡ 0))
 step_unknown_only h old new r s (Ok out) g = tt
 step_unknown_only h old new r s (Err (errors.Fault error handed)) g = on_true _ (is_unknown error) (λ x. x) g
 step_unknown_only h old new r s (Err (errors.Ended reason)) g = tt
@@ -183,20 +123,6 @@ step_unknown_only h old new r s (Err (errors.Stopped code)) g = tt
 step_unknown_only h old new r s (Err errors.NoMemory) g = tt
 
 -- ---- ends
-
-pub local_error : (o : Option Error) → is_some o ≡ has_error (local_end o)
-local_error None = refl
-local_error (Some error) = refl
-
-pub remote_error : (o : Option Error) → is_some o ≡ has_error (remote_end o)
-remote_error None = refl
-remote_error (Some error) = refl
-
-pub answers_end : (own : SessionStopReason) (takes : Bool) (error : StepError) → takes ≡ has_error own → EndGave own takes error → AnswersEnd (Some own) (Err error)
-answers_end own takes (errors.Fault error handed) has g = g
-answers_end own takes (errors.Ended got) has g = g
-answers_end own takes (errors.Stopped code) has g = g
-answers_end own takes errors.NoMemory has g = sym has ∙ g
 
 pub end_is : (o : Option SessionStopReason) (result : Result (DrawnIds × Reply) StepError) (reason : SessionStopReason) → AnswersEnd o result → o ≡ Some reason → (result ≡ Err (errors.Ended reason)) ⊎ (result ≡ Err errors.NoMemory)
 end_is None result reason a e = absurd (cc e)
@@ -208,12 +134,12 @@ end_is (Some own) (Err errors.NoMemory) reason a e = inr refl
 
 -- ---- want of memory
 
-pub step_memory : (h : Held) (old new : Told) (r : List Entry) (s : Step) (result : Result (DrawnIds × Reply) StepError) → StepGave h old new r s result → OnNoMemory result (Stands h r × (takes_memory r s ≡ true))
+pub step_memory : (h : Held) (old new : Told) (r : List Entry) (s : Step) (result : Result (DrawnIds × Reply) StepError) → StepGave h old new r s result → OnNoMemory result (Stands h r × (takes_memory (view_of_record r) s ≡ true))
 step_memory h old new r s (Ok out) g = tt
 step_memory h old new r s (Err (errors.Fault error handed)) g = tt
 step_memory h old new r s (Err (errors.Ended reason)) g = tt
 step_memory h old new r s (Err (errors.Stopped code)) g = tt
-step_memory h old new r s (Err errors.NoMemory) g = (g.stands, g.takes)
+step_memory h old new r s (Err errors.NoMemory) g = g
 
 pub same_session : {S : Type 0} (old new : TxnSession S) (s : Step) (result : Result (DrawnIds × Reply) StepError) → OnNoMemory result (SameHeld (held_of old) (held_of new)) → OnNoCall s result (below_of new ≡ below_of old) → StopAfter result (stop_of new) → stop_of old ≡ None → OnNoMemory result (SameSession old new)
 same_session old new s (Ok out) held below stop runs = tt
@@ -286,49 +212,3 @@ by_attach before now r s d _ a c = tt
 pub step_attach : (h : Held) (old new : Told) (r : List Entry) (s : Step) (result : Result (DrawnIds × Reply) StepError) → StepGave h old new r s result → StepCause old new s result → OnAttachRefused result (Rose old.refusals new.refusals × IsControlAttach s)
 step_attach h old new r s (Ok out) g c = by_attach old.refusals new.refusals r s out.0.ids out.1 g.answer c.0
 step_attach h old new r s (Err error) g c = tt
-
--- ---- over a sure layer
-
--- of a step that isn't a control message nothing is said
-pub surely_other : (result : Result (DrawnIds × Reply) StepError) → IfRefused result (λ error handed. ⊤)
-surely_other (Ok out) = tt
-surely_other (Err (errors.Fault error handed)) = by_known (is_unknown error)
-  where
-    by_known : (b : Bool) → MatchBool b ⊤ ⊤
-    by_known true = tt
-    by_known false = tt
-surely_other (Err (errors.Ended reason)) = tt
-surely_other (Err (errors.Stopped code)) = tt
-surely_other (Err errors.NoMemory) = tt
-
--- what makes no call below is no refusal there
-no_refusal : (s : Step) (result : Result (DrawnIds × Reply) StepError) → StepCause open_told open_told s result → IfRefused result (λ error handed. ⊥)
-no_refusal s (Ok out) c = tt
-no_refusal s (Err (errors.Fault error handed)) c = by_known (is_unknown error) c
-  where
-    by_known : (b : Bool) → MatchBool b (IsPost s × (handed ≡ 0)) (Rose 0 0) → MatchBool b ⊤ ⊥
-    by_known true x = tt
-    by_known false x = omega (arith, x)
-no_refusal s (Err (errors.Ended reason)) c = tt
-no_refusal s (Err (errors.Stopped code)) c = tt
-no_refusal s (Err errors.NoMemory) c = tt
-
-if_refused : (P Q : SessionInnerError → ℕ → Type 0) (result : Result (DrawnIds × Reply) StepError) → ((error : SessionInnerError) (handed : ℕ) → P error handed → Q error handed) → IfRefused result P → IfRefused result Q
-if_refused P Q (Ok out) f x = tt
-if_refused P Q (Err (errors.Fault error handed)) f x = on_false _ (is_unknown error) (f error handed) x
-if_refused P Q (Err (errors.Ended reason)) f x = tt
-if_refused P Q (Err (errors.Stopped code)) f x = tt
-if_refused P Q (Err errors.NoMemory) f x = tt
-
-pub surely_here : (sure : Bool) (s : Step) (result : Result (DrawnIds × Reply) StepError) → ((told : Told) → StepCause told told s result) → IfRefused result (λ error handed. StopsSurely sure s handed)
-surely_here sure s result c =
-    if_refused (λ error handed. ⊥) (λ error handed. StopsSurely sure s handed) result (λ error handed x. absurd x) (no_refusal s result (c open_told))
-
--- a commit that failed
-pub surely_commit : (sure : Bool) (k : ℕ) (payload : List ℕ) (fault : CommitFault) → HandsSurely sure (Err fault) → IfRefused (Err (step_error_of fault)) (λ error handed. StopsSurely sure (steps.Control k payload) handed)
-surely_commit sure k payload commit_faults.NoMemory f = tt
-surely_commit sure k payload (commit_faults.Refused error handed) f = by_known (is_unknown error)
-  where
-    by_known : (b : Bool) → MatchBool b ⊤ (StopsSurely sure (steps.Control k payload) handed)
-    by_known true = tt
-    by_known false = f

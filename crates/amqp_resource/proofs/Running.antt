@@ -1,5 +1,5 @@
 -- A run, step by step, and its end.
-use Rattle.std.proofs.Common.{◌≡◌, ℕ, ◌+◌, ◌-◌, ◌^◌, ◌≤◌, min, Bool, true, false, not, cond, Option, Some, Result, Err, List, [], ◌∷◌, ◌++◌, length, take, refl, sym, ◌∙◌, ap, arith, subst, append-nil, append_assoc, zero-add, inl, inr}
+use Rattle.std.proofs.Common.{◌≡◌, ℕ, ◌+◌, ◌-◌, ◌^◌, ◌≤◌, min, Bool, true, false, not, cond, Option, Some, Result, Ok, Err, List, [], ◌∷◌, ◌++◌, length, take, refl, sym, ◌∙◌, ap, arith, subst, append-nil, append_assoc, zero-add, inl, inr}
 use Rattle.std.specs.Prelude.{◌⊎◌, ◌↔◌, ⊤, MatchBool}
 use Rattle.std.specs.List.{zip, flat_map}
 use Rattle.std.proofs.lemmas.List.{map-append, length-append, length-map}
@@ -36,7 +36,9 @@ use Rattle.amqp_resource.specs.declared.held.Held.{Held}
 use Rattle.amqp_resource.specs.declared.session.TxnSession.{TxnSession}
 use Rattle.amqp_resource.specs.Held.{Stands}
 use Rattle.amqp_layer.specs.Taking.{TookFrames}
-use Rattle.amqp_resource.specs.Steps.{IfAttachRefused, IfEnded, IfRefused, IfUnknown, IfVeto, IsControlAttach, IsFirstStop, MayFault, OnNoMemory, OnNoCall, OpenedBy, RefusedAdds, RefusedBy, StopsSurely, TookFirst, TookHands, UnderDead, VetoedBy, ended_by, entry_of, is_unknown, takes_memory}
+use Rattle.amqp_resource.specs.Steps.{IfAttachRefused, IfEnded, IfRefused, IfVeto, IsControlAttach, IsFirstStop, MayFault, OnNoCall, RefusedAdds, StopsSurely, TookFirst, UnderDead, ended_by, entry_of, is_unknown}
+use Rattle.amqp_resource.specs.Stepping.{StepRecords}
+use Rattle.amqp_resource.specs.Views.{view_of_record}
 use Rattle.amqp_resource.specs.Session.{StopAfter, held_of, stop_of}
 use Rattle.amqp_resource.specs.Drive.{Left, NextStep, RunLeaves, RunRefused, RunRose, RunStopsSurely, RunTook, StopCause, StopsBy, StopsWith}
 use Rattle.amqp_txn_types.proofs.Growing.{grown-grown, grown-nil}
@@ -98,14 +100,12 @@ vetoed-more : (before mid now count : ℕ) (reply : Reply) → min (before + cou
 vetoed-more before mid now count (replies.Rejected transaction_errors.Rollback text) a l c = omega (arith, c)
 vetoed-more before mid now count _ a l c = omega arith
 
+abbrev answered : DrawnIds → Reply → Result (DrawnIds × Reply) StepError
+answered d reply = Ok (d, reply)
+
 -- what a step that was answered leaves
-pub record Stepped (g : Held) (old new : Told) (r : List Entry) (s : Step) (d : DrawnIds) (reply : Reply) : Type 0 where
-  pub stands : Stands g (r ++ entry_of s d reply ∷ [])
-  pub taken : TookHands old new r s reply
-  pub opened : OpenedBy old new s reply
-  pub refused : RefusedBy old new s reply
-  pub vetoed : VetoedBy old new r s reply
-  pub attach : IfAttachRefused reply (Rose old.refusals new.refusals × IsControlAttach s)
+pub record Stepped (ids : ℕ → TransactionId) (g : Held) (old new : Told) (r : List Entry) (s : Step) (d : DrawnIds) (reply : Reply) : Type 0 where
+  pub by : StepRecords old new ids g r s (answered d reply)
   pub veto : IfVeto reply (Rose old.reviews.vetoes new.reviews.vetoes)
   pub later : old.refusals ≤ new.refusals
   pub counted : old.reviews.vetoes ≤ new.reviews.vetoes
@@ -116,23 +116,23 @@ joined-more old mid new f r e a b =
     b ∙ ap (λ o. grown o (f e)) a ∙ grown-grown old (flat_map f r) (f e)
     ∙ ap (grown old) (sym (flat_map-append f r (e ∷ []) ∙ ap (λ l. flat_map f r ++ l) (append-nil (f e))))
 
-pub ran-more : (old mid new : Told) (f g k : ℕ → TransactionId) (h h2 : Held) (r : List Entry) (s : Step) (d : DrawnIds) (reply : Reply) → Ran old mid f g h r → Stepped h2 mid new r s d reply → Drew g k d.ids → Ran old new f k h2 (r ++ entry_of s d reply ∷ [])
+pub ran-more : (old mid new : Told) (f g k : ℕ → TransactionId) (h h2 : Held) (r : List Entry) (s : Step) (d : DrawnIds) (reply : Reply) → Ran old mid f g h r → Stepped g h2 mid new r s d reply → Drew g k d.ids → Ran old new f k h2 (r ++ entry_of s d reply ∷ [])
 ran-more old mid new f g k h h2 r s d reply ran w drew = record {
-  stands = w.stands;
+  stands = w.by.stands;
   taken =
-      w.taken ∙ ap (λ o. grown o (zip (handed_by r s reply) (given_by s reply))) ran.taken ∙ grown-grown old.taken (pairs r) (zip (handed_by r s reply) (given_by s reply))
+      w.by.taken ∙ ap (λ o. grown o (zip (handed_by r s reply) (given_by s reply))) ran.taken ∙ grown-grown old.taken (pairs r) (zip (handed_by r s reply) (given_by s reply))
       ∙ ap (grown old.taken) (sym (pairs-snoc r (entry_of s d reply) ran.stands.legal));
-  opened = joined-more old.opened mid.opened new.opened (λ (e : Entry). opened_by e.step e.reply) r (entry_of s d reply) ran.opened w.opened;
-  refused = joined-more old.refused mid.refused new.refused (λ (e : Entry). refused_by e.step e.reply) r (entry_of s d reply) ran.refused w.refused;
+  opened = joined-more old.opened mid.opened new.opened (λ (e : Entry). opened_by e.step e.reply) r (entry_of s d reply) ran.opened w.by.opened;
+  refused = joined-more old.refused mid.refused new.refused (λ (e : Entry). refused_by e.step e.reply) r (entry_of s d reply) ran.refused w.by.refused;
   vetoed =
-      w.vetoed ∙ ap (λ (o : Option (List (List Frame))). grown o (vetoed_by r s reply)) ran.vetoed ∙ grown-grown old.reviews.vetoed (vetoes r) (vetoed_by r s reply)
+      w.by.vetoed ∙ ap (λ (o : Option (List (List Frame))). grown o (vetoed_by r s reply)) ran.vetoed ∙ grown-grown old.reviews.vetoed (vetoes r) (vetoed_by r s reply)
       ∙ ap (grown old.reviews.vetoed) (sym (vetoes-snoc r (entry_of s d reply)));
   vetoes_rose =
       subst (λ (n : ℕ). min (old.reviews.vetoes + n) (2 ^ 64 - 1) ≤ new.reviews.vetoes) (sym (veto_count-snoc r (entry_of s d reply)))
       (vetoed-more old.reviews.vetoes mid.reviews.vetoes new.reviews.vetoes (veto_count r) reply ran.vetoes_rose w.counted w.veto);
   rose =
       subst (λ (n : ℕ). min (old.refusals + n) (2 ^ 64 - 1) ≤ new.refusals) (sym (refused_count-snoc r (entry_of s d reply)))
-      (rose-more old.refusals mid.refusals new.refusals (attach_refused_count r) s reply ran.rose w.later w.attach);
+      (rose-more old.refusals mid.refusals new.refusals (attach_refused_count r) s reply ran.rose w.later w.by.attach_refused);
   later = let a = ran.later in let b = w.later in omega (arith, a, b);
   counted = let a = ran.counted in let b = w.counted in omega (arith, a, b);
   fixed = w.fixed ∙ ran.fixed;
@@ -194,21 +194,14 @@ abbrev pub failed : StepError → Result (DrawnIds × Reply) StepError
 failed error = Err error
 
 -- what the step leaves
-pub record Broke (sure : Bool) (g : Held) (old new : Told) (r : List Entry) (s : Step) (error : StepError) (kept : Option StopCode) : Type 0 where
+pub record Broke (ids : ℕ → TransactionId) (sure : Bool) (g : Held) (old new : Told) (r : List Entry) (s : Step) (error : StepError) (kept : Option StopCode) : Type 0 where
+  pub by : StepRecords old new ids g r s (failed error)
   pub first : IsFirstStop error
-  pub handed : IfRefused (failed error) (λ e n. TookFirst old new r s n)
-  pub opened : new.opened ≡ old.opened
-  pub refused : IfRefused (failed error) (λ e n. RefusedAdds old new r s e n)
-  pub unknown : UnderDead r s → failed error ≡ Err (errors.Fault faults.UnknownTxnId 0)
-  pub unknown_only : IfUnknown (failed error) (λ n. UnderDead r s × (n ≡ 0))
-  pub refusal : IfRefused (failed error) (λ e n. MayFault r s e)
   pub surely : IfRefused (failed error) (λ e n. StopsSurely sure s n)
-  pub vetoed : new.reviews.vetoed ≡ old.reviews.vetoed
   pub counted : old.reviews.vetoes ≤ new.reviews.vetoes
   pub rose : IfRefused (failed error) (λ e n. Rose old.refusals new.refusals)
   pub ended : (reason : SessionStopReason) → ended_by s ≡ Some reason → (failed error ≡ Err (errors.Ended reason)) ⊎ (failed error ≡ Err errors.NoMemory)
   pub ended_only : IfEnded (failed error) (λ reason. ended_by s ≡ Some reason)
-  pub memory : OnNoMemory (failed error) (Stands g r × (takes_memory r s ≡ true))
   pub own : OnNoCall s (failed error) (new ≡ old)
   pub later : old.refusals ≤ new.refusals
   pub fixed : new.fixed ≡ old.fixed
@@ -226,29 +219,29 @@ both : {X Y : Type 0} (Z : Type 0) (f : X → Y → Z) (b : Bool) → MatchBool 
 both Z f true x y = f x y
 both Z f false x y = tt
 
-pub broke_cause : (sure : Bool) (g : Held) (old new : Told) (r : List Entry) (s : Step) (error : StepError) (kept : Option StopCode) (all rest : List Step) → Left all r (s ∷ rest) → Broke sure g old new r s error kept → StopCause all r (stop_by error)
-broke_cause sure g old new r s (errors.Fault error handed) kept all rest l b = (s, rest, l, pick (is_unknown error) (λ (x : UnderDead r s × (handed ≡ 0)). x.0) (λ (x : MayFault r s error). x) b.unknown_only b.refusal)
+pub broke_cause : {ids : ℕ → TransactionId} (sure : Bool) (g : Held) (old new : Told) (r : List Entry) (s : Step) (error : StepError) (kept : Option StopCode) (all rest : List Step) → Left all r (s ∷ rest) → Broke ids sure g old new r s error kept → StopCause all r (stop_by error)
+broke_cause sure g old new r s (errors.Fault error handed) kept all rest l b = (s, rest, l, pick (is_unknown error) (λ (x : UnderDead (view_of_record r) s × (handed ≡ 0)). x.0) (λ (x : MayFault (view_of_record r) s (hands r s) error). x) b.by.unknown_only b.by.refusal)
 broke_cause sure g old new r s (errors.Ended reason) kept all rest l b = (s, rest, l, b.ended_only)
 broke_cause sure g old new r s (errors.Stopped code) kept all rest l b = absurd b.first
-broke_cause sure g old new r s errors.NoMemory kept all rest l b = (s, rest, l, b.memory.1)
+broke_cause sure g old new r s errors.NoMemory kept all rest l b = (s, rest, l, b.by.memory.1)
 
-pub broke_not_done : (sure : Bool) (g : Held) (old new : Told) (r : List Entry) (s : Step) (error : StepError) (kept : Option StopCode) → Broke sure g old new r s error kept → stop_by error ≡ stops.Done → ⊥
+pub broke_not_done : {ids : ℕ → TransactionId} (sure : Bool) (g : Held) (old new : Told) (r : List Entry) (s : Step) (error : StepError) (kept : Option StopCode) → Broke ids sure g old new r s error kept → stop_by error ≡ stops.Done → ⊥
 broke_not_done sure g old new r s (errors.Fault error handed) kept b e = cc e
 broke_not_done sure g old new r s (errors.Ended reason) kept b e = cc e
 broke_not_done sure g old new r s (errors.Stopped code) kept b e = b.first
 broke_not_done sure g old new r s errors.NoMemory kept b e = cc e
 
-pub broke_done : (sure : Bool) (g : Held) (old new : Told) (r : List Entry) (s : Step) (error : StepError) (kept : Option StopCode) (all rest : List Step) → Left all r (s ∷ rest) → Broke sure g old new r s error kept → (stop_by error ≡ stops.Done) ↔ (steps_of r ≡ all)
+pub broke_done : {ids : ℕ → TransactionId} (sure : Bool) (g : Held) (old new : Told) (r : List Entry) (s : Step) (error : StepError) (kept : Option StopCode) (all rest : List Step) → Left all r (s ∷ rest) → Broke ids sure g old new r s error kept → (stop_by error ≡ stops.Done) ↔ (steps_of r ≡ all)
 broke_done sure g old new r s error kept all rest l b = (λ e. absurd (broke_not_done sure g old new r s error kept b e), λ e. absurd (more_left all rest r s l e))
 
-pub broke_unknown : (sure : Bool) (g : Held) (old new : Told) (r : List Entry) (s : Step) (error : StepError) (kept : Option StopCode) (all rest : List Step) → Left all r (s ∷ rest) → Broke sure g old new r s error kept → NextStep all r (λ x. UnderDead r x) → stop_by error ≡ stops.Fault faults.UnknownTxnId
+pub broke_unknown : {ids : ℕ → TransactionId} (sure : Bool) (g : Held) (old new : Told) (r : List Entry) (s : Step) (error : StepError) (kept : Option StopCode) (all rest : List Step) → Left all r (s ∷ rest) → Broke ids sure g old new r s error kept → NextStep all r (λ x. UnderDead (view_of_record r) x) → stop_by error ≡ stops.Fault faults.UnknownTxnId
 broke_unknown sure g old new r s error kept all rest l b n =
     let here : n.0 ≡ s = same_next (steps_of r) n.1 rest n.0 s (sym n.2 ∙ l) in
-    let said = b.unknown (subst (λ (x : Step). UnderDead r x) here n.3) in
+    let said = b.by.unknown (subst (λ (x : Step). UnderDead (view_of_record r) x) here n.3) in
     let same : error ≡ errors.Fault faults.UnknownTxnId 0 = cc said in
     ap stop_by same
 
-pub broke_ended : (sure : Bool) (g : Held) (old new : Told) (r : List Entry) (s : Step) (error : StepError) (kept : Option StopCode) (all rest : List Step) → Left all r (s ∷ rest) → Broke sure g old new r s error kept → (reason : SessionStopReason) → NextStep all r (λ x. ended_by x ≡ Some reason) → StopsWith (stop_by error) (stops.Ended reason)
+pub broke_ended : {ids : ℕ → TransactionId} (sure : Bool) (g : Held) (old new : Told) (r : List Entry) (s : Step) (error : StepError) (kept : Option StopCode) (all rest : List Step) → Left all r (s ∷ rest) → Broke ids sure g old new r s error kept → (reason : SessionStopReason) → NextStep all r (λ x. ended_by x ≡ Some reason) → StopsWith (stop_by error) (stops.Ended reason)
 broke_ended sure g old new r s error kept all rest l b reason n =
     let here : n.0 ≡ s = same_next (steps_of r) n.1 rest n.0 s (sym n.2 ∙ l) in
     said (b.ended reason (ap ended_by (sym here) ∙ n.3))
@@ -257,20 +250,20 @@ broke_ended sure g old new r s error kept all rest l b reason n =
     said (inl e) = let same : error ≡ errors.Ended reason = cc e in inl (ap stop_by same)
     said (inr e) = let same : error ≡ errors.NoMemory = cc e in inr (ap stop_by same)
 
-pub broke_took : (sure : Bool) (g : Held) (old mid new : Told) (f k : ℕ → TransactionId) (h : Held) (r : List Entry) (s : Step) (error : StepError) (kept : Option StopCode) (all rest : List Step) → Left all r (s ∷ rest) → Ran old mid f k h r → Broke sure g mid new r s error kept → RunTook old.taken new.taken all r (stop_by error) (handed_of error)
+pub broke_took : {ids : ℕ → TransactionId} (sure : Bool) (g : Held) (old mid new : Told) (f k : ℕ → TransactionId) (h : Held) (r : List Entry) (s : Step) (error : StepError) (kept : Option StopCode) (all rest : List Step) → Left all r (s ∷ rest) → Ran old mid f k h r → Broke ids sure g mid new r s error kept → RunTook old.taken new.taken all r (stop_by error) (handed_of error)
 broke_took sure g old mid new f k h r s (errors.Fault error handed) kept all rest l ran b =
     pick (is_unknown error) (λ (x : (new ≡ mid) × (handed ≡ 0)). (ap (λ t. t.taken) x.0 ∙ ran.taken, x.1))
-    (λ (x : TookFirst mid new r s handed). (s, rest, l, (x.0, subst (λ (o : Option (List (Frame × List Frame))). TookFrames o new.taken (take handed (hands r s))) ran.taken x.1)))
-    (both ((new ≡ mid) × (handed ≡ 0)) (λ (x : new ≡ mid) (y : UnderDead r s × (handed ≡ 0)). (x, y.1)) (is_unknown error) b.own b.unknown_only) b.handed
+    (λ (x : TookFirst mid new (hands r s) handed). (s, rest, l, (x.0, subst (λ (o : Option (List (Frame × List Frame))). TookFrames o new.taken (take handed (hands r s))) ran.taken x.1)))
+    (both ((new ≡ mid) × (handed ≡ 0)) (λ (x : new ≡ mid) (y : UnderDead (view_of_record r) s × (handed ≡ 0)). (x, y.1)) (is_unknown error) b.own b.by.unknown_only) b.by.handed
 broke_took sure g old mid new f k h r s (errors.Ended reason) kept all rest l ran b = (ap (λ t. t.taken) b.own ∙ ran.taken, refl)
 broke_took sure g old mid new f k h r s (errors.Stopped code) kept all rest l ran b = absurd b.first
 broke_took sure g old mid new f k h r s errors.NoMemory kept all rest l ran b = (ap (λ t. t.taken) b.own ∙ ran.taken, refl)
 
-pub broke_refused : (sure : Bool) (g : Held) (old mid new : Told) (f k : ℕ → TransactionId) (h : Held) (r : List Entry) (s : Step) (error : StepError) (kept : Option StopCode) (all rest : List Step) → Left all r (s ∷ rest) → Ran old mid f k h r → Broke sure g mid new r s error kept → RunRefused old.refused new.refused all r (stop_by error) (handed_of error)
+pub broke_refused : {ids : ℕ → TransactionId} (sure : Bool) (g : Held) (old mid new : Told) (f k : ℕ → TransactionId) (h : Held) (r : List Entry) (s : Step) (error : StepError) (kept : Option StopCode) (all rest : List Step) → Left all r (s ∷ rest) → Ran old mid f k h r → Broke ids sure g mid new r s error kept → RunRefused old.refused new.refused all r (stop_by error) (handed_of error)
 broke_refused sure g old mid new f k h r s (errors.Fault error handed) kept all rest l ran b =
     pick (is_unknown error) (λ (x : new ≡ mid). ap (λ t. t.refused) x ∙ ran.refused)
-    (λ (x : RefusedAdds mid new r s error handed). (s, rest, l, (x.0, x.1, x.2 ∙ ap (λ o. grown o x.0) ran.refused ∙ grown-grown old.refused (refuses r) x.0)))
-    b.own b.refused
+    (λ (x : RefusedAdds mid new s (hands r s) error handed). (s, rest, l, (x.0, x.1, x.2 ∙ ap (λ o. grown o x.0) ran.refused ∙ grown-grown old.refused (refuses r) x.0)))
+    b.own b.by.refused_last
 broke_refused sure g old mid new f k h r s (errors.Ended reason) kept all rest l ran b = ap (λ t. t.refused) b.own ∙ ran.refused
 broke_refused sure g old mid new f k h r s (errors.Stopped code) kept all rest l ran b = absurd b.first
 broke_refused sure g old mid new f k h r s errors.NoMemory kept all rest l ran b = ap (λ t. t.refused) b.own ∙ ran.refused
@@ -279,28 +272,28 @@ rose-last : (before mid now count : ℕ) (b : Bool) → min (before + count) (2 
 rose-last before mid now count true a l x = omega arith
 rose-last before mid now count false a l x = omega (arith, x)
 
-pub broke_rose : (sure : Bool) (g : Held) (old mid new : Told) (f k : ℕ → TransactionId) (h : Held) (r : List Entry) (s : Step) (error : StepError) (kept : Option StopCode) → Ran old mid f k h r → Broke sure g mid new r s error kept → RunRose old.refusals new.refusals r (stop_by error)
+pub broke_rose : {ids : ℕ → TransactionId} (sure : Bool) (g : Held) (old mid new : Told) (f k : ℕ → TransactionId) (h : Held) (r : List Entry) (s : Step) (error : StepError) (kept : Option StopCode) → Ran old mid f k h r → Broke ids sure g mid new r s error kept → RunRose old.refusals new.refusals r (stop_by error)
 broke_rose sure g old mid new f k h r s (errors.Fault error handed) kept ran b = rose-last old.refusals mid.refusals new.refusals (attach_refused_count r) (is_unknown error) ran.rose b.later b.rose
 broke_rose sure g old mid new f k h r s (errors.Ended reason) kept ran b = rose-last old.refusals mid.refusals new.refusals (attach_refused_count r) true ran.rose b.later tt
 broke_rose sure g old mid new f k h r s (errors.Stopped code) kept ran b = absurd b.first
 broke_rose sure g old mid new f k h r s errors.NoMemory kept ran b = rose-last old.refusals mid.refusals new.refusals (attach_refused_count r) true ran.rose b.later tt
 
-pub broke_leaves : {S : Type 0} (sure : Bool) (x : TxnSession S) (old new : Told) (r : List Entry) (s : Step) (error : StepError) → Broke sure (held_of x) old new r s error (stop_of x) → RunLeaves x r (stop_by error)
+pub broke_leaves : {S : Type 0} {ids : ℕ → TransactionId} (sure : Bool) (x : TxnSession S) (old new : Told) (r : List Entry) (s : Step) (error : StepError) → Broke ids sure (held_of x) old new r s error (stop_of x) → RunLeaves x r (stop_by error)
 broke_leaves sure x old new r s (errors.Fault error handed) b = b.stops
 broke_leaves sure x old new r s (errors.Ended reason) b = b.stops
 broke_leaves sure x old new r s (errors.Stopped code) b = absurd b.first
-broke_leaves sure x old new r s errors.NoMemory b = (b.memory.0, b.stops)
+broke_leaves sure x old new r s errors.NoMemory b = (b.by.memory.0, b.stops)
 
 -- over a sure layer
-pub broke_surely : (sure : Bool) (g : Held) (old new : Told) (r : List Entry) (s : Step) (error : StepError) (kept : Option StopCode) (all rest : List Step) → Left all r (s ∷ rest) → Broke sure g old new r s error kept → RunStopsSurely sure all r (stop_by error) (handed_of error)
+pub broke_surely : {ids : ℕ → TransactionId} (sure : Bool) (g : Held) (old new : Told) (r : List Entry) (s : Step) (error : StepError) (kept : Option StopCode) (all rest : List Step) → Left all r (s ∷ rest) → Broke ids sure g old new r s error kept → RunStopsSurely sure all r (stop_by error) (handed_of error)
 broke_surely sure g old new r s (errors.Fault error handed) kept all rest l b = pick (is_unknown error) (λ (x : Unit {0}). tt) (λ (x : StopsSurely sure s handed). (s, rest, l, x)) (units (is_unknown error)) b.surely
 broke_surely sure g old new r s (errors.Ended reason) kept all rest l b = tt
 broke_surely sure g old new r s (errors.Stopped code) kept all rest l b = absurd b.first
 broke_surely sure g old new r s errors.NoMemory kept all rest l b = tt
 
 -- the vetoes of the record
-pub broke_vetoed : (sure : Bool) (g : Held) (old mid new : Told) (f k : ℕ → TransactionId) (h : Held) (r : List Entry) (s : Step) (error : StepError) (kept : Option StopCode) → Ran old mid f k h r → Broke sure g mid new r s error kept → new.reviews.vetoed ≡ grown old.reviews.vetoed (vetoes r)
-broke_vetoed sure g old mid new f k h r s error kept ran b = b.vetoed ∙ ran.vetoed
+pub broke_vetoed : {ids : ℕ → TransactionId} (sure : Bool) (g : Held) (old mid new : Told) (f k : ℕ → TransactionId) (h : Held) (r : List Entry) (s : Step) (error : StepError) (kept : Option StopCode) → Ran old mid f k h r → Broke ids sure g mid new r s error kept → new.reviews.vetoed ≡ grown old.reviews.vetoed (vetoes r)
+broke_vetoed sure g old mid new f k h r s error kept ran b = b.by.vetoed_none ∙ ran.vetoed
 
 -- ---- a run that came to its end
 

@@ -1,5 +1,5 @@
 -- What the record says is kept, with one entry more.
-use Rattle.std.proofs.Common.{◌≡◌, ℕ, ◌+◌, Bool, true, false, cond, not, ◌&&◌, Option, Some, None, List, [], ◌∷◌, ◌++◌, length, refl, sym, ◌∙◌, ap, arith, append-nil, add-zero}
+use Rattle.std.proofs.Common.{◌≡◌, ℕ, ◌+◌, Bool, true, false, cond, not, ◌&&◌, Option, Some, None, List, [], ◌∷◌, ◌++◌, length, refl, sym, ◌∙◌, ap, subst, arith, append-nil, add-zero}
 use Rattle.std.specs.Prelude.{◌==◌, is_some, nat_eq}
 use Rattle.std.proofs.lemmas.Bool.{ne_eqb, eqb-true, eq-eqb, and_right}
 use Rattle.amqp_txn_types.specs.declared.id.TransactionId.{TransactionId}
@@ -13,18 +13,22 @@ use Rattle.amqp_record.specs.Entries.{declares, discharges, is_under, attaches, 
 use Rattle.amqp_record.specs.Links.{is_open, attached_count}
 use Rattle.amqp_record.specs.Live.{is_link, is_live, is_open_at, undischarged, since, home}
 use Rattle.amqp_record.specs.Hands.{frames_of, frame_of_step}
-use Rattle.amqp_record.specs.Answers.{Answer}
 use Rattle.amqp_record.proofs.Living.{live-at, live_undischarged, live-other, live-same}
 use Rattle.amqp_record.proofs.Looking.{is_open-other, is_open_at-other, is_open-closed, home-declared, home-other, undischarged-declared, frames_of-declared, frames_of-other}
-use Rattle.amqp_record.proofs.Whole.{IsLegal-nil, IsLegal-snoc, count-snoc, is_open-attached, homes_attached}
+use Rattle.amqp_record.proofs.Whole.{IsLegal-nil, count-snoc, is_open-attached, homes_attached}
 use Rattle.std.specs.HashSet.{keys}
 use Rattle.std.specs.Map.{lookup}
 use Rattle.std.specs.Option.{option_map}
-use Rattle.amqp_resource.proofs.Kept.{in_updated, tied_opened}
+use Rattle.amqp_resource.proofs.Views.{live-record, stands-view, view-moved, view-stands}
+use Rattle.amqp_resource.proofs.Kept.{tied_same}
 use Rattle.amqp_record.specs.Legal.{IsLegal}
 use Rattle.amqp_resource.specs.declared.held.Held.{Held}
-use Rattle.amqp_arrivals.specs.Live.{Kept, kept, with_frame}
-use Rattle.amqp_resource.specs.Held.{OpenLinks, Stands, Tied, ids_on, is_among, is_in, is_kept_on, kept_by, kept_without, unless_on}
+use Rattle.amqp_arrivals.specs.Live.{Kept, Live, kept, with_frame}
+use Rattle.amqp_resource.specs.Held.{OpenLinks, SameHeld, Stands, ids_on, is_among, is_in, is_kept_on, kept_by, unless_on}
+use Rattle.amqp_resource.specs.Draws.{is_kept}
+use Rattle.amqp_resource.specs.Views.{SameLinks, SameView, View, view_of_held, view_of_record}
+use Rattle.amqp_resource.specs.Keeping.{Attaches, Closes, Declares}
+use Rattle.amqp_layer.specs.Told.{Told}
 
 abbrev pub more_frames : Bool → Step → Option Kept → Option Kept
 more_frames b s None = None
@@ -99,26 +103,31 @@ kept_by-declared r e t d o =
     (live-at (r ++ e ∷ []) t ∙ ap (λ b. b && is_open_at (r ++ e ∷ []) (home (r ++ e ∷ []) t)) (undischarged-declared r e t d) ∙ ap (is_open_at (r ++ e ∷ [])) (home-declared r e t d) ∙ o)
     ∙ ap (λ k. Some (k, frames_of (r ++ e ∷ []) t)) (home-declared r e t d) ∙ ap (λ fs. Some (step_link e.step, fs)) (frames_of-declared r e t d)
 
--- ---- what is kept stands for a record with one entry more
+-- ---- the view of a record with one entry more
 
--- an entry that says nothing of ids and links
-pub record Quiet (e : Entry) : Type 0 where
-  pub declares : (t : TransactionId) → declares t e ≡ false
-  pub discharges : (t : TransactionId) → discharges t e ≡ false
+-- an entry that says nothing of links
+pub record LeavesLinks (e : Entry) : Type 0 where
   pub attaches : (k : ℕ) → attaches k e ≡ false
   pub closes : (k : ℕ) → closes k e ≡ false
   pub attached : is_attached e.reply ≡ false
 
-pub quiet_count : (r : List Entry) (e : Entry) → is_attached e.reply ≡ false → attached_count (r ++ e ∷ []) ≡ attached_count r
+quiet_count : (r : List Entry) (e : Entry) → is_attached e.reply ≡ false → attached_count (r ++ e ∷ []) ≡ attached_count r
 quiet_count r e h = count-snoc r e ∙ ap (λ b. attached_count r + cond b 1 0) h ∙ add-zero (attached_count r)
 
-pub stands-quiet : (h : Held) (r : List Entry) (e : Entry) → Stands h r → Answer r e.step e.drawn.ids e.reply → Quiet e → ((t : TransactionId) → is_under t e ≡ false) → Stands h (r ++ e ∷ [])
-stands-quiet h r e s a q u = record {
-  legal = IsLegal-snoc r e s.legal a;
-  tied = s.tied;
-  live = λ t. s.live t ∙ sym (kept_by-quiet r e t (q.declares t) (q.discharges t) (u t) (λ x. is_open_at-other r e (home r t) (λ k _. q.attaches k) (λ k _. q.closes k)));
+open-left : (r : List Entry) (e : Entry) → LeavesLinks e → (o : Option ℕ) → is_open_at (r ++ e ∷ []) o ≡ is_open_at r o
+open-left r e q o = is_open_at-other r e o (λ k _. q.attaches k) (λ k _. q.closes k)
+
+links-left : (r : List Entry) (e : Entry) (w : View) → LeavesLinks e → SameLinks (view_of_record r) w → SameLinks (view_of_record (r ++ e ∷ [])) w
+links-left r e w q s = record {
   links = λ k. s.links k ∙ sym (is_open-other r e k (q.attaches k) (q.closes k));
   opened = s.opened ∙ sym (quiet_count r e q.attached);
+}
+
+-- an entry that says nothing of ids either
+pub view-quiet : (r : List Entry) (e : Entry) (w : View) → LeavesLinks e → ((t : TransactionId) → declares t e ≡ false) → ((t : TransactionId) → discharges t e ≡ false) → ((t : TransactionId) → is_under t e ≡ false) → SameView (view_of_record r) w → SameView (view_of_record (r ++ e ∷ [])) w
+view-quiet r e w q de di un s = record {
+  live = λ t. s.live t ∙ sym (kept_by-quiet r e t (de t) (di t) (un t) (λ _. open-left r e q (home r t)));
+  links = links-left r e w q s.links;
 }
 
 with_more : (b : Bool) (frame : Frame) (o : Option Kept) → more_frames b (steps.Frame frame) o ≡ cond b (with_frame o frame) o
@@ -128,108 +137,72 @@ with_more true frame (Some kept) = refl
 with_more false frame (Some kept) = ap (λ fs. Some (kept.0, fs)) (append-nil kept.1)
 
 -- a frame under an id
-pub stands-post : (h g : Held) (r : List Entry) (e : Entry) (frame : Frame) (u : TransactionId) → Stands h r → Answer r e.step e.drawn.ids e.reply → Quiet e → e.step ≡ steps.Frame frame → ((t : TransactionId) → is_under t e ≡ same_id t u) → Tied g → ((t : TransactionId) → kept g.work t ≡ cond (same_id t u) (with_frame (kept h.work t) frame) (kept h.work t)) → ((k : ℕ) → is_in g.links.entries k ≡ is_in h.links.entries k) → g.opened ≡ h.opened → Stands g (r ++ e ∷ [])
-stands-post h g r e frame u s a q es ue tg lg kg og = record {
-  legal = IsLegal-snoc r e s.legal a;
-  tied = tg;
+pub view-post : (r : List Entry) (e : Entry) (w : View) (frame : Frame) (u : TransactionId) → LeavesLinks e → ((t : TransactionId) → declares t e ≡ false) → ((t : TransactionId) → discharges t e ≡ false) → e.step ≡ steps.Frame frame → ((t : TransactionId) → is_under t e ≡ same_id t u) → ((t : TransactionId) → w.live t ≡ cond (same_id t u) (with_frame (kept_by r t) frame) (kept_by r t)) → SameLinks (view_of_record r) w → SameView (view_of_record (r ++ e ∷ [])) w
+view-post r e w frame u q de di es ue live links = record {
   live = λ t.
-      lg t ∙ ap (λ o. cond (same_id t u) (with_frame o frame) o) (s.live t)
-      ∙ sym (kept_by-same r e t (q.declares t) (q.discharges t) (λ x. is_open_at-other r e (home r t) (λ k _. q.attaches k) (λ k _. q.closes k))
+      live t
+      ∙ sym (kept_by-same r e t (de t) (di t) (λ _. open-left r e q (home r t))
       ∙ ap (λ b. more_frames b e.step (kept_by r t)) (ue t) ∙ ap (λ x. more_frames (same_id t u) x (kept_by r t)) es ∙ with_more (same_id t u) frame (kept_by r t));
-  links = λ k. kg k ∙ s.links k ∙ sym (is_open-other r e k (q.attaches k) (q.closes k));
-  opened = og ∙ s.opened ∙ sym (quiet_count r e q.attached);
+  links = links-left r e w q links;
 }
 
--- an accepted discharge
-pub stands-discharged : (h g : Held) (r : List Entry) (e : Entry) (u : TransactionId) → Stands h r → Answer r e.step e.drawn.ids e.reply → ((t : TransactionId) → declares t e ≡ false) → ((t : TransactionId) → discharges t e ≡ same_id t u) → ((t : TransactionId) → is_under t e ≡ false) → ((k : ℕ) → attaches k e ≡ false) → ((k : ℕ) → closes k e ≡ false) → is_attached e.reply ≡ false → Tied g → ((t : TransactionId) → kept g.work t ≡ kept_without u h.work t) → ((k : ℕ) → is_in g.links.entries k ≡ is_in h.links.entries k) → g.opened ≡ h.opened → Stands g (r ++ e ∷ [])
-stands-discharged h g r e u s a de di un at cl ia tg lg kg og = record {
-  legal = IsLegal-snoc r e s.legal a;
-  tied = tg;
-  live = λ t. lg t ∙ by_case t (same_id t u) refl;
-  links = λ k. kg k ∙ s.links k ∙ sym (is_open-other r e k (at k) (cl k));
-  opened = og ∙ s.opened ∙ sym (quiet_count r e ia);
-}
+-- an id that ended
+pub view-ended : (r : List Entry) (e : Entry) (w : View) (u : TransactionId) → LeavesLinks e → ((t : TransactionId) → declares t e ≡ false) → ((t : TransactionId) → discharges t e ≡ same_id t u) → ((t : TransactionId) → is_under t e ≡ false) → ((t : TransactionId) → w.live t ≡ cond (same_id t u) None (kept_by r t)) → SameLinks (view_of_record r) w → SameView (view_of_record (r ++ e ∷ [])) w
+view-ended r e w u q de di un live links = record { live = λ t. live t ∙ by_case t (same_id t u) refl; links = links-left r e w q links }
   where
-    by_case : (t : TransactionId) (b : Bool) → same_id t u ≡ b → kept_without u h.work t ≡ kept_by (r ++ e ∷ []) t
-    by_case t true x = ap (λ b. cond b None (kept h.work t)) x ∙ sym (kept_by-discharged r e t (de t) (di t ∙ x))
+    by_case : (t : TransactionId) (b : Bool) → same_id t u ≡ b → cond {A = Option Kept} (same_id t u) None (kept_by r t) ≡ kept_by (r ++ e ∷ []) t
+    by_case t true x = ap (λ b. cond b None (kept_by r t)) x ∙ sym (kept_by-discharged r e t (de t) (di t ∙ x))
     by_case t false x =
-        ap (λ b. cond b None (kept h.work t)) x ∙ s.live t
-        ∙ sym (kept_by-quiet r e t (de t) (di t ∙ x) (un t) (λ y. is_open_at-other r e (home r t) (λ k _. at k) (λ k _. cl k)))
+        ap (λ b. cond b None (kept_by r t)) x
+        ∙ sym (kept_by-quiet r e t (de t) (di t ∙ x) (un t) (λ _. open-left r e q (home r t)))
 
-and_true : (b : Bool) → (b && not false) ≡ b
-and_true true = refl
-and_true false = refl
-
--- a new link has no id, and no live id was declared on it
-no_home : (k : ℕ) (r : List Entry) (t : TransactionId) → IsLegal r → k ≡ attached_count r → is_kept_on k (kept_by r t) ≡ false
-no_home k r t legal n = by_case (is_live r t) refl
-  where
-    not_link : (o : Option ℕ) → ((j : ℕ) → o ≡ Some j → j ≡ k → ⊥) → is_link k o ≡ false
-    not_link None f = refl
-    not_link (Some j) f = ne_eqb j k (f j refl)
-
-    by_case : (b : Bool) → is_live r t ≡ b → is_kept_on k (kept_by r t) ≡ false
-    by_case true l =
-        ap (λ b. is_kept_on k (cond b (Some (home r t, frames_of r t)) None)) l
-        ∙ not_link (home r t) (λ j y e. omega (arith, homes_attached r t j legal (live_undischarged r t l) y, n, e))
-    by_case false l = ap (λ b. is_kept_on k (cond b (Some (home r t, frames_of r t)) None)) l
-
-tied-attached : (h g : Held) (r : List Entry) → Stands h r → ((t : TransactionId) → kept g.work t ≡ kept h.work t) → ((k : ℕ) → ids_on g.links.entries k ≡ cond (h.opened == k) (Some []) (ids_on h.links.entries k)) → Tied g
-tied-attached h g r s lg kg = tied_opened h g s.tied (λ t. ap (is_kept_on h.opened) (s.live t) ∙ no_home h.opened r t s.legal s.opened) lg kg
-
--- an attached link
-pub stands-attached : (h g : Held) (r : List Entry) (e : Entry) (frames : List Frame) → Stands h r → Answer r e.step e.drawn.ids e.reply → e.reply ≡ replies.Attached h.opened frames → ((t : TransactionId) → declares t e ≡ false) → ((t : TransactionId) → discharges t e ≡ false) → ((t : TransactionId) → is_under t e ≡ false) → ((k : ℕ) → closes k e ≡ false) → ((t : TransactionId) → kept g.work t ≡ kept h.work t) → ((k : ℕ) → ids_on g.links.entries k ≡ cond (h.opened == k) (Some []) (ids_on h.links.entries k)) → g.opened ≡ h.opened + 1 → Stands g (r ++ e ∷ [])
-stands-attached h g r e frames s a er de di un cl lg kg og = record {
-  legal = IsLegal-snoc r e s.legal a;
-  tied = tied-attached h g r s lg kg;
-  live = λ t. lg t ∙ s.live t ∙ sym (kept_by-quiet r e t (de t) (di t) (un t) (λ x. is_open_at-other r e (home r t) (λ k y. apart t k x y) (λ k _. cl k)));
-  links = λ k. ap is_some (kg k) ∙ in_updated (h.opened == k) (Some []) (ids_on h.links.entries k) ∙ by_case k (h.opened == k) refl;
-  opened = og ∙ ap (λ n. n + 1) s.opened ∙ sym (count-snoc r e ∙ ap (λ x. attached_count r + cond (is_attached x) 1 0) er);
+-- a link that was attached
+pub view-attached : (r : List Entry) (e : Entry) (w : View) (link : ℕ) (given : List Frame) → IsLegal r → e.reply ≡ replies.Attached link given → ((t : TransactionId) → declares t e ≡ false) → ((t : TransactionId) → discharges t e ≡ false) → ((t : TransactionId) → is_under t e ≡ false) → ((k : ℕ) → closes k e ≡ false) → Attaches (view_of_record r) w link → SameView (view_of_record (r ++ e ∷ [])) w
+view-attached r e w link given legal er de di un cl x = record {
+  live = λ t. x.live t ∙ sym (kept_by-quiet r e t (de t) (di t) (un t) (λ y. is_open_at-other r e (home r t) (λ k q. apart t k y q) (λ k _. cl k)));
+  links = record {
+    links = λ k. x.links k ∙ by_case k (attached_count r == k) refl;
+    opened = x.opened ∙ sym (count-snoc r e ∙ ap (λ y. attached_count r + cond (is_attached y) 1 0) er);
+  };
 }
   where
-    says : (k : ℕ) → attaches k e ≡ (h.opened == k)
-    says k = ap (reply_attaches k) er
+    says : (k : ℕ) → attaches k e ≡ (attached_count r == k)
+    says k = ap (reply_attaches k) er ∙ ap (λ n. n == k) x.number
 
     apart : (t : TransactionId) (k : ℕ) → undischarged r t ≡ true → home r t ≡ Some k → attaches k e ≡ false
-    apart t k x q = says k ∙ ne_eqb h.opened k (λ y. omega (arith, homes_attached r t k s.legal x q, s.opened, y))
+    apart t k y q = says k ∙ ne_eqb (attached_count r) k (λ z. omega (arith, homes_attached r t k legal y q, z))
 
-    by_case : (k : ℕ) (b : Bool) → (h.opened == k) ≡ b → cond (h.opened == k) true (is_in h.links.entries k) ≡ is_open (r ++ e ∷ []) k
-    by_case k true x =
-        ap (λ b. cond b true (is_in h.links.entries k)) x
-        ∙ sym (ap (is_open (r ++ e ∷ [])) (sym (eqb-true h.opened k x)) ∙ is_open-attached r e h.opened frames s.legal er s.opened)
-    by_case k false x = ap (λ b. cond b true (is_in h.links.entries k)) x ∙ s.links k ∙ sym (is_open-other r e k (says k ∙ x) (cl k))
+    by_case : (k : ℕ) (b : Bool) → (attached_count r == k) ≡ b → cond (attached_count r == k) true (is_open r k) ≡ is_open (r ++ e ∷ []) k
+    by_case k true y =
+        ap (λ b. cond b true (is_open r k)) y
+        ∙ sym (ap (is_open (r ++ e ∷ [])) (sym (x.number ∙ eqb-true (attached_count r) k y)) ∙ is_open-attached r e link given legal er x.number)
+    by_case k false y = ap (λ b. cond b true (is_open r k)) y ∙ sym (is_open-other r e k (says k ∙ y) (cl k))
 
--- a closed link
-pub stands-closed : (h g : Held) (r : List Entry) (e : Entry) (k : ℕ) → Stands h r → Answer r e.step e.drawn.ids e.reply → ((t : TransactionId) → declares t e ≡ false) → ((t : TransactionId) → discharges t e ≡ false) → ((t : TransactionId) → is_under t e ≡ false) → ((j : ℕ) → attaches j e ≡ false) → ((j : ℕ) → closes j e ≡ (k == j)) → is_attached e.reply ≡ false → Tied g → ((t : TransactionId) → kept g.work t ≡ unless_on k (kept h.work t)) → ((j : ℕ) → is_in g.links.entries j ≡ cond (k == j) false (is_in h.links.entries j)) → g.opened ≡ h.opened → Stands g (r ++ e ∷ [])
-stands-closed h g r e k s a de di un at cl ia tg lg kg og = record {
-  legal = IsLegal-snoc r e s.legal a;
-  tied = tg;
-  live = λ t. lg t ∙ ap (unless_on k) (s.live t) ∙ sym (kept_by-closed r e k t (de t) (di t) (un t) at cl);
-  links = λ j. kg j ∙ by_case j (k == j) refl;
-  opened = og ∙ s.opened ∙ sym (quiet_count r e ia);
+-- a link that ended or was closed
+pub view-closed : (r : List Entry) (e : Entry) (w : View) (told now : Told) (k : ℕ) → ((t : TransactionId) → declares t e ≡ false) → ((t : TransactionId) → discharges t e ≡ false) → ((t : TransactionId) → is_under t e ≡ false) → ((j : ℕ) → attaches j e ≡ false) → ((j : ℕ) → closes j e ≡ (k == j)) → is_attached e.reply ≡ false → Closes k (view_of_record r) w told now → SameView (view_of_record (r ++ e ∷ [])) w
+view-closed r e w told now k de di un at cl ia x = record {
+  live = λ t. x.live t ∙ sym (kept_by-closed r e k t (de t) (di t) (un t) at cl);
+  links = record {
+    links = λ j. x.links j ∙ by_case j (k == j) refl;
+    opened = x.opened ∙ sym (quiet_count r e ia);
+  };
 }
   where
-    by_case : (j : ℕ) (b : Bool) → (k == j) ≡ b → cond (k == j) false (is_in h.links.entries j) ≡ is_open (r ++ e ∷ []) j
-    by_case j true x = ap (λ b. cond b false (is_in h.links.entries j)) x ∙ sym (is_open-closed r e j (cl j ∙ x))
-    by_case j false x = ap (λ b. cond b false (is_in h.links.entries j)) x ∙ s.links j ∙ sym (is_open-other r e j (at j) (cl j ∙ x))
+    by_case : (j : ℕ) (b : Bool) → (k == j) ≡ b → cond (k == j) false (is_open r j) ≡ is_open (r ++ e ∷ []) j
+    by_case j true y = ap (λ b. cond b false (is_open r j)) y ∙ sym (is_open-closed r e j (cl j ∙ y))
+    by_case j false y = ap (λ b. cond b false (is_open r j)) y ∙ sym (is_open-other r e j (at j) (cl j ∙ y))
 
--- a declared id
-pub stands-declared : (h g : Held) (r : List Entry) (e : Entry) (u : TransactionId) → Stands h r → Answer r e.step e.drawn.ids e.reply → is_live r u ≡ false → is_open_at r (step_link e.step) ≡ true → ((t : TransactionId) → declares t e ≡ same_id t u) → ((t : TransactionId) → discharges t e ≡ false) → ((t : TransactionId) → is_under t e ≡ false) → ((k : ℕ) → attaches k e ≡ false) → ((k : ℕ) → closes k e ≡ false) → is_attached e.reply ≡ false → Tied g → ((t : TransactionId) → kept g.work t ≡ cond (same_id t u) (Some (step_link e.step, [])) (kept h.work t)) → ((k : ℕ) → is_in g.links.entries k ≡ is_in h.links.entries k) → g.opened ≡ h.opened → Stands g (r ++ e ∷ [])
-stands-declared h g r e u s a nl op de di un at cl ia tg lg kg og = record {
-  legal = IsLegal-snoc r e s.legal a;
-  tied = tg;
-  live = λ t. lg t ∙ by_case t (same_id t u) refl;
-  links = λ k. kg k ∙ s.links k ∙ sym (is_open-other r e k (at k) (cl k));
-  opened = og ∙ s.opened ∙ sym (quiet_count r e ia);
-}
+-- an id that was declared
+pub view-declared : (r : List Entry) (e : Entry) (w : View) (told now : Told) (k : ℕ) (u : TransactionId) → LeavesLinks e → step_link e.step ≡ Some k → is_open r k ≡ true → ((t : TransactionId) → declares t e ≡ same_id t u) → ((t : TransactionId) → discharges t e ≡ false) → ((t : TransactionId) → is_under t e ≡ false) → Declares k (view_of_record r) w told now e.drawn.ids u → SameView (view_of_record (r ++ e ∷ [])) w
+view-declared r e w told now k u q on op de di un x = record { live = λ t. x.live t ∙ by_case t (same_id t u) refl; links = links-left r e w q x.links }
   where
-    by_case : (t : TransactionId) (b : Bool) → same_id t u ≡ b → cond (same_id t u) (Some (step_link e.step, [])) (kept h.work t) ≡ kept_by (r ++ e ∷ []) t
-    by_case t true x =
-        ap (λ b. cond b (Some (step_link e.step, [])) (kept h.work t)) x
-        ∙ sym (kept_by-declared r e t (de t ∙ x) (is_open_at-other r e (step_link e.step) (λ k _. at k) (λ k _. cl k) ∙ op))
-    by_case t false x =
-        ap (λ b. cond b (Some (step_link e.step, [])) (kept h.work t)) x ∙ s.live t
-        ∙ sym (kept_by-quiet r e t (de t ∙ x) (di t) (un t) (λ y. is_open_at-other r e (home r t) (λ k _. at k) (λ k _. cl k)))
+    by_case : (t : TransactionId) (b : Bool) → same_id t u ≡ b → cond (same_id t u) (Some (Some k, [])) (kept_by r t) ≡ kept_by (r ++ e ∷ []) t
+    by_case t true y =
+        ap (λ b. cond b (Some (Some k, [])) (kept_by r t)) y
+        ∙ sym (kept_by-declared r e t (de t ∙ y) (open-left r e q (step_link e.step) ∙ ap (is_open_at r) on ∙ op) ∙ ap (λ o. Some (o, [])) on)
+    by_case t false y =
+        ap (λ b. cond b (Some (Some k, [])) (kept_by r t)) y
+        ∙ sym (kept_by-quiet r e t (de t ∙ y) (di t) (un t) (λ _. open-left r e q (home r t)))
 
 -- nothing kept stands for the empty record
 none_live : (t : TransactionId) → is_live [] t ≡ false
@@ -264,3 +237,18 @@ new-links h s = no_links h.links.entries (λ k. s.links k ∙ none_open k)
 pub no_items : {A : Type 0} (xs : List A) → length xs ≡ 0 → xs ≡ []
 no_items [] e = refl
 no_items (x ∷ xs) e = absurd (omega arith)
+
+-- ---- a session that stands for a record
+
+-- what is kept is live
+pub kept_live : (h : Held) (r : List Entry) (t : TransactionId) → Stands h r → is_kept h.work t ≡ is_live r t
+kept_live h r t s = ap is_some (s.live t) ∙ live-record r t
+
+-- what is kept may stand in other memory
+pub stands-moved : (h g : Held) (r : List Entry) → Stands h r → SameHeld h g → Stands g r
+stands-moved h g r s same =
+    stands-view g r s.legal (tied_same h g same s.tied) (let P : View → Type 0 = λ v. SameView v (view_of_held g) in subst P (view-stands h r s) (view-moved h g same))
+
+-- a session that keeps nothing, with another log that keeps nothing
+pub emptied : (h : Held) (work : Live) → Stands h [] → ((t : TransactionId) → kept work t ≡ None) → Stands (record h { work = work }) []
+emptied h work s none = stands-moved h (record h { work = work }) [] s (record { live = λ t. none t ∙ sym (new-live h s t); links = λ k. refl; opened = refl })

@@ -20,6 +20,7 @@ use Rattle.amqp_record.specs.Stops.{code_of}
 use Rattle.amqp_resource.specs.declared.session.TxnSession.{TxnSession}
 use Rattle.amqp_layer.specs.Taking.{TookFrames}
 use Rattle.amqp_resource.specs.Steps.{is_unknown, ended_by, takes_memory, StopsSurely, UnderDead, MayFault, AddsRefusal}
+use Rattle.amqp_resource.specs.Views.{view_of_record}
 use Rattle.amqp_resource.specs.Looking.{frames_added}
 use Rattle.amqp_resource.specs.Session.{StandsFor, stop_of}
 
@@ -49,9 +50,10 @@ IfRefusal _ P Q = P
 abbrev pub StopCause : List Step → List Entry → Stop → Type 0
 StopCause all r stops.Done = steps_of r ≡ all
 StopCause all r (stops.Fault error) =
-    NextStep all r (λ s. MatchBool (is_unknown error) (UnderDead r s) (MayFault r s error))
+    NextStep all r (λ s. MatchBool (is_unknown error) (UnderDead (view_of_record r) s)
+    (MayFault (view_of_record r) s (hands r s) error))
 StopCause all r (stops.Ended reason) = NextStep all r (λ s. ended_by s ≡ Some reason)
-StopCause all r stops.NoMemory = NextStep all r (λ s. takes_memory r s ≡ true)
+StopCause all r stops.NoMemory = NextStep all r (λ s. takes_memory (view_of_record r) s ≡ true)
 
 -- what was taken: the pairs of the record, and after a refusal below the first frames of the next
 -- step's

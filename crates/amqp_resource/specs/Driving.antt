@@ -16,6 +16,7 @@ use Rattle.amqp_record.specs.Vetoed.{vetoes}
 use Rattle.amqp_resource.specs.declared.session.TxnSession.{TxnSession}
 use Rattle.amqp_resource.specs.Drive.{NextStep, RunLeaves, RunRefused, RunRose, RunStopsSurely, RunTook, RunVetoed, StopCause, StopsWith}
 use Rattle.amqp_resource.specs.Steps.{UnderDead, ended_by}
+use Rattle.amqp_resource.specs.Views.{view_of_record}
 use Rattle.amqp_resource.specs.Session.{FitsTogether, told_of}
 
 -- the clauses of a run of these steps, each by its name
@@ -32,7 +33,7 @@ pub record DriveSays {S G : Type 0} (told : S → Told) (sure : Bool) (next : G 
   -- The stop: Done exactly where every step has its entry, and each other one by the next step.
   pub done : (result.stop ≡ stops.Done) ↔ (steps_of result.entries ≡ all)
   pub cause : StopCause all result.entries result.stop
-  pub unknown : NextStep all result.entries (λ s. UnderDead result.entries s) →
+  pub unknown : NextStep all result.entries (λ s. UnderDead (view_of_record result.entries) s) →
       result.stop ≡ stops.Fault faults.UnknownTxnId
   pub ended : (reason : SessionStopReason) → NextStep all result.entries
       (λ s. ended_by s ≡ Some reason) →

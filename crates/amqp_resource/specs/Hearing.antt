@@ -14,11 +14,11 @@ use Rattle.amqp_record.specs.Stops.{fault_code}
 use Rattle.amqp_resource.specs.declared.session.TxnSession.{TxnSession}
 use Rattle.amqp_resource.specs.Calls.{GoesOn, by_stop}
 use Rattle.amqp_resource.specs.Held.{SameHeld}
-use Rattle.amqp_resource.specs.Keeping.{SameLinks}
+use Rattle.amqp_resource.specs.Views.{SameLinks}
 use Rattle.amqp_resource.specs.Opening.{OpensLink, frames_of}
 use Rattle.amqp_resource.specs.Passing.{counted}
 use Rattle.amqp_resource.specs.Posting.{Posted}
-use Rattle.amqp_resource.specs.Session.{FitsTogether, SameSession, below_of, held_of, is_live_on, opened_of, refusals_of, stop_of}
+use Rattle.amqp_resource.specs.Session.{FitsTogether, SameSession, below_of, held_of, is_live_on, opened_of, refusals_of, stop_of, view_of}
 
 -- the session refuses by itself, and all but its count is as it was
 abbrev pub RefusesWith : {S T : Type 0} → TxnSession S → TxnSession S → SessionInnerError
@@ -65,7 +65,7 @@ abbrev pub HearsLive : {S : Type 0} → TxnSession S → TxnSession S → Frame 
     → Result (List Frame) SessionInnerError → Type 0
 HearsLive old new frame id (Ok given) =
     Posted (held_of old).work (held_of new).work frame id (Ok given)
-    × SameLinks (held_of old) (held_of new) × GoesOn old new
+    × SameLinks (view_of old) (view_of new) × GoesOn old new
 HearsLive old new frame id (Err error) = (error ≡ faults.NoMemory) × SameSession old new
 
 -- a frame under an id that isn't live stops the session, and nothing else changes

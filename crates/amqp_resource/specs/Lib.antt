@@ -1,4 +1,5 @@
 pub mod Held
+pub mod Views
 pub mod Posting
 pub mod Committing
 pub mod Draws
@@ -6,6 +7,7 @@ pub mod Steps
 pub mod Complete
 pub mod Transacting
 pub mod Keeping
+pub mod Leaving
 pub mod Looking
 pub mod Session
 pub mod Stepping

@@ -7,7 +7,7 @@ use Rattle.amqp_layer.specs.Inner.{Opened}
 use Rattle.amqp_layer.specs.Told.{Told}
 use Rattle.amqp_resource.specs.declared.held.Held.{Held}
 use Rattle.amqp_resource.specs.Held.{SameHeld, ids_on}
-use Rattle.amqp_resource.specs.Keeping.{SameLive}
+use Rattle.amqp_resource.specs.Views.{SameLive, view_of_held}
 
 -- the frames given back for a link that was opened
 abbrev pub frames_of : {E : Type 0} → Result (ℕ × List Frame) E → Result (List Frame) E
@@ -17,7 +17,7 @@ frames_of (Err error) = Err error
 -- one more link is open, of the next number and without ids; what is kept for each id stays
 pub record AddsLink (old new : Held) (link : ℕ) : Type 0 where
   pub number : link ≡ old.opened
-  pub live : SameLive old new
+  pub live : SameLive (view_of_held old) (view_of_held new)
   pub links : (k : ℕ) → ids_on new.links.entries k ≡ cond (old.opened == k) (Some [])
       (ids_on old.links.entries k)
   pub opened : new.opened ≡ old.opened + 1

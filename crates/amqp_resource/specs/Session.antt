@@ -15,11 +15,16 @@ use Rattle.amqp_resource.specs.declared.held.Held.{Held}
 use Rattle.amqp_resource.specs.declared.session.TxnSession.{TxnSession}
 use Rattle.amqp_resource.specs.Held.{Stands, SameHeld}
 use Rattle.amqp_resource.specs.Keeping.{Fits}
+use Rattle.amqp_resource.specs.Views.{View, view_of_held}
 use Rattle.amqp_resource.specs.Draws.{is_kept}
 
 -- what a session keeps
 abbrev pub held_of : {S : Type 0} → TxnSession S → Held
 held_of x = x.held
+
+-- the view of what it keeps
+abbrev pub view_of : {S : Type 0} → TxnSession S → View
+view_of x = view_of_held (held_of x)
 
 -- the layer below
 abbrev pub below_of : {S : Type 0} → TxnSession S → S

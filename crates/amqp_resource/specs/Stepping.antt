@@ -6,16 +6,55 @@ use Rattle.amqp_layer.specs.declared.inner_error.SessionInnerError.TheVariants a
 use Rattle.amqp_layer.specs.Told.{Told}
 use Rattle.amqp_ids.specs.Drawn.{DrawnIds}
 use Rattle.amqp_ids.specs.Ids.{Drew}
+use Rattle.amqp_record.specs.declared.entry.Entry.{Entry}
 use Rattle.amqp_record.specs.declared.step.Step.{Step}
 use Rattle.amqp_record.specs.declared.reply.Reply.{Reply}
 use Rattle.amqp_record.specs.declared.stop.StepError.{StepError}
 use Rattle.amqp_record.specs.declared.stop.StepError.TheVariants as errors
 use Rattle.amqp_record.specs.Answers.{Answer}
+use Rattle.amqp_record.specs.Hands.{hands}
+use Rattle.amqp_resource.specs.declared.held.Held.{Held}
 use Rattle.amqp_resource.specs.declared.session.TxnSession.{TxnSession}
+use Rattle.amqp_resource.specs.Held.{Stands}
 use Rattle.amqp_resource.specs.Steps.{entry_of, ended_by, takes_memory, AnswersEnd, IfEnded, IfRefused, IfUnknown, IsControlAttach, IsFirstStop, MayFault, OnAttachRefused, OnNoMemory, OnNoCall, OnVeto, OpenedBy, RefusedAdds, RefusedBy, StopsSurely, TookFirst, TookHands, UnderDead, VetoedBy}
 use Rattle.amqp_resource.specs.Complete.{InOrder, Completed}
-use Rattle.amqp_resource.specs.Keeping.{AnswerKeeps, UnderUnkept}
-use Rattle.amqp_resource.specs.Session.{FitsTogether, ForEachRecord, SameSession, StandsFor, StopAfter, below_of, held_of, refusals_of, stop_of, told_of, vetoes_of}
+use Rattle.amqp_resource.specs.Keeping.{AnswerKeeps}
+use Rattle.amqp_resource.specs.Views.{view_of_record}
+use Rattle.amqp_resource.specs.Session.{FitsTogether, ForEachRecord, SameSession, StopAfter, below_of, held_of, refusals_of, stop_of, told_of, vetoes_of, view_of}
+
+-- what a step says by a record that the session stood for, before and after it
+pub record StepRecords (told now : Told) (ids : ℕ → TransactionId) (new : Held) (r : List Entry)
+    (s : Step) (result : Result (DrawnIds × Reply) StepError) : Type 0 where
+  -- The reply is an answer of the record to the step with the ids drawn, and the session then
+  -- stands for the record with this entry.
+  pub answer : IfOk result (λ out. Answer r s out.0.ids out.1)
+  pub stands : IfOk result (λ out. Stands new (r ++ entry_of s out.0 out.1 ∷ []))
+  -- Below took exactly what the step hands, each frame with what the reply says was given
+  -- back; where it refused, the first of them.
+  pub taken : IfOk result (λ out. TookHands told now r s out.1)
+  pub handed : IfRefused result (λ error handed. TookFirst told now (hands r s) handed)
+  -- What below opened, refused and vetoed.
+  pub opened : IfOk result (λ out. OpenedBy told now s out.1)
+  pub opened_none : OnErr result (now.opened ≡ told.opened)
+  pub refused : IfOk result (λ out. RefusedBy told now s out.1)
+  pub refused_last : IfRefused result (λ error handed.
+      RefusedAdds told now s (hands r s) error handed)
+  pub vetoed : IfOk result (λ out. VetoedBy told now r s out.1)
+  pub vetoed_none : OnErr result (now.reviews.vetoed ≡ told.reviews.vetoed)
+  -- An unknown id is the fault of work under an id that isn't live, and of nothing else.
+  pub unknown : UnderDead (view_of_record r) s → result ≡ Err (errors.Fault faults.UnknownTxnId 0)
+  pub unknown_only : IfUnknown result (λ handed. UnderDead (view_of_record r) s × (handed ≡ 0))
+  -- Every other fault is a refusal below, of a step that makes a call there; in a commit it is want
+  -- of memory. A refused attach is that of a control link, and the count of refusals rose.
+  pub refusal : IfRefused result (λ error handed. MayFault (view_of_record r) s (hands r s) error)
+  pub attach_refused : OnAttachRefused result
+      (Rose told.refusals now.refusals × IsControlAttach s)
+  -- Want of memory leaves the session standing for what it stood for, and comes of no step that
+  -- takes none.
+  pub memory : OnNoMemory result (Stands new r × (takes_memory (view_of_record r) s ≡ true))
+  -- A valid step during which neither a refusal nor a veto is counted does what was asked, or
+  -- wants memory.
+  pub complete : (n : List TransactionId) → InOrder told now ids r s n → Completed result
 
 -- the clauses of a step, each by its name: on a session over a layer that tells this, and is sure or
 -- not, with a source that gives these ids
@@ -26,47 +65,14 @@ pub record StepSays {S G : Type 0} (told : S → Told) (sure : Bool) (next : G �
   pub stopped : IfSome (stop_of old) (λ code.
       (result ≡ Err (errors.Stopped code)) × (new ≡ old) × (after ≡ before))
   pub runs : stop_of old ≡ None → IfErr result IsFirstStop
-  -- The reply is an answer of the record to the step with the ids drawn, and the session then
-  -- stands for the record with this entry.
-  pub answer : ForEachRecord old (λ r. IfOk result
-      (λ out. Answer r s out.0.ids out.1))
-  pub stands : ForEachRecord old (λ r. IfOk result (λ out.
-      StandsFor new (r ++ entry_of s out.0 out.1 ∷ [])))
-  -- Below took exactly what the step hands, each frame with what the reply says was given
-  -- back; where it refused, the first of them.
-  pub taken : ForEachRecord old (λ r. IfOk result (λ out.
-      TookHands (told_of told old) (told_of told new) r s out.1))
-  pub handed : ForEachRecord old (λ r. IfRefused result (λ error handed.
-      TookFirst (told_of told old) (told_of told new) r s handed))
-  -- What below opened, refused and vetoed.
-  pub opened : ForEachRecord old (λ r. IfOk result (λ out.
-      OpenedBy (told_of told old) (told_of told new) s out.1))
-  pub opened_none : ForEachRecord old (λ r. OnErr result
-      ((told_of told new).opened ≡ (told_of told old).opened))
-  pub refused : ForEachRecord old (λ r. IfOk result (λ out.
-      RefusedBy (told_of told old) (told_of told new) s out.1))
-  pub refused_last : ForEachRecord old (λ r. IfRefused result (λ error handed.
-      RefusedAdds (told_of told old) (told_of told new) r s error
-      handed))
-  pub vetoed : ForEachRecord old (λ r. IfOk result (λ out.
-      VetoedBy (told_of told old) (told_of told new) r s out.1))
-  pub vetoed_none : ForEachRecord old (λ r. OnErr result
-      ((told_of told new).reviews.vetoed ≡ (told_of told old).reviews.vetoed))
-  -- An unknown id is the fault of work under an id that isn't live, and of nothing else.
-  pub unknown : ForEachRecord old (λ r.
-      UnderDead r s → result ≡ Err (errors.Fault faults.UnknownTxnId 0))
-  pub unknown_only : ForEachRecord old (λ r. IfUnknown result (λ handed.
-      UnderDead r s × (handed ≡ 0)))
-  -- Every other fault is a refusal below, of a step that makes a call there. In a commit it is
-  -- want of memory, and over a sure layer no frame was taken.
-  pub refusal : ForEachRecord old (λ r. IfRefused result
-      (λ error handed. MayFault r s error))
+  -- The answer by each record that the session stands for.
+  pub by_record : ForEachRecord old (λ r.
+      StepRecords (told_of told old) (told_of told new) (next before) (held_of new) r s result)
+  -- A refusal below comes only where the count of refusals rose, and over a sure layer no frame of
+  -- a commit was taken then.
   pub surely : IfRefused result (λ error handed. StopsSurely sure s handed)
   pub refusal_rose : IfRefused result (λ error handed.
       Rose (told_of told old).refusals (told_of told new).refusals)
-  pub attach_refused : ForEachRecord old (λ r. OnAttachRefused result
-      (Rose (told_of told old).refusals (told_of told new).refusals
-      × IsControlAttach s))
   -- A veto comes only where the vetoes rose.
   pub veto_rose : OnVeto result
       (Rose (told_of told old).reviews.vetoes (told_of told new).reviews.vetoes)
@@ -74,11 +80,8 @@ pub record StepSays {S G : Type 0} (told : S → Told) (sure : Bool) (next : G �
   -- An end is answered with its own value; a copy of its error may want memory.
   pub ended : stop_of old ≡ None → AnswersEnd (ended_by s) result
   pub ended_only : IfEnded result (λ reason. ended_by s ≡ Some reason)
-  -- Want of memory leaves the session as it was, standing for what it stood for, and comes of
-  -- no step that takes none.
+  -- Want of memory leaves the session as it was.
   pub same : OnNoMemory result (SameSession old new)
-  pub memory : ForEachRecord old (λ r. OnNoMemory result
-      (StandsFor new r × (takes_memory r s ≡ true)))
   -- An error that isn't a refusal below makes no call there. The count of refusals never
   -- falls.
   pub untouched : OnNoCall s result (below_of new ≡ below_of old)
@@ -89,11 +92,9 @@ pub record StepSays {S G : Type 0} (told : S → Told) (sure : Bool) (next : G �
   -- was done below.
   pub fits : FitsTogether old → FitsTogether new
   pub keeps : stop_of old ≡ None → FitsTogether old
-      → AnswerKeeps (held_of old) (held_of new)
-      (told_of told old) (told_of told new) s result
+      → AnswerKeeps (view_of old) (view_of new) (told_of told old) (told_of told new) s result
   pub dead : stop_of old ≡ None → FitsTogether old
-      → UnderUnkept (held_of old) s →
-      result ≡ Err (errors.Fault faults.UnknownTxnId 0)
+      → UnderDead (view_of old) s → result ≡ Err (errors.Fault faults.UnknownTxnId 0)
   pub attach_rose : OnAttachRefused result
       (Rose (told_of told old).refusals (told_of told new).refusals)
   -- The counts of its own calls, those of its traits, have no part in it.
@@ -105,7 +106,3 @@ pub record StepSays {S G : Type 0} (told : S → Told) (sure : Bool) (next : G �
   pub drew : IfOk result (λ out. Drew (next before) (next after) out.0.ids)
   pub source : OnErr result (after ≡ before)
   pub start : starts after ≡ starts before
-  -- A valid step during which neither a refusal nor a veto is counted does what was asked, or
-  -- wants memory.
-  pub complete : ForEachRecord old (λ r. (n : List TransactionId) →
-      InOrder (told_of told old) (told_of told new) (next before) r s n → Completed result)

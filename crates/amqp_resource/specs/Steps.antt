@@ -1,6 +1,5 @@
--- What one step is, what it does on a session that stands for a record, and when each answer may
--- come.
-use Rattle.std.specs.Prelude.{ℕ, Bool, true, false, not, ◌&&◌, ◌≡◌, ◌≤◌, ◌⊎◌, ⊤, Option, Some, None, Result, Ok, Err, List, [], ◌∷◌, ◌++◌, length, take, slice_get, is_some, is_none, MatchBool}
+-- What one step is, what it hands and takes by a view, and when each answer may come.
+use Rattle.std.specs.Prelude.{ℕ, Bool, true, false, not, cond, ◌&&◌, ◌≡◌, ◌≤◌, ◌⊎◌, ⊤, Option, Some, None, Result, Ok, Err, List, [], ◌∷◌, length, map, take, slice_get, is_some, is_none, MatchBool}
 use Rattle.std.specs.List.{zip}
 use Rattle.amqp_txn_types.specs.declared.id.TransactionId.{TransactionId}
 use Rattle.amqp_txn_types.specs.declared.small.TransactionError.TheVariants as transaction_errors
@@ -10,7 +9,7 @@ use Rattle.amqp_txn_types.specs.declared.delivery.ConnectionStopReason.TheVarian
 use Rattle.amqp_txn_types.specs.declared.delivery.SessionStopReason.{SessionStopReason}
 use Rattle.amqp_txn_types.specs.declared.delivery.SessionStopReason.TheVariants as reasons
 use Rattle.amqp_txn_types.specs.declared.performatives.Frame.{Frame}
-use Rattle.amqp_txn_types.specs.Frames.{txn, is_coordinator_attach}
+use Rattle.amqp_txn_types.specs.Frames.{txn, is_coordinator_attach, is_plain_frame, stripped}
 use Rattle.amqp_txn_codec.specs.declared.message.ControlMessageBody.{ControlMessageBody}
 use Rattle.amqp_txn_codec.specs.declared.message.ControlMessageBody.TheVariants as messages
 use Rattle.amqp_txn_codec.specs.Reading.{message_of}
@@ -28,18 +27,13 @@ use Rattle.amqp_record.specs.declared.reply.Reply.TheVariants as replies
 use Rattle.amqp_record.specs.declared.entry.Entry.{Entry}
 use Rattle.amqp_record.specs.declared.stop.StepError.{StepError}
 use Rattle.amqp_record.specs.declared.stop.StepError.TheVariants as errors
-use Rattle.amqp_record.specs.Links.{is_open}
-use Rattle.amqp_record.specs.Live.{is_live, is_held_on}
-use Rattle.amqp_record.specs.Hands.{hands}
 use Rattle.amqp_txn_codec.specs.Discharges.{is_rollback}
 use Rattle.amqp_record.specs.Work.{given_by, handed_by}
-use Rattle.amqp_record.specs.Answers.{Answer}
 use Rattle.amqp_txn_types.specs.Presumptive.{answered_under}
 use Rattle.amqp_record.specs.Opened.{opened_by, refused_by}
 use Rattle.amqp_record.specs.Vetoed.{vetoed_by}
 use Rattle.amqp_record.specs.Entries.{is_veto}
-use Rattle.amqp_resource.specs.declared.held.Held.{Held}
-use Rattle.amqp_resource.specs.Held.{Stands}
+use Rattle.amqp_resource.specs.Views.{View, frames_in, is_held_in, is_live_in}
 use Rattle.amqp_layer.specs.Taking.{TookFrames}
 
 -- a step with its draws and reply
@@ -70,14 +64,14 @@ ended_by (steps.ConnectionStop reason) = Some (reasons.ConnectionStopped reason)
 ended_by _ = None
 
 -- there is an id, and it isn't live
-abbrev pub IsDead : List Entry → Option TransactionId → Type 0
-IsDead r None = ⊥
-IsDead r (Some t) = is_live r t ≡ false
+abbrev pub IsDead : View → Option TransactionId → Type 0
+IsDead v None = ⊥
+IsDead v (Some t) = is_live_in v t ≡ false
 
 -- the step is a frame under an id that isn't live
-abbrev pub UnderDead : List Entry → Step → Type 0
-UnderDead r (steps.Frame frame) = IsDead r (txn frame)
-UnderDead r _ = ⊥
+abbrev pub UnderDead : View → Step → Type 0
+UnderDead v (steps.Frame frame) = IsDead v (txn frame)
+UnderDead v _ = ⊥
 
 -- there is an id
 abbrev pub IsUnder : Option TransactionId → Type 0
@@ -94,30 +88,46 @@ abbrev pub IsControlAttach : Step → Type 0
 IsControlAttach (steps.Frame frame) = is_coordinator_attach frame ≡ true
 IsControlAttach _ = ⊥
 
--- a frame calls below where it is plain, or is answered with a disposition
-abbrev pub FrameMayFault : List Entry → Frame → Option TransactionId → Type 0
-FrameMayFault r frame None = is_coordinator_attach frame ≡ false
-FrameMayFault r frame (Some t) = (is_live r t ≡ true) × (1 ≤ length (answered_under t frame))
+-- what a message on an open link hands: a commit of an id that was declared there, its frames, each
+-- stripped
+abbrev pub message_hands : View → ℕ → Option ControlMessageBody → List Frame
+message_hands v k (Some (messages.Discharge discharge)) =
+    cond (not (is_rollback discharge.fail) && is_held_in v k discharge.txn_id)
+    (map stripped (frames_in v discharge.txn_id)) []
+message_hands v k _ = []
 
--- a step that a refusal below may stop: a plain frame, a post that is answered with a disposition,
--- a commit with at least one frame, which wants memory
-abbrev pub MayFault : List Entry → Step → SessionInnerError → Type 0
-MayFault r (steps.Frame frame) error = FrameMayFault r frame (txn frame)
-MayFault r (steps.Control k payload) error =
-    (1 ≤ length (hands r (steps.Control k payload))) × (error ≡ faults.NoMemory)
-MayFault r _ error = ⊥
+-- what a step hands: a plain frame itself, a control message what it hands on an open link. By a
+-- record's view that is what it hands by the record (`hands`)
+abbrev pub step_hands : View → Step → List Frame
+step_hands v (steps.Frame frame) = cond (is_plain_frame frame) (frame ∷ []) []
+step_hands v (steps.Control k payload) =
+    cond (v.links k) (message_hands v k (message_of payload)) []
+step_hands v _ = []
+
+-- a frame calls below where it is plain, or is answered with a disposition
+abbrev pub FrameMayFault : View → Frame → Option TransactionId → Type 0
+FrameMayFault v frame None = is_coordinator_attach frame ≡ false
+FrameMayFault v frame (Some t) = (is_live_in v t ≡ true) × (1 ≤ length (answered_under t frame))
+
+-- a step that hands these frames and that a refusal below may stop: a plain frame, a post that is
+-- answered with a disposition, a commit with at least one frame, which wants memory
+abbrev pub MayFault : View → Step → List Frame → SessionInnerError → Type 0
+MayFault v (steps.Frame frame) hands error = FrameMayFault v frame (txn frame)
+MayFault v (steps.Control k payload) hands error = (1 ≤ length hands) × (error ≡ faults.NoMemory)
+MayFault v _ hands error = ⊥
 
 -- an id, if there is one, is live
-abbrev pub is_live_under : List Entry → Option TransactionId → Bool
-is_live_under r None = true
-is_live_under r (Some t) = is_live r t
+abbrev pub is_live_under : View → Option TransactionId → Bool
+is_live_under v None = true
+is_live_under v (Some t) = is_live_in v t
 
--- a message on an open link takes memory where it is a declare without a global id or a commit
-abbrev pub message_takes_memory : List Entry → ℕ → Option ControlMessageBody → Bool
-message_takes_memory r k None = false
-message_takes_memory r k (Some (messages.Declare declare)) = is_none declare.global_id
-message_takes_memory r k (Some (messages.Discharge discharge)) =
-    not (is_rollback discharge.fail) && is_held_on r k discharge.txn_id
+-- a message on an open link takes memory where it is a declare without a global id or a commit of
+-- an id that was declared there
+abbrev pub message_takes_memory : View → ℕ → Option ControlMessageBody → Bool
+message_takes_memory v k None = false
+message_takes_memory v k (Some (messages.Declare declare)) = is_none declare.global_id
+message_takes_memory v k (Some (messages.Discharge discharge)) =
+    not (is_rollback discharge.fail) && is_held_in v k discharge.txn_id
 
 -- a connection's stop with an error
 abbrev pub stop_takes_memory : ConnectionStopReason → Bool
@@ -134,14 +144,14 @@ has_error (reasons.RemoteEndedWithError error) = true
 has_error (reasons.ConnectionStopped reason) = stop_takes_memory reason
 
 -- the steps that take memory; all others never want it
-abbrev pub takes_memory : List Entry → Step → Bool
-takes_memory r (steps.Frame frame) = is_live_under r (txn frame)
-takes_memory r (steps.Control k payload) =
-    is_open r k && message_takes_memory r k (message_of payload)
-takes_memory r (steps.LinkEnd k) = false
-takes_memory r (steps.LocalEnd error) = is_some error
-takes_memory r (steps.RemoteEnd error) = is_some error
-takes_memory r (steps.ConnectionStop reason) = stop_takes_memory reason
+abbrev pub takes_memory : View → Step → Bool
+takes_memory v (steps.Frame frame) = is_live_under v (txn frame)
+takes_memory v (steps.Control k payload) =
+    v.links k && message_takes_memory v k (message_of payload)
+takes_memory v (steps.LinkEnd k) = false
+takes_memory v (steps.LocalEnd error) = is_some error
+takes_memory v (steps.RemoteEnd error) = is_some error
+takes_memory v (steps.ConnectionStop reason) = stop_takes_memory reason
 
 -- ---- refusals of the layer below
 
@@ -171,10 +181,10 @@ abbrev pub TookHands : Told → Told → List Entry → Step → Reply → Type 
 TookHands old new r s reply =
     new.taken ≡ grown old.taken (zip (handed_by r s reply) (given_by s reply))
 
--- below took the first frames of those that the step hands
-abbrev pub TookFirst : Told → Told → List Entry → Step → ℕ → Type 0
-TookFirst old new r s handed =
-    (handed ≤ length (hands r s)) × TookFrames old.taken new.taken (take handed (hands r s))
+-- below took the first of the frames that a step hands
+abbrev pub TookFirst : Told → Told → List Frame → ℕ → Type 0
+TookFirst old new hands handed =
+    (handed ≤ length hands) × TookFrames old.taken new.taken (take handed hands)
 
 -- below opened what the reply says
 abbrev pub OpenedBy : Told → Told → Step → Reply → Type 0
@@ -189,57 +199,20 @@ abbrev pub VetoedBy : Told → Told → List Entry → Step → Reply → Type 0
 VetoedBy old new r s reply =
     new.reviews.vetoed ≡ grown old.reviews.vetoed (vetoed_by r s reply)
 
--- below refused what the fault adds
-abbrev pub RefusedAdds : Told → Told → List Entry → Step → SessionInnerError → ℕ → Type 0
-RefusedAdds old new r s error handed =
-    (more : List Refusal) × AddsRefusal s (hands r s) handed error more
+-- below refused what the fault of a step adds that hands these frames
+abbrev pub RefusedAdds : Told → Told → Step → List Frame → SessionInnerError → ℕ → Type 0
+RefusedAdds old new s hands error handed =
+    (more : List Refusal) × AddsRefusal s hands handed error more
     × (new.refused ≡ grown old.refused more)
 
--- the reply is allowed, the session stands for the record with its entry, and below took what the
--- step hands
-pub record StepAnswered (h : Held) (old new : Told) (r : List Entry) (s : Step) (d : DrawnIds)
-    (reply : Reply) : Type 0 where
-  pub answer : Answer r s d.ids reply
-  pub stands : Stands h (r ++ entry_of s d reply ∷ [])
-  pub taken : TookHands old new r s reply
-  pub opened : OpenedBy old new s reply
-  pub refused : RefusedBy old new s reply
-  pub vetoed : VetoedBy old new r s reply
-
--- a refusal below stopped the step: the first frames of what it hands were taken
-pub record Refused (old new : Told) (r : List Entry) (s : Step) (error : SessionInnerError)
-    (handed : ℕ) : Type 0 where
-  pub fits : MayFault r s error
-  pub took : TookFirst old new r s handed
+-- a refusal below stopped a step that hands these frames: the first of them were taken
+pub record Refused (v : View) (old new : Told) (s : Step) (hands : List Frame)
+    (error : SessionInnerError) (handed : ℕ) : Type 0 where
+  pub fits : MayFault v s hands error
+  pub took : TookFirst old new hands handed
   pub opened : new.opened ≡ old.opened
-  pub refused : RefusedAdds old new r s error handed
+  pub refused : RefusedAdds old new s hands error handed
   pub vetoed : new.reviews.vetoed ≡ old.reviews.vetoed
-
--- nothing was done, for want of memory
-pub record NothingDone (h : Held) (r : List Entry) (s : Step) : Type 0 where
-  pub stands : Stands h r
-  pub takes : takes_memory r s ≡ true
-
--- by the answer
-abbrev pub StepGave : Held → Told → Told → List Entry → Step → Result (DrawnIds × Reply) StepError
-    → Type 0
-StepGave h old new r s (Ok out) = StepAnswered h old new r s out.0 out.1
-StepGave h old new r s (Err (errors.Fault error handed)) =
-    MatchBool (is_unknown error) (UnderDead r s × (handed ≡ 0)) (Refused old new r s error handed)
-StepGave h old new r s (Err (errors.Ended reason)) = ended_by s ≡ Some reason
-StepGave h old new r s (Err (errors.Stopped code)) = ⊥
-StepGave h old new r s (Err errors.NoMemory) = NothingDone h r s
-
--- what a step does, whatever record the session stood for
-abbrev pub StepDoes : Held → Held → Told → Told → Step → Result (DrawnIds × Reply) StepError
-    → Type 0
-StepDoes old new told told2 s result =
-    (r : List Entry) → Stands old r → StepGave new told told2 r s result
-
--- a step that makes no call below
-abbrev pub StepDoesHere : Held → Held → Step → Result (DrawnIds × Reply) StepError → Type 0
-StepDoesHere old new s result =
-    (r : List Entry) → Stands old r → (told : Told) → StepGave new told told r s result
 
 -- ---- causes
 

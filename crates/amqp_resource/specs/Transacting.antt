@@ -42,9 +42,9 @@ pub record Ended (old new : Held) (id : TransactionId) : Type 0 where
 -- live
 abbrev pub AllocatedIn : Held → Held → Result DrawnIds AllocTxnIdError → Type 0
 AllocatedIn old new (Ok drawn) =
-    (id : TransactionId) × DrewUnused old.work drawn.ids id × Added old new id
+    (id : TransactionId) × DrewUnused (kept old.work) drawn.ids id × Added old new id
 AllocatedIn old new (Err (allocations.IdsRepeat drawn)) =
-    DrewLive old.work drawn.ids × SameHeld old new
+    DrewLive (kept old.work) drawn.ids × SameHeld old new
 AllocatedIn old new (Err allocations.NotImplemented) = ⊥
 AllocatedIn old new (Err allocations.NoMemory) = SameHeld old new
 

@@ -1,13 +1,10 @@
 //! One step of a session that hasn't stopped.
 
-ghost use Rattle.std.specs.Prelude.{◌≡◌, ◌≤◌, ◌<◌, ◌-◌, ◌^◌, IfOk, OnErr};
-ghost use Rattle.amqp_ids.specs.Ids.{Drew};
+ghost use Rattle.std.specs.Prelude.{◌≤◌, ◌<◌, ◌-◌, ◌^◌};
 ghost use Rattle.amqp_arrivals.specs.Live.{frame_count, owed};
 ghost use Rattle.amqp_record.specs.declared.step.Step.TheVariants as steps;
-ghost use Rattle.amqp_resource.specs.Held.{SameHeld};
-ghost use Rattle.amqp_resource.specs.Keeping.{Fits, Keeps};
+ghost use Rattle.amqp_resource.specs.Leaving.{StepDraws, StepLeaves};
 ghost use Rattle.amqp_resource.specs.Looking.{Pays, frames_added, frames_ended};
-ghost use Rattle.amqp_resource.specs.Steps.{StepDoes, StepCause, AnswersEnd, IfRefused, OnNoMemory, OnNoCall, StopsSurely, ended_by};
 
 use crate::declaring::{declare_step, global_step};
 use crate::discharging::discharge_step;
@@ -34,22 +31,9 @@ fn control_step<S: LayerBelow, G: IdSource, L: Ledger>(
     ids: &mut G,
     looks: &mut Looks<L>,
 ) -> Result<(Drawn, Reply), StepError>
-    ensures goes { StepDoes held.old held.new (S.told below.old) (S.told below.new)
+    ensures leaves { StepLeaves S.told S.sure held.old held.new below.old below.new
         (steps.Control link payload.now) result }
-    ensures keeps { Fits held.old → Keeps held.old held.new (S.told below.old) (S.told below.new)
-        (steps.Control link payload.now) result }
-    ensures cause { StepCause (S.told below.old) (S.told below.new)
-        (steps.Control link payload.now) result }
-    ensures surely { IfRefused result (λ error handed. StopsSurely S.sure
-        (steps.Control link payload.now) handed) }
-    ensures same { OnNoMemory result (SameHeld held.old held.new) }
-    ensures untouched { OnNoCall (steps.Control link payload.now) result (below.new ≡ below.old) }
-    ensures fixed { (S.told below.new).fixed ≡ (S.told below.old).fixed }
-    ensures later { (S.told below.old).refusals ≤ (S.told below.new).refusals }
-    ensures counted { (S.told below.old).reviews.vetoes ≤ (S.told below.new).reviews.vetoes }
-    ensures drew { IfOk result (λ out. Drew (G.next ids.old) (G.next ids.new) out.0.ids) }
-    ensures source { OnErr result (ids.new ≡ ids.old) }
-    ensures start { G.start ids.new ≡ G.start ids.old }
+    ensures draws { StepDraws G.next G.start ids.old ids.new result }
     ensures pays { Pays held.old.work held.new.work looks.old looks.new
         (frames_ended held.old (steps.Control link payload.now)) 0 }
 {
@@ -84,22 +68,9 @@ fn act<S: LayerBelow, G: IdSource, L: Ledger>(
     looks: &mut Looks<L>,
 ) -> Result<(Drawn, Reply), StepError>
     requires room { held.old.opened < 2 ^ 64 - 1 }
-    ensures goes { StepDoes held.old held.new (S.told below.old) (S.told below.new) step.now
-        result }
-    ensures keeps { Fits held.old → Keeps held.old held.new (S.told below.old) (S.told below.new)
+    ensures leaves { StepLeaves S.told S.sure held.old held.new below.old below.new
         step.now result }
-    ensures cause { StepCause (S.told below.old) (S.told below.new) step.now
-        result }
-    ensures surely { IfRefused result (λ error handed. StopsSurely S.sure step.now handed) }
-    ensures ended { AnswersEnd (ended_by step.now) result }
-    ensures same { OnNoMemory result (SameHeld held.old held.new) }
-    ensures untouched { OnNoCall step.now result (below.new ≡ below.old) }
-    ensures fixed { (S.told below.new).fixed ≡ (S.told below.old).fixed }
-    ensures later { (S.told below.old).refusals ≤ (S.told below.new).refusals }
-    ensures counted { (S.told below.old).reviews.vetoes ≤ (S.told below.new).reviews.vetoes }
-    ensures drew { IfOk result (λ out. Drew (G.next ids.old) (G.next ids.new) out.0.ids) }
-    ensures source { OnErr result (ids.new ≡ ids.old) }
-    ensures start { G.start ids.new ≡ G.start ids.old }
+    ensures draws { StepDraws G.next G.start ids.old ids.new result }
     ensures pays { Pays held.old.work held.new.work looks.old looks.new
         (frames_ended held.old step.now) (frames_added step.now) }
 {
@@ -125,22 +96,9 @@ pub fn take_step<S: LayerBelow, G: IdSource, L: Ledger>(
     looks: &mut Looks<L>,
 ) -> Result<(Drawn, Reply), StepError>
     requires room { held.old.opened < 2 ^ 64 - 1 }
-    ensures goes { StepDoes held.old held.new (S.told below.old) (S.told below.new) step.now
-        result }
-    ensures keeps { Fits held.old → Keeps held.old held.new (S.told below.old) (S.told below.new)
+    ensures leaves { StepLeaves S.told S.sure held.old held.new below.old below.new
         step.now result }
-    ensures cause { StepCause (S.told below.old) (S.told below.new) step.now
-        result }
-    ensures surely { IfRefused result (λ error handed. StopsSurely S.sure step.now handed) }
-    ensures ended { AnswersEnd (ended_by step.now) result }
-    ensures same { OnNoMemory result (SameHeld held.old held.new) }
-    ensures untouched { OnNoCall step.now result (below.new ≡ below.old) }
-    ensures fixed { (S.told below.new).fixed ≡ (S.told below.old).fixed }
-    ensures later { (S.told below.old).refusals ≤ (S.told below.new).refusals }
-    ensures counted { (S.told below.old).reviews.vetoes ≤ (S.told below.new).reviews.vetoes }
-    ensures drew { IfOk result (λ out. Drew (G.next ids.old) (G.next ids.new) out.0.ids) }
-    ensures source { OnErr result (ids.new ≡ ids.old) }
-    ensures start { G.start ids.new ≡ G.start ids.old }
+    ensures draws { StepDraws G.next G.start ids.old ids.new result }
     ensures pays { Pays held.old.work held.new.work looks.old looks.new
         (frames_ended held.old step.now) (frames_added step.now) }
     ensures few { owed held.new.work ≤ frame_count held.new.work }

@@ -1,18 +1,19 @@
 //! Declares: ids are drawn until one isn't live.
 
-ghost use Rattle.std.specs.Prelude.{◌≡◌, ◌≤◌, ℕ, [], true, Some, None, MatchOption, IfOk, OnErr};
+ghost use Rattle.std.specs.Prelude.{◌≡◌, ◌≤◌, [], true, Some, None, MatchOption, IfOk};
 ghost use Rattle.amqp_txn_codec.specs.Reading.{message_of};
 ghost use Rattle.amqp_txn_codec.specs.declared.message.ControlMessageBody.TheVariants as messages;
 ghost use Rattle.amqp_ids.specs.Ids.{Drew};
 ghost use Rattle.amqp_sessions.specs.Transacting.{Allocates};
-ghost use Rattle.amqp_layer.specs.Told.{Told};
 ghost use Rattle.amqp_record.specs.declared.step.Step.TheVariants as steps;
-ghost use Rattle.amqp_resource.specs.Held.{SameHeld, is_in};
+ghost use Rattle.amqp_resource.specs.Held.{is_in};
+ghost use Rattle.amqp_arrivals.specs.Live.{kept};
 ghost use Rattle.amqp_resource.specs.Draws.{DrewUnused, DrewLive};
 ghost use Rattle.amqp_resource.specs.Transacting.{AllocatedIn};
-ghost use Rattle.amqp_resource.specs.Keeping.{Fits, Keeps};
+ghost use Rattle.amqp_resource.specs.Keeping.{Fits};
+ghost use Rattle.amqp_resource.specs.Leaving.{LeavesHere, StepDraws};
 ghost use Rattle.amqp_resource.specs.Looking.{Adds};
-ghost use Rattle.amqp_resource.specs.Steps.{StepDoesHere, StepCause, OnNoMemory, nothing_drawn};
+ghost use Rattle.amqp_resource.specs.Steps.{nothing_drawn};
 
 use crate::held::{Held, declare_on, make_room};
 use crate::outcomes::no_draws;
@@ -34,11 +35,7 @@ pub fn global_step(
     requires message { message_of payload.now ≡ Some (messages.Declare
         (record { global_id = Some global })) }
     requires opened { is_in held.now.links.entries link ≡ true }
-    ensures goes { StepDoesHere held.now held.now (steps.Control link payload.now) result }
-    ensures keeps { (told : Told) → Fits held.now
-        → Keeps held.now held.now told told (steps.Control link payload.now) result }
-    ensures cause { (told : Told) → StepCause told told (steps.Control link payload.now) result }
-    ensures same { OnNoMemory result (SameHeld held.now held.now) }
+    ensures leaves { LeavesHere held.now held.now (steps.Control link payload.now) result }
     ensures draws { IfOk result (λ out. out.0 ≡ nothing_drawn) }
 {
     Ok((
@@ -58,8 +55,8 @@ fn draw_unused<G: IdSource>(
 ) -> Option<TransactionId>
     requires none { drawn.old.ids ≡ [] }
     requires room { 16 ≤ drawn.old.spare }
-    ensures unused { MatchOption result (DrewLive work.now drawn.new.ids)
-        (λ id. DrewUnused work.now drawn.new.ids id) }
+    ensures unused { MatchOption result (DrewLive (kept work.now) drawn.new.ids)
+        (λ id. DrewUnused (kept work.now) drawn.new.ids id) }
     ensures drew { Drew (G.next ids.old) (G.next ids.new) drawn.new.ids }
     ensures start { G.start ids.new ≡ G.start ids.old }
 {
@@ -85,14 +82,8 @@ pub fn declare_step<G: IdSource>(
     requires message { message_of payload.now ≡ Some (messages.Declare
         (record { global_id = None })) }
     requires opened { is_in held.old.links.entries link ≡ true }
-    ensures goes { StepDoesHere held.old held.new (steps.Control link payload.now) result }
-    ensures keeps { (told : Told) → Fits held.old
-        → Keeps held.old held.new told told (steps.Control link payload.now) result }
-    ensures cause { (told : Told) → StepCause told told (steps.Control link payload.now) result }
-    ensures same { OnNoMemory result (SameHeld held.old held.new) }
-    ensures drew { IfOk result (λ out. Drew (G.next ids.old) (G.next ids.new) out.0.ids) }
-    ensures source { OnErr result (ids.new ≡ ids.old) }
-    ensures start { G.start ids.new ≡ G.start ids.old }
+    ensures leaves { LeavesHere held.old held.new (steps.Control link payload.now) result }
+    ensures draws { StepDraws G.next G.start ids.old ids.new result }
     ensures counts { Adds held.old.work held.new.work 0 }
 {
     let mut drawn = Drawn::new(alloc);

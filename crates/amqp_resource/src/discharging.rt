@@ -8,13 +8,14 @@ ghost use Rattle.amqp_txn_types.specs.Frames.{stripped};
 ghost use Rattle.amqp_record.specs.declared.step.Step.TheVariants as steps;
 ghost use Rattle.amqp_record.specs.declared.reply.Reply.TheVariants as replies;
 ghost use Rattle.amqp_record.specs.declared.reply.RejectText.TheVariants as texts;
-ghost use Rattle.amqp_resource.specs.Held.{SameHeld, is_in};
+ghost use Rattle.amqp_resource.specs.Held.{is_in};
 ghost use Rattle.amqp_arrivals.specs.Live.{frame_count, frames_kept, home_of, kept, owed};
 ghost use Rattle.amqp_resource.specs.Committing.{HandsAll, HandsSurely};
 ghost use Rattle.amqp_resource.specs.Transacting.{CommittedIn, CommittedWith, Ended, RolledBackIn, step_error_of};
-ghost use Rattle.amqp_resource.specs.Keeping.{Fits, Keeps};
+ghost use Rattle.amqp_resource.specs.Keeping.{Fits};
+ghost use Rattle.amqp_resource.specs.Leaving.{StepLeaves};
 ghost use Rattle.amqp_resource.specs.Looking.{Pays, frames_ended};
-ghost use Rattle.amqp_resource.specs.Steps.{StepDoes, StepCause, IfRefused, OnNoMemory, OnNoCall, StopsSurely, nothing_drawn};
+ghost use Rattle.amqp_resource.specs.Steps.{nothing_drawn};
 
 use crate::committing::{hand_reviewed, strip_all};
 use crate::held::{Held, drop_work, is_declared_on};
@@ -124,19 +125,8 @@ pub fn discharge_step<S: LayerBelow, L: Ledger>(
 ) -> Result<(Drawn, Reply), StepError>
     requires message { message_of payload.now ≡ Some (messages.Discharge discharge) }
     requires opened { is_in held.old.links.entries link ≡ true }
-    ensures goes { StepDoes held.old held.new (S.told below.old) (S.told below.new)
+    ensures leaves { StepLeaves S.told S.sure held.old held.new below.old below.new
         (steps.Control link payload.now) result }
-    ensures keeps { Fits held.old → Keeps held.old held.new (S.told below.old) (S.told below.new)
-        (steps.Control link payload.now) result }
-    ensures cause { StepCause (S.told below.old) (S.told below.new)
-        (steps.Control link payload.now) result }
-    ensures surely { IfRefused result (λ error handed. StopsSurely S.sure
-        (steps.Control link payload.now) handed) }
-    ensures same { OnNoMemory result (SameHeld held.old held.new) }
-    ensures untouched { OnNoCall (steps.Control link payload.now) result (below.new ≡ below.old) }
-    ensures fixed { (S.told below.new).fixed ≡ (S.told below.old).fixed }
-    ensures later { (S.told below.old).refusals ≤ (S.told below.new).refusals }
-    ensures counted { (S.told below.old).reviews.vetoes ≤ (S.told below.new).reviews.vetoes }
     ensures draws { IfOk result (λ out. out.0 ≡ nothing_drawn) }
     ensures pays { Pays held.old.work held.new.work looks.old looks.new
         (frames_ended held.old (steps.Control link payload.now)) 0 }

@@ -14,6 +14,7 @@ ghost use Rattle.amqp_resource.specs.Drive.{NextStep, RunLeaves, RunRefused, Run
 ghost use Rattle.amqp_resource.specs.Driving.{DriveSays};
 ghost use Rattle.amqp_resource.specs.Steps.{IsFirstStop, UnderDead, ended_by, entry_of};
 ghost use Rattle.amqp_resource.specs.Session.{FitsTogether, IsFresh, told_of};
+ghost use Rattle.amqp_resource.specs.Views.{view_of_record};
 
 use crate::session::TxnSession;
 use amqp_arrivals::{LiveWork, Looks};
@@ -112,7 +113,8 @@ pub fn drive_counted<S: LayerBelow, G: IdSource, L: Ledger>(
     // The stop: Done exactly where every step has its entry, and each other one by the next step.
     ensures done { (result.stop ≡ stops.Done) ↔ (steps_of result.entries ≡ steps) }
     ensures cause { StopCause steps result.entries result.stop }
-    ensures unknown { NextStep steps result.entries (λ s. UnderDead result.entries s) →
+    ensures unknown { NextStep steps result.entries
+        (λ s. UnderDead (view_of_record result.entries) s) →
         result.stop ≡ stops.Fault faults.UnknownTxnId }
     ensures ended { (reason : SessionStopReason) → NextStep steps result.entries
         (λ s. ended_by s ≡ Some reason) →

@@ -1,6 +1,6 @@
 //! Steps that are frames: plain ones, work under a transaction, and attaches of control links.
 
-ghost use Rattle.std.specs.Prelude.{◌≡◌, ◌≤◌, ◌<◌, ◌-◌, ◌^◌, true, false, Some, IfOk, IfSome, MatchOption, is_some};
+ghost use Rattle.std.specs.Prelude.{◌≡◌, ◌<◌, ◌-◌, ◌^◌, true, false, Some, IfOk, MatchOption, is_some};
 ghost use Rattle.amqp_txn_types.specs.declared.performatives.Frame.TheVariants as frames;
 ghost use Rattle.amqp_txn_types.specs.Frames.{txn, is_coordinator_attach, is_plain_frame, attaches_coordinator};
 ghost use Rattle.amqp_txn_types.specs.Works.{frame_of_work};
@@ -10,9 +10,9 @@ ghost use Rattle.amqp_resource.specs.Draws.{is_kept};
 ghost use Rattle.amqp_resource.specs.Held.{SameHeld};
 ghost use Rattle.amqp_resource.specs.Opening.{OpensLink};
 ghost use Rattle.amqp_resource.specs.Posting.{Posted};
-ghost use Rattle.amqp_resource.specs.Keeping.{Fits, Keeps};
+ghost use Rattle.amqp_resource.specs.Leaving.{StepLeaves};
 ghost use Rattle.amqp_resource.specs.Looking.{Adds, frames_added};
-ghost use Rattle.amqp_resource.specs.Steps.{StepDoes, StepCause, OnNoMemory, OnNoCall, nothing_drawn};
+ghost use Rattle.amqp_resource.specs.Steps.{nothing_drawn};
 
 use crate::held::{Held, open_link};
 use crate::outcomes::{fault_of, handed_with, no_draws};
@@ -34,17 +34,8 @@ fn plain_step<S: LayerBelow>(
     frame: &Frame,
 ) -> Result<(Drawn, Reply), StepError>
     requires { is_plain_frame frame.now ≡ true }
-    ensures goes { StepDoes held.now held.now (S.told below.old) (S.told below.new)
+    ensures leaves { StepLeaves S.told S.sure held.now held.now below.old below.new
         (steps.Frame frame.now) result }
-    ensures keeps { Fits held.now → Keeps held.now held.now (S.told below.old) (S.told below.new)
-        (steps.Frame frame.now) result }
-    ensures cause { StepCause (S.told below.old) (S.told below.new)
-        (steps.Frame frame.now) result }
-    ensures same { OnNoMemory result (SameHeld held.now held.now) }
-    ensures untouched { OnNoCall (steps.Frame frame.now) result (below.new ≡ below.old) }
-    ensures fixed { (S.told below.new).fixed ≡ (S.told below.old).fixed }
-    ensures later { (S.told below.old).refusals ≤ (S.told below.new).refusals }
-    ensures counted { (S.told below.old).reviews.vetoes ≤ (S.told below.new).reviews.vetoes }
     ensures draws { IfOk result (λ out. out.0 ≡ nothing_drawn) }
 {
     let Ok(copy) = frame.try_clone() else {
@@ -150,17 +141,8 @@ fn post_step<S: LayerBelow>(
     id: TransactionId,
 ) -> Result<(Drawn, Reply), StepError>
     requires { txn frame.now ≡ Some id }
-    ensures goes { StepDoes held.old held.new (S.told below.old) (S.told below.new)
+    ensures leaves { StepLeaves S.told S.sure held.old held.new below.old below.new
         (steps.Frame frame.now) result }
-    ensures keeps { Fits held.old → Keeps held.old held.new (S.told below.old) (S.told below.new)
-        (steps.Frame frame.now) result }
-    ensures cause { StepCause (S.told below.old) (S.told below.new)
-        (steps.Frame frame.now) result }
-    ensures same { OnNoMemory result (SameHeld held.old held.new) }
-    ensures untouched { OnNoCall (steps.Frame frame.now) result (below.new ≡ below.old) }
-    ensures fixed { (S.told below.new).fixed ≡ (S.told below.old).fixed }
-    ensures later { (S.told below.old).refusals ≤ (S.told below.new).refusals }
-    ensures counted { (S.told below.old).reviews.vetoes ≤ (S.told below.new).reviews.vetoes }
     ensures draws { IfOk result (λ out. out.0 ≡ nothing_drawn) }
     ensures counts { Adds held.old.work held.new.work 1 }
 {
@@ -224,18 +206,8 @@ fn attach_step<S: LayerBelow>(
 ) -> Result<(Drawn, Reply), StepError>
     requires coordinator { attaches_coordinator attach.now ≡ true }
     requires room { held.old.opened < 2 ^ 64 - 1 }
-    ensures goes { StepDoes held.old held.new (S.told below.old) (S.told below.new)
+    ensures leaves { StepLeaves S.told S.sure held.old held.new below.old below.new
         (steps.Frame (frames.Attach attach.now)) result }
-    ensures keeps { Fits held.old → Keeps held.old held.new (S.told below.old) (S.told below.new)
-        (steps.Frame (frames.Attach attach.now)) result }
-    ensures cause { StepCause (S.told below.old) (S.told below.new)
-        (steps.Frame (frames.Attach attach.now)) result }
-    ensures same { OnNoMemory result (SameHeld held.old held.new) }
-    ensures untouched { OnNoCall (steps.Frame (frames.Attach attach.now)) result
-        (below.new ≡ below.old) }
-    ensures fixed { (S.told below.new).fixed ≡ (S.told below.old).fixed }
-    ensures later { (S.told below.old).refusals ≤ (S.told below.new).refusals }
-    ensures counted { (S.told below.old).reviews.vetoes ≤ (S.told below.new).reviews.vetoes }
     ensures draws { IfOk result (λ out. out.0 ≡ nothing_drawn) }
     ensures counts { Adds held.old.work held.new.work 0 }
 {
@@ -275,17 +247,8 @@ pub fn frame_step<S: LayerBelow>(
     frame: &Frame,
 ) -> Result<(Drawn, Reply), StepError>
     requires room { held.old.opened < 2 ^ 64 - 1 }
-    ensures goes { StepDoes held.old held.new (S.told below.old) (S.told below.new)
+    ensures leaves { StepLeaves S.told S.sure held.old held.new below.old below.new
         (steps.Frame frame.now) result }
-    ensures keeps { Fits held.old → Keeps held.old held.new (S.told below.old) (S.told below.new)
-        (steps.Frame frame.now) result }
-    ensures cause { StepCause (S.told below.old) (S.told below.new)
-        (steps.Frame frame.now) result }
-    ensures same { OnNoMemory result (SameHeld held.old held.new) }
-    ensures untouched { OnNoCall (steps.Frame frame.now) result (below.new ≡ below.old) }
-    ensures fixed { (S.told below.new).fixed ≡ (S.told below.old).fixed }
-    ensures later { (S.told below.old).refusals ≤ (S.told below.new).refusals }
-    ensures counted { (S.told below.old).reviews.vetoes ≤ (S.told below.new).reviews.vetoes }
     ensures draws { IfOk result (λ out. out.0 ≡ nothing_drawn) }
     ensures counts { Adds held.old.work held.new.work (frames_added (steps.Frame frame.now)) }
 {

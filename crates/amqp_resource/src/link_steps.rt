@@ -1,13 +1,12 @@
 //! Steps that end or close a control link, or name one that isn't open.
 
-ghost use Rattle.std.specs.Prelude.{◌≡◌, ℕ, true, false, None, IfOk};
+ghost use Rattle.std.specs.Prelude.{◌≡◌, true, false, None, IfOk};
 ghost use Rattle.amqp_txn_codec.specs.Reading.{message_of};
-ghost use Rattle.amqp_layer.specs.Told.{Told};
 ghost use Rattle.amqp_record.specs.declared.step.Step.TheVariants as steps;
-ghost use Rattle.amqp_resource.specs.Held.{SameHeld, is_in};
-ghost use Rattle.amqp_resource.specs.Keeping.{Fits, Keeps};
+ghost use Rattle.amqp_resource.specs.Held.{is_in};
+ghost use Rattle.amqp_resource.specs.Leaving.{LeavesHere};
 ghost use Rattle.amqp_resource.specs.Looking.{Pays, frames_ended};
-ghost use Rattle.amqp_resource.specs.Steps.{StepDoesHere, StepCause, OnNoMemory, nothing_drawn};
+ghost use Rattle.amqp_resource.specs.Steps.{nothing_drawn};
 
 use crate::held::{Held, end_link, has_link};
 use crate::outcomes::no_draws;
@@ -25,11 +24,7 @@ pub fn link_end_step<L: Ledger>(
     link: u64,
     looks: &mut Looks<L>,
 ) -> Result<(Drawn, Reply), StepError>
-    ensures goes { StepDoesHere held.old held.new (steps.LinkEnd link) result }
-    ensures keeps { (told : Told) → Fits held.old
-        → Keeps held.old held.new told told (steps.LinkEnd link) result }
-    ensures cause { (told : Told) → StepCause told told (steps.LinkEnd link) result }
-    ensures same { OnNoMemory result (SameHeld held.old held.new) }
+    ensures leaves { LeavesHere held.old held.new (steps.LinkEnd link) result }
     ensures draws { IfOk result (λ out. out.0 ≡ nothing_drawn) }
     ensures pays { Pays held.old.work held.new.work looks.old looks.new
         (frames_ended held.old (steps.LinkEnd link)) 0 }
@@ -51,11 +46,7 @@ pub fn close_step<L: Ledger>(
 ) -> Result<(Drawn, Reply), StepError>
     requires message { message_of payload.now ≡ None }
     requires opened { is_in held.old.links.entries link ≡ true }
-    ensures goes { StepDoesHere held.old held.new (steps.Control link payload.now) result }
-    ensures keeps { (told : Told) → Fits held.old
-        → Keeps held.old held.new told told (steps.Control link payload.now) result }
-    ensures cause { (told : Told) → StepCause told told (steps.Control link payload.now) result }
-    ensures same { OnNoMemory result (SameHeld held.old held.new) }
+    ensures leaves { LeavesHere held.old held.new (steps.Control link payload.now) result }
     ensures draws { IfOk result (λ out. out.0 ≡ nothing_drawn) }
     ensures pays { Pays held.old.work held.new.work looks.old looks.new
         (frames_ended held.old (steps.Control link payload.now)) 0 }
@@ -72,11 +63,7 @@ pub fn no_link_step(
     payload: &Payload,
 ) -> Result<(Drawn, Reply), StepError>
     requires { is_in held.now.links.entries link ≡ false }
-    ensures goes { StepDoesHere held.now held.now (steps.Control link payload.now) result }
-    ensures keeps { (told : Told) → Fits held.now
-        → Keeps held.now held.now told told (steps.Control link payload.now) result }
-    ensures cause { (told : Told) → StepCause told told (steps.Control link payload.now) result }
-    ensures same { OnNoMemory result (SameHeld held.now held.now) }
+    ensures leaves { LeavesHere held.now held.now (steps.Control link payload.now) result }
     ensures draws { IfOk result (λ out. out.0 ≡ nothing_drawn) }
 {
     Ok((no_draws(alloc), Reply::NoLink))

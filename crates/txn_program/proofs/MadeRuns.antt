@@ -24,6 +24,8 @@ use Rattle.amqp_record.proofs.Living.{ended_dead}
 use Rattle.amqp_record.proofs.Looking.{undischarged-other}
 use Rattle.amqp_record.proofs.Whole.{IsLegal-nil, is_open-attached}
 use Rattle.amqp_resource.specs.Steps.{IsDead, UnderDead, ended_by}
+use Rattle.amqp_resource.specs.Views.{view_of_record}
+use Rattle.amqp_resource.proofs.Views.{live-record}
 use Rattle.amqp_ids.specs.Counted.{id_of_number, ids_from}
 use Rattle.txn_program.specs.Made.{made, made_alone, made_attach, made_declare, made_discharge, made_fail, made_from, made_pair, made_post}
 use Rattle.txn_program.proofs.Midway.{Midway, canon-read, declare-reply, discharge-reply, held_live, midway-declare, midway-discharge, midway-post, on_link, short_number}
@@ -88,19 +90,19 @@ id_at n high is few =
 
 -- a step that stops nothing
 abbrev pub GoesOn : List Entry → Step → Type 0
-GoesOn r s = (UnderDead r s → ⊥) × (ended_by s ≡ None)
+GoesOn r s = (UnderDead (view_of_record r) s → ⊥) × (ended_by s ≡ None)
 
 control-goes : (r : List Entry) (s : Step) (link : ℕ) (payload : List ℕ) → s ≡ steps.Control link payload → GoesOn r s
 control-goes r s link payload is = subst (GoesOn r) (sym is) (λ dead. dead, refl)
 
 frame-goes : (r : List Entry) (s : Step) (frame : Frame) (t : TransactionId) → s ≡ steps.Frame frame → txn frame ≡ Some t → is_live r t ≡ true → GoesOn r s
 frame-goes r s frame t is under live =
-    let goes : UnderDead r (steps.Frame frame) → ⊥ = λ dead. not_dead (txn frame) under dead in
+    let goes : UnderDead (view_of_record r) (steps.Frame frame) → ⊥ = λ dead. not_dead (txn frame) under dead in
     subst (GoesOn r) (sym is) (goes, refl)
   where
-    not_dead : (o : Option TransactionId) → o ≡ Some t → IsDead r o → ⊥
+    not_dead : (o : Option TransactionId) → o ≡ Some t → IsDead (view_of_record r) o → ⊥
     not_dead None e dead = absurd dead
-    not_dead (Some u) e dead = let alive : is_live r u ≡ true = ap (is_live r) (cc e) ∙ live in cc (alive, dead)
+    not_dead (Some u) e dead = let alive : is_live r u ≡ true = ap (is_live r) (cc e) ∙ live in cc (alive, dead, live-record r u)
 
 no_step : (xs ys : List Step) (s : Step) → [] ≡ xs ++ s ∷ ys → ⊥
 no_step [] ys s e = cc e

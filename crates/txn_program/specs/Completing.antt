@@ -7,6 +7,7 @@ use Rattle.amqp_record.specs.declared.stop.Driven.{Driven}
 use Rattle.amqp_record.specs.Entries.{steps_of}
 use Rattle.amqp_resource.specs.Drive.{NextStep}
 use Rattle.amqp_resource.specs.Steps.{UnderDead, ended_by}
+use Rattle.amqp_resource.specs.Views.{view_of_record}
 use Rattle.txn_lines.specs.Lines.{input_steps}
 use Rattle.txn_program.specs.declared.reading.Reading.{Reading}
 use Rattle.txn_program.specs.declared.reading.Reading.TheVariants as readings
@@ -19,7 +20,7 @@ NoneRose before now = Rose before now → ⊥
 
 -- after the record, the step is an end, or a frame under an id that isn't live
 abbrev pub StopsRun : List Entry → Step → Type 0
-StopsRun r s = UnderDead r s ⊎ IsSome (ended_by s)
+StopsRun r s = UnderDead (view_of_record r) s ⊎ IsSome (ended_by s)
 
 -- every step has its entry
 abbrev pub EveryStep : List Step → Driven → ℕ → Type 0

@@ -1,12 +1,15 @@
-use Rattle.std.proofs.Common.{ap, sym, ◌∙◌, subst, List, ◌++◌, ◌∷◌, [], ◌≡◌, arith, length, ◌+◌}
-use Rattle.std.specs.List.{list_all}
+use Rattle.std.proofs.Common.{ap, sym, ◌∙◌, subst, List, ◌++◌, ◌∷◌, [], ◌≡◌, arith, length, ◌+◌, ◌&&◌, true}
+use Rattle.std.proofs.lemmas.List.Folds.{list_all-append}
 use Rattle.std.proofs.lemmas.List.{length-append}
 use Rattle.amqp_txn_types.specs.declared.id.TransactionId.{TransactionId}
 use Rattle.amqp_ids.specs.Ids.{Drew}
 use Rattle.amqp_ids.proofs.Draws.{Drew-append, Drew-one}
-use Rattle.amqp_resource.specs.Draws.{is_kept}
-use Rattle.amqp_resource.proofs.Going.{all-snoc}
+use Rattle.amqp_arrivals.specs.Live.{Live, kept}
+use Rattle.amqp_resource.specs.Draws.{all_live, is_kept}
 use Rattle.amqp_resource.proofs.declaring.draw_unused.Goals as goal
+
+all-snoc : (live : Live) (ds : List TransactionId) (d : TransactionId) → all_live (kept live) ds ≡ true → is_kept live d ≡ true → all_live (kept live) (ds ++ d ∷ []) ≡ true
+all-snoc live ds d a n = list_all-append (is_kept live) ds (d ∷ []) ∙ ap (λ b. b && (is_kept live d && true)) a ∙ ap (λ b. b && true) n
 
 pub returns-then-not-is_live-clause-drew : goal.returns-then-not-is_live-clause-drew
 returns-then-not-is_live-clause-drew g c =
@@ -24,7 +27,7 @@ loop-turn-preserved g c =
     record {
       count = ap length items ∙ length-append c.loop-turn.drawn.ids (c.draw-id.result ∷ []) ∙ ap (λ n. n + 1) c.loop-turn.invariant.count;
       room = omega (arith, c.loop-turn.invariant.room, c.push.ensures.spare);
-      all = ap (list_all (is_kept c.args.work.now)) items ∙ all-snoc c.args.work.now c.loop-turn.drawn.ids c.draw-id.result c.loop-turn.invariant.all (sym c.is_live.ensures ∙ c.if-not-is_live.false);
+      all = ap (all_live (kept c.args.work.now)) items ∙ all-snoc c.args.work.now c.loop-turn.drawn.ids c.draw-id.result c.loop-turn.invariant.all (sym c.is_live.ensures ∙ c.if-not-is_live.false);
       drew =
           subst (λ (ds : List TransactionId). Drew start end ds) (sym items)
           (Drew-append start mid end c.loop-turn.drawn.ids (c.draw-id.result ∷ []) c.loop-turn.invariant.drew (Drew-one mid end c.draw-id.result c.draw-id.ensures.drawn c.draw-id.ensures.rest));

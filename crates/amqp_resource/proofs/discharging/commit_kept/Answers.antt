@@ -1,6 +1,6 @@
 use Rattle.std.proofs.Common.{refl}
 use Rattle.amqp_resource.specs.Held.{SameHeld}
-use Rattle.amqp_resource.proofs.Keeping.{fits-discharged}
+use Rattle.amqp_resource.proofs.Fitting.{fits-discharged}
 use Rattle.amqp_resource.proofs.Moved.{committed_moved}
 use Rattle.amqp_resource.proofs.discharging.commit_kept.Given.{Over}
 use Rattle.amqp_resource.proofs.discharging.commit_kept.Goals as goal

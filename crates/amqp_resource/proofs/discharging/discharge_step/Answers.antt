@@ -1,13 +1,8 @@
-use Rattle.std.proofs.Common.{◌≡◌, ℕ, true, map, List, Result, Ok, Err, ap, sym, subst, ◌∙◌, refl}
+use Rattle.std.proofs.Common.{◌≡◌, ℕ, map, List, Result, Ok, Err, ap, sym, subst, ◌∙◌}
 use Rattle.std.specs.Option.{option_map}
 use Rattle.amqp_arrivals.specs.Live.{frames_kept, home_of, kept}
-use Rattle.amqp_ids.specs.Drawn.{DrawnIds}
-use Rattle.amqp_record.specs.declared.reply.Reply.TheVariants as replies
-use Rattle.amqp_record.specs.declared.reply.RejectText.TheVariants as texts
-use Rattle.amqp_record.specs.declared.step.Step.TheVariants as steps
-use Rattle.amqp_resource.specs.Held.{is_kept_on}
-use Rattle.amqp_resource.proofs.Going.{fault_goes, answered-absent, answered-rollback, answered-commit, answered-veto, not_held, held_here}
-use Rattle.amqp_resource.proofs.Keeping.{keeps-discharged, keeps-fault, keeps-rejected, keeps-vetoed, same_held}
+use Rattle.amqp_resource.proofs.Keeping.{held_here, here-absent, here-rolled_back, keeps-committed, keeps-vetoed, leaves-fault}
+use Rattle.amqp_resource.proofs.Leaving.{commit_calls, leaves-here}
 use Rattle.amqp_txn_types.specs.Frames.{stripped}
 use Rattle.amqp_txn_types.specs.declared.small.TransactionError.{TransactionError}
 use Rattle.amqp_layer.specs.declared.answers.Answers.{Answers}
@@ -15,7 +10,6 @@ use Rattle.amqp_resource.specs.Transacting.{CommittedWith}
 use Rattle.amqp_resource.specs.Committing.{HandsAll}
 use Rattle.amqp_resource.specs.Looking.{Pays}
 use Rattle.amqp_resource.proofs.Looked.{ends_discharged, pays_none}
-use Rattle.amqp_resource.proofs.Parts.{commit_calls, no_call_holds, surely_commit}
 use Rattle.amqp_resource.proofs.discharging.discharge_step.Goals as goal
 
 pub drop_work-requires : goal.drop_work-requires
@@ -24,120 +18,69 @@ drop_work-requires g c = ap (option_map home_of) (held_here c.args.held.now c.ar
 pub commit_live-requires : goal.commit_live-requires
 commit_live-requires g c = ap (option_map home_of) (held_here c.args.held.now c.args.discharge.txn_id c.args.link (sym c.is_declared_on.ensures ∙ c.if-not-is_declared_on.false))
 
-pub returns-then-not-is_declared_on-clause-goes : goal.returns-then-not-is_declared_on-clause-goes
-returns-then-not-is_declared_on-clause-goes g c r s =
-    rw (c.no_draws.ensures, c.rejected.ensures) (answered-absent c.args.held.now r c.args.link c.args.payload.now c.args.discharge (g.S.Tells.told c.args.below.now) c.requires.message c.requires.opened s
-    (not_held c.args.held.now r c.args.link c.args.discharge.txn_id s (sym c.is_declared_on.ensures ∙ c.if-not-is_declared_on.true)))
+pub returns-then-not-is_declared_on-clause-leaves : goal.returns-then-not-is_declared_on-clause-leaves
+returns-then-not-is_declared_on-clause-leaves g c =
+    rw c.rejected.ensures (leaves-here _ _ _ _ _ _ _ (here-absent c.args.held.now c.args.link c.args.payload.now c.args.discharge _ c.no_draws.ensures c.requires.message c.requires.opened
+    (sym c.is_declared_on.ensures ∙ c.if-not-is_declared_on.true)))
 
-pub returns-then-rolls_back-clause-goes : goal.returns-then-rolls_back-clause-goes
-returns-then-rolls_back-clause-goes g c r s =
+pub returns-then-rolls_back-clause-leaves : goal.returns-then-rolls_back-clause-leaves
+returns-then-rolls_back-clause-leaves g c =
     let ended = c.drop_work.ensures in
-    let here : is_kept_on c.args.link (kept c.args.held.now.work c.args.discharge.txn_id) ≡ true = sym c.is_declared_on.ensures ∙ c.if-not-is_declared_on.false in
-    rw (c.no_draws-then-rolls_back.ensures, c.new.ensures)
-    (answered-rollback c.args.held.now c.drop_work.new.held r c.args.link c.args.payload.now c.args.discharge _ (g.S.Tells.told c.args.below.now) c.requires.message
-    (sym c.rolls_back.ensures ∙ c.if-rolls_back.true) c.requires.opened s
-    (held_here c.args.held.now c.args.discharge.txn_id c.args.link here)
-    (record { live = ended.rest; links = ended.links; tied = ended.tied; opened = ended.opened }))
+    rw c.new.ensures (leaves-here _ _ _ _ _ _ _ (here-rolled_back c.args.held.now c.drop_work.new.held c.args.link c.args.payload.now c.args.discharge _ c.no_draws-then-rolls_back.ensures c.requires.message
+    (sym c.rolls_back.ensures ∙ c.if-rolls_back.true) c.requires.opened
+    (sym c.is_declared_on.ensures ∙ c.if-not-is_declared_on.false)
+    (record { live = ended.rest; links = ended.links; tied = ended.tied; opened = ended.opened })))
 
-pub returns-in-Ok-Ok-clause-goes : goal.returns-in-Ok-Ok-clause-goes
-returns-in-Ok-Ok-clause-goes g c r s =
+pub returns-in-Ok-Ok-clause-leaves : goal.returns-in-Ok-Ok-clause-leaves
+returns-in-Ok-Ok-clause-leaves g c =
     let P : Result (List Answers) TransactionError → Type 0 = λ answer. CommittedWith c.args.held.now c.commit_live.new.held (g.S.Tells.told c.args.below.now) (g.S.Tells.told c.commit_live.new.below) c.args.discharge.txn_id (frames_kept (kept c.args.held.now.work c.args.discharge.txn_id)) (c.commit_live.new.below ≡ c.args.below.now) (Ok answer) in
     let committed : P (Ok c.in-Ok-Ok.echoes) = subst P c.in-Ok-Ok.field-0-is c.in-Ok-Ok.ensures.answer in
-    let here : is_kept_on c.args.link (kept c.args.held.now.work c.args.discharge.txn_id) ≡ true = sym c.is_declared_on.ensures ∙ c.if-not-is_declared_on.false in
-    rw c.no_draws-in-Ok-Ok.ensures
-    (answered-commit c.args.held.now c.commit_live.new.held r c.args.link c.args.payload.now c.args.discharge _ c.in-Ok-Ok.echoes (g.S.Tells.told c.args.below.now) (g.S.Tells.told c.commit_live.new.below) c.requires.message
-    (sym c.rolls_back.ensures ∙ c.if-rolls_back.false) c.requires.opened s
-    (held_here c.args.held.now c.args.discharge.txn_id c.args.link here) committed.0 committed.1)
+    record {
+      keeps = λ f. keeps-committed c.args.held.now c.commit_live.new.held (g.S.Tells.told c.args.below.now) (g.S.Tells.told c.commit_live.new.below) c.args.link c.args.payload.now c.args.discharge _ c.in-Ok-Ok.echoes c.no_draws-in-Ok-Ok.ensures c.requires.message
+          (sym c.rolls_back.ensures ∙ c.if-rolls_back.false) c.requires.opened
+          (sym c.is_declared_on.ensures ∙ c.if-not-is_declared_on.false)
+          committed.0 committed.1 f;
+      cause = (tt, tt);
+      surely = tt;
+      ended = tt;
+      same = tt;
+      untouched = commit_calls c.args.link c.args.payload.now c.args.discharge c.no_draws-in-Ok-Ok.result c.in-Ok-Ok.echoes _ c.requires.message (sym c.rolls_back.ensures ∙ c.if-rolls_back.false);
+      fixed = c.in-Ok-Ok.ensures.fixed;
+      later = c.in-Ok-Ok.ensures.later;
+      counted = c.in-Ok-Ok.ensures.counted;
+    }
 
-pub returns-in-Ok-Err-clause-goes : goal.returns-in-Ok-Err-clause-goes
-returns-in-Ok-Err-clause-goes g c r s =
+pub returns-in-Ok-Err-clause-leaves : goal.returns-in-Ok-Err-clause-leaves
+returns-in-Ok-Err-clause-leaves g c =
     let P : Result (List Answers) TransactionError → Type 0 = λ answer. CommittedWith c.args.held.now c.commit_live.new.held (g.S.Tells.told c.args.below.now) (g.S.Tells.told c.commit_live.new.below) c.args.discharge.txn_id (frames_kept (kept c.args.held.now.work c.args.discharge.txn_id)) (c.commit_live.new.below ≡ c.args.below.now) (Ok answer) in
     let committed : P (Err c.in-Ok-Err.error) = subst P c.in-Ok-Err.field-0-is c.in-Ok-Err.ensures.answer in
     let is = committed.1.handed.0 in
-    let here : is_kept_on c.args.link (kept c.args.held.now.work c.args.discharge.txn_id) ≡ true = sym c.is_declared_on.ensures ∙ c.if-not-is_declared_on.false in
-    rw (c.no_draws-in-Ok-Err.ensures, c.rejected-in-Ok-Err.ensures, is)
-    (answered-veto c.args.held.now c.commit_live.new.held r c.args.link c.args.payload.now c.args.discharge _ (g.S.Tells.told c.args.below.now) (g.S.Tells.told c.commit_live.new.below) c.requires.message
-    (sym c.rolls_back.ensures ∙ c.if-rolls_back.false) c.requires.opened s
-    (held_here c.args.held.now c.args.discharge.txn_id c.args.link here) committed.0 (subst (λ (e : TransactionError). HandsAll (g.S.Tells.told c.args.below.now) (g.S.Tells.told c.commit_live.new.below) (map stripped (frames_kept (kept c.args.held.now.work c.args.discharge.txn_id))) (Ok (Err e))) is committed.1))
+    rw (c.rejected-in-Ok-Err.ensures, is) (record {
+      keeps = λ f. keeps-vetoed c.args.held.now c.commit_live.new.held (g.S.Tells.told c.args.below.now) (g.S.Tells.told c.commit_live.new.below) c.args.link c.args.payload.now c.args.discharge _ c.no_draws-in-Ok-Err.ensures c.requires.message
+          (sym c.rolls_back.ensures ∙ c.if-rolls_back.false) c.requires.opened
+          (sym c.is_declared_on.ensures ∙ c.if-not-is_declared_on.false)
+          committed.0 (subst (λ (e : TransactionError). HandsAll (g.S.Tells.told c.args.below.now) (g.S.Tells.told c.commit_live.new.below) (map stripped (frames_kept (kept c.args.held.now.work c.args.discharge.txn_id))) (Ok (Err e))) is committed.1) f;
+      cause = (tt, committed.1.cause);
+      surely = tt;
+      ended = tt;
+      same = tt;
+      untouched = tt;
+      fixed = c.in-Ok-Err.ensures.fixed;
+      later = c.in-Ok-Err.ensures.later;
+      counted = c.in-Ok-Err.ensures.counted;
+    })
 
-pub returns-in-Ok-Err-clause-keeps : goal.returns-in-Ok-Err-clause-keeps
-returns-in-Ok-Err-clause-keeps g c f =
-    let P : Result (List Answers) TransactionError → Type 0 = λ answer. CommittedWith c.args.held.now c.commit_live.new.held (g.S.Tells.told c.args.below.now) (g.S.Tells.told c.commit_live.new.below) c.args.discharge.txn_id (frames_kept (kept c.args.held.now.work c.args.discharge.txn_id)) (c.commit_live.new.below ≡ c.args.below.now) (Ok answer) in
-    let committed : P (Err c.in-Ok-Err.error) = subst P c.in-Ok-Err.field-0-is c.in-Ok-Err.ensures.answer in
-    let is = committed.1.handed.0 in
-    rw (c.rejected-in-Ok-Err.ensures, is)
-    (keeps-vetoed c.args.held.now c.commit_live.new.held (g.S.Tells.told c.args.below.now) (g.S.Tells.told c.commit_live.new.below) c.args.link c.args.payload.now c.args.discharge _ c.no_draws-in-Ok-Err.ensures c.requires.message
+pub returns-in-Err-clause-leaves : goal.returns-in-Err-clause-leaves
+returns-in-Err-clause-leaves g c =
+    rw c.step_error_of.ensures (leaves-fault g.S.Tells.told g.S.LayerBelow.sure c.args.held.now c.commit_live.new.held c.args.below.now c.commit_live.new.below c.args.link c.args.payload.now c.args.discharge c.in-Err.fault c.requires.message
     (sym c.rolls_back.ensures ∙ c.if-rolls_back.false) c.requires.opened
     (sym c.is_declared_on.ensures ∙ c.if-not-is_declared_on.false)
-    committed.0 (subst (λ (e : TransactionError). HandsAll (g.S.Tells.told c.args.below.now) (g.S.Tells.told c.commit_live.new.below) (map stripped (frames_kept (kept c.args.held.now.work c.args.discharge.txn_id))) (Ok (Err e))) is committed.1) f)
-
-pub returns-in-Ok-Err-clause-cause : goal.returns-in-Ok-Err-clause-cause
-returns-in-Ok-Err-clause-cause g c =
-    let P : Result (List Answers) TransactionError → Type 0 = λ answer. CommittedWith c.args.held.now c.commit_live.new.held (g.S.Tells.told c.args.below.now) (g.S.Tells.told c.commit_live.new.below) c.args.discharge.txn_id (frames_kept (kept c.args.held.now.work c.args.discharge.txn_id)) (c.commit_live.new.below ≡ c.args.below.now) (Ok answer) in
-    let committed : P (Err c.in-Ok-Err.error) = subst P c.in-Ok-Err.field-0-is c.in-Ok-Err.ensures.answer in
-    rw (c.rejected-in-Ok-Err.ensures, committed.1.handed.0) (tt, committed.1.cause)
-
-pub returns-in-Ok-Err-clause-untouched : goal.returns-in-Ok-Err-clause-untouched
-returns-in-Ok-Err-clause-untouched g c =
-    let P : Result (List Answers) TransactionError → Type 0 = λ answer. CommittedWith c.args.held.now c.commit_live.new.held (g.S.Tells.told c.args.below.now) (g.S.Tells.told c.commit_live.new.below) c.args.discharge.txn_id (frames_kept (kept c.args.held.now.work c.args.discharge.txn_id)) (c.commit_live.new.below ≡ c.args.below.now) (Ok answer) in
-    let committed : P (Err c.in-Ok-Err.error) = subst P c.in-Ok-Err.field-0-is c.in-Ok-Err.ensures.answer in
-    rw (c.rejected-in-Ok-Err.ensures, committed.1.handed.0) tt
+    c.in-Err.ensures.answer c.in-Err.ensures.surely c.in-Err.ensures.fixed c.in-Err.ensures.later c.in-Err.ensures.counted)
 
 pub returns-in-Ok-Err-clause-pays : goal.returns-in-Ok-Err-clause-pays
 returns-in-Ok-Err-clause-pays g c =
     subst (λ (n : ℕ). Pays c.args.held.now.work c.commit_live.new.held.work c.args.looks.now c.commit_live.new.looks n 0)
     (ends_discharged c.args.held.now c.args.link c.args.payload.now c.args.discharge c.requires.message c.requires.opened (sym c.is_declared_on.ensures ∙ c.if-not-is_declared_on.false)) c.in-Ok-Err.ensures.pays
-
-pub returns-in-Err-clause-surely : goal.returns-in-Err-clause-surely
-returns-in-Err-clause-surely g c = rw c.step_error_of.ensures (surely_commit g.S.LayerBelow.sure c.args.link c.args.payload.now c.in-Err.fault c.in-Err.ensures.surely)
-
-pub returns-in-Err-clause-goes : goal.returns-in-Err-clause-goes
-returns-in-Err-clause-goes g c r s =
-    let here : is_kept_on c.args.link (kept c.args.held.now.work c.args.discharge.txn_id) ≡ true = sym c.is_declared_on.ensures ∙ c.if-not-is_declared_on.false in
-    rw c.step_error_of.ensures
-    (fault_goes c.args.held.now c.commit_live.new.held (g.S.Tells.told c.args.below.now) (g.S.Tells.told c.commit_live.new.below) r c.args.link c.args.payload.now c.args.discharge _ _ c.in-Err.fault c.requires.message
-    (sym c.rolls_back.ensures ∙ c.if-rolls_back.false) c.requires.opened s
-    (held_here c.args.held.now c.args.discharge.txn_id c.args.link here) c.in-Err.ensures.answer)
-
-pub returns-then-not-is_declared_on-clause-keeps : goal.returns-then-not-is_declared_on-clause-keeps
-returns-then-not-is_declared_on-clause-keeps g c f =
-    rw c.rejected.ensures (keeps-rejected c.args.held.now c.args.held.now _ c.args.link c.args.payload.now _ _ texts.Absent c.requires.message c.requires.opened
-    (sym c.is_declared_on.ensures ∙ c.if-not-is_declared_on.true, ap (λ (x : DrawnIds). x.ids) c.no_draws.ensures) (same_held c.args.held.now) f)
-
-pub returns-then-rolls_back-clause-keeps : goal.returns-then-rolls_back-clause-keeps
-returns-then-rolls_back-clause-keeps g c f =
-    let ended = c.drop_work.ensures in
-    rw c.new.ensures (keeps-discharged c.args.held.now c.drop_work.new.held _ _ c.args.link c.args.payload.now c.args.discharge _ _ _ c.no_draws-then-rolls_back.ensures c.requires.message
-    (sym c.rolls_back.ensures ∙ c.if-rolls_back.true) c.requires.opened
-    (sym c.is_declared_on.ensures ∙ c.if-not-is_declared_on.false)
-    (record { live = ended.rest; links = ended.links; tied = ended.tied; opened = ended.opened }) (refl, refl) f)
-
-pub returns-in-Ok-Ok-clause-keeps : goal.returns-in-Ok-Ok-clause-keeps
-returns-in-Ok-Ok-clause-keeps g c f =
-    let P : Result (List Answers) TransactionError → Type 0 = λ answer. CommittedWith c.args.held.now c.commit_live.new.held (g.S.Tells.told c.args.below.now) (g.S.Tells.told c.commit_live.new.below) c.args.discharge.txn_id (frames_kept (kept c.args.held.now.work c.args.discharge.txn_id)) (c.commit_live.new.below ≡ c.args.below.now) (Ok answer) in
-    let committed : P (Ok c.in-Ok-Ok.echoes) = subst P c.in-Ok-Ok.field-0-is c.in-Ok-Ok.ensures.answer in
-    keeps-discharged c.args.held.now c.commit_live.new.held (g.S.Tells.told c.args.below.now) (g.S.Tells.told c.commit_live.new.below) c.args.link c.args.payload.now c.args.discharge _ _ c.in-Ok-Ok.echoes c.no_draws-in-Ok-Ok.ensures c.requires.message
-    (sym c.rolls_back.ensures ∙ c.if-rolls_back.false) c.requires.opened
-    (sym c.is_declared_on.ensures ∙ c.if-not-is_declared_on.false)
-    committed.0 committed.1 f
-
-pub returns-in-Err-clause-keeps : goal.returns-in-Err-clause-keeps
-returns-in-Err-clause-keeps g c f =
-    rw c.step_error_of.ensures (keeps-fault c.args.held.now c.commit_live.new.held (g.S.Tells.told c.args.below.now) (g.S.Tells.told c.commit_live.new.below) c.args.link c.args.payload.now c.args.discharge _ c.in-Err.fault c.requires.message
-    (sym c.rolls_back.ensures ∙ c.if-rolls_back.false) c.requires.opened
-    (sym c.is_declared_on.ensures ∙ c.if-not-is_declared_on.false)
-    c.in-Err.ensures.answer f)
-
-pub returns-then-not-is_declared_on-clause-untouched : goal.returns-then-not-is_declared_on-clause-untouched
-returns-then-not-is_declared_on-clause-untouched g c = no_call_holds (steps.Control c.args.link c.args.payload.now) (Ok (c.no_draws.result, c.rejected.result)) (c.args.below.now ≡ c.args.below.now) refl
-
-pub returns-then-rolls_back-clause-untouched : goal.returns-then-rolls_back-clause-untouched
-returns-then-rolls_back-clause-untouched g c = no_call_holds (steps.Control c.args.link c.args.payload.now) (Ok (c.no_draws-then-rolls_back.result, replies.Accepted c.new.result)) (c.args.below.now ≡ c.args.below.now) refl
-
-pub returns-in-Ok-Ok-clause-untouched : goal.returns-in-Ok-Ok-clause-untouched
-returns-in-Ok-Ok-clause-untouched g c =
-    commit_calls c.args.link c.args.payload.now c.args.discharge c.no_draws-in-Ok-Ok.result c.in-Ok-Ok.echoes _ c.requires.message
-    (sym c.rolls_back.ensures ∙ c.if-rolls_back.false)
 
 pub returns-then-not-is_declared_on-clause-pays : goal.returns-then-not-is_declared_on-clause-pays
 returns-then-not-is_declared_on-clause-pays g c = pays_none _ _ _ _

@@ -1,6 +1,6 @@
 use Rattle.std.proofs.Common.{refl}
 use Rattle.amqp_resource.specs.Held.{SameHeld}
-use Rattle.amqp_resource.proofs.Keeping.{fits-rolled_back}
+use Rattle.amqp_resource.proofs.Fitting.{fits-rolled_back}
 use Rattle.amqp_resource.proofs.Moved.{rolled_back_moved}
 use Rattle.amqp_resource.proofs.discharging.roll_back_kept.Given.{Over}
 use Rattle.amqp_resource.proofs.discharging.roll_back_kept.Goals as goal

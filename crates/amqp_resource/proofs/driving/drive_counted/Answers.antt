@@ -7,8 +7,8 @@ use Rattle.amqp_resource.specs.Steps.{entry_of}
 use Rattle.amqp_resource.specs.Session.{held_of, below_of, stop_of}
 use Rattle.amqp_resource.specs.Drive.{Left, work_count}
 use Rattle.amqp_resource.proofs.Filling.{filled_all, filled_more, left_at, same_at, steps_filled, steps_waiting}
-use Rattle.amqp_resource.proofs.Going.{emptied}
-use Rattle.amqp_resource.proofs.Keeping.{fits-stands}
+use Rattle.amqp_resource.proofs.Standing.{emptied}
+use Rattle.amqp_resource.proofs.Fitting.{fits-stands}
 use Rattle.amqp_resource.proofs.Looked.{step_spends, work_more}
 use Rattle.amqp_resource.proofs.Parts.{end_is, no_call_weaker}
 use Rattle.amqp_resource.proofs.Running.{Broke, broke_cause, broke_ended, broke_refused, broke_surely, broke_took, broke_unknown, failed, ran-more, ran-nil, steps-first, stops_by}
@@ -45,12 +45,7 @@ loop-at-preserved g c =
       runs = said.stops runs;
       ran = rw more (ran-more _ _ _ _ _ _ (held_of c.loop-at.session) (held_of c.step_counted.new.self) r old.step c.in-Ok.drawn c.in-Ok.reply c.loop-at.invariant.ran
           (record {
-            stands = said.stands runs r stands;
-            taken = said.taken runs r stands;
-            opened = said.opened runs r stands;
-            refused = said.refused runs r stands;
-            vetoed = said.vetoed runs r stands;
-            attach = said.attach_refused runs r stands;
+            by = said.by_record runs r stands;
             veto = said.veto_rose;
             later = said.later;
             counted = said.counted;
@@ -64,27 +59,20 @@ loop-at-preserved g c =
     }
 
 -- what the step that stopped the run leaves
-broke : (g : Over) (c : goal.After-driven g) → Broke g.S.LayerBelow.sure (held_of c.step_counted.new.self) (g.S.Tells.told (below_of c.loop-at.session)) (g.S.Tells.told (below_of c.step_counted.new.self)) (take c.loop-at.at c.loop-at.entries.items) c.index.result.now.step c.in-Err.error (stop_of c.step_counted.new.self)
+broke : (g : Over) (c : goal.After-driven g) → Broke (g.G.IdSource.next c.loop-at.ids) g.S.LayerBelow.sure (held_of c.step_counted.new.self) (g.S.Tells.told (below_of c.loop-at.session)) (g.S.Tells.told (below_of c.step_counted.new.self)) (take c.loop-at.at c.loop-at.entries.items) c.index.result.now.step c.in-Err.error (stop_of c.step_counted.new.self)
 broke g c =
     let r : List Entry = take c.loop-at.at c.loop-at.entries.items in
     let runs = c.loop-at.invariant.runs in
     let stands = c.loop-at.invariant.ran.stands in
     let said = c.in-Err.ensures.says in
     record {
+      by = said.by_record runs r stands;
       first = said.runs runs;
-      handed = said.handed runs r stands;
-      opened = said.opened_none runs r stands;
-      refused = said.refused_last runs r stands;
-      unknown = said.unknown runs r stands;
-      unknown_only = said.unknown_only runs r stands;
-      refusal = said.refusal runs r stands;
       surely = said.surely;
-      vetoed = said.vetoed_none runs r stands;
       counted = said.counted;
       rose = said.refusal_rose;
       ended = λ reason is. end_is _ _ reason (said.ended runs) is;
       ended_only = said.ended_only;
-      memory = said.memory runs r stands;
       own = no_call_weaker c.index.result.now.step (failed c.in-Err.error) (below_of c.step_counted.new.self ≡ below_of c.loop-at.session) _ (ap g.S.Tells.told) said.untouched;
       later = said.later;
       fixed = said.fixed;

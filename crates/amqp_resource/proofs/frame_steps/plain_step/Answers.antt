@@ -1,39 +1,27 @@
 use Rattle.std.proofs.Common.{ap, subst, ◌∙◌, zero-add, Ok, Err}
 use Rattle.amqp_txn_types.specs.declared.performatives.Frame.{Frame}
-use Rattle.amqp_record.specs.declared.step.Step.TheVariants as steps
 use Rattle.amqp_layer.specs.Taking.{TakesFrame}
 use Rattle.amqp_resource.specs.Steps.{fault_of}
-use Rattle.amqp_resource.proofs.Going.{answered-plain, refused-plain, refused_gives}
-use Rattle.amqp_resource.proofs.Keeping.{keeps-plain, keeps-plain_refused, keeps-plain_wanting}
+use Rattle.amqp_resource.proofs.Keeping.{here-plain_wanting, keeps-plain, keeps-plain_refused, when_known}
+use Rattle.amqp_resource.proofs.Leaving.{leaves-frame, leaves-here}
 use Rattle.amqp_resource.proofs.frame_steps.plain_step.Goals as goal
 
-pub returns-in-Ok-take_frame-clause-goes : goal.returns-in-Ok-take_frame-clause-goes
-returns-in-Ok-take_frame-clause-goes g c r s =
+pub returns-in_default-clause-leaves : goal.returns-in_default-clause-leaves
+returns-in_default-clause-leaves g c = leaves-here _ _ _ _ _ _ _ (here-plain_wanting c.args.held.now c.args.frame.now c.requires)
+
+pub returns-in-Ok-take_frame-clause-leaves : goal.returns-in-Ok-take_frame-clause-leaves
+returns-in-Ok-take_frame-clause-leaves g c =
     let old = g.S.Tells.told c.args.below.now in
     let new = g.S.Tells.told c.take_frame.new.below in
-    rw c.no_draws.ensures (answered-plain c.args.held.now r c.args.frame.now c.in-Ok-take_frame.answers old new c.requires s
-    (subst (λ (f : Frame). TakesFrame old new f (Ok c.in-Ok-take_frame.answers)) c.in-Ok.ensures.copy c.in-Ok-take_frame.ensures.told))
+    let takes : TakesFrame old new c.args.frame.now (Ok c.in-Ok-take_frame.answers) = subst (λ (f : Frame). TakesFrame old new f (Ok c.in-Ok-take_frame.answers)) c.in-Ok.ensures.copy c.in-Ok-take_frame.ensures.told in
+    leaves-frame _ _ _ _ c.args.below.now c.take_frame.new.below c.args.frame.now _ (λ f. keeps-plain c.args.held.now old new c.args.frame.now _ c.in-Ok-take_frame.answers c.no_draws.ensures c.requires takes f)
+    (tt, tt) tt tt takes.fixed takes.later takes.reviews
 
-pub returns-in-Err-clause-goes : goal.returns-in-Err-clause-goes
-returns-in-Err-clause-goes g c r s =
+pub returns-in-Err-clause-leaves : goal.returns-in-Err-clause-leaves
+returns-in-Err-clause-leaves g c =
     let old = g.S.Tells.told c.args.below.now in
     let new = g.S.Tells.told c.take_frame.new.below in
-    rw (c.handed_with-refused.ensures.handed ∙ zero-add _) (refused_gives c.args.held.now old new r (steps.Frame c.args.frame.now) c.fault_of.result c.in-Err.refusal.error _ c.fault_of.ensures.known (c.fault_of.ensures.fault ∙ ap fault_of c.handed_with-refused.ensures.error)
-    (refused-plain r c.args.frame.now c.in-Err.refusal old new c.requires (subst (λ (f : Frame). TakesFrame old new f (Err c.in-Err.refusal)) c.in-Ok.ensures.copy c.in-Err.ensures.told)))
-
-pub returns-in_default-clause-keeps : goal.returns-in_default-clause-keeps
-returns-in_default-clause-keeps g c f = keeps-plain_wanting c.args.held.now _ _ c.args.frame.now c.requires f
-
-pub returns-in-Ok-take_frame-clause-keeps : goal.returns-in-Ok-take_frame-clause-keeps
-returns-in-Ok-take_frame-clause-keeps g c f =
-    let old = g.S.Tells.told c.args.below.now in
-    let new = g.S.Tells.told c.take_frame.new.below in
-    keeps-plain c.args.held.now old new c.args.frame.now _ c.in-Ok-take_frame.answers c.no_draws.ensures c.requires
-    (subst (λ (f : Frame). TakesFrame old new f (Ok c.in-Ok-take_frame.answers)) c.in-Ok.ensures.copy c.in-Ok-take_frame.ensures.told) f
-
-pub returns-in-Err-clause-keeps : goal.returns-in-Err-clause-keeps
-returns-in-Err-clause-keeps g c f =
-    let old = g.S.Tells.told c.args.below.now in
-    let new = g.S.Tells.told c.take_frame.new.below in
-    keeps-plain_refused c.args.held.now old new c.args.frame.now c.in-Err.refusal c.fault_of.result _ c.requires c.fault_of.ensures.known (c.fault_of.ensures.fault ∙ ap fault_of c.handed_with-refused.ensures.error) (c.handed_with-refused.ensures.handed ∙ zero-add _)
-    (subst (λ (f : Frame). TakesFrame old new f (Err c.in-Err.refusal)) c.in-Ok.ensures.copy c.in-Err.ensures.told) f
+    let takes : TakesFrame old new c.args.frame.now (Err c.in-Err.refusal) = subst (λ (f : Frame). TakesFrame old new f (Err c.in-Err.refusal)) c.in-Ok.ensures.copy c.in-Err.ensures.told in
+    let known = c.fault_of.ensures.known in
+    leaves-frame _ _ _ _ c.args.below.now c.take_frame.new.below c.args.frame.now _ (λ f. keeps-plain_refused c.args.held.now old new c.args.frame.now c.in-Err.refusal c.fault_of.result _ c.requires known (c.fault_of.ensures.fault ∙ ap fault_of c.handed_with-refused.ensures.error) (c.handed_with-refused.ensures.handed ∙ zero-add _) takes f)
+    (when_known _ _ _ known takes.cause) tt (when_known _ _ _ known tt) takes.fixed takes.later takes.reviews

@@ -1,19 +1,13 @@
 use Rattle.std.proofs.Common.{ℕ, subst}
 use Rattle.amqp_resource.specs.Looking.{Pays}
 use Rattle.amqp_resource.proofs.Looked.{ends_closed}
-use Rattle.amqp_resource.proofs.Going.{answered-close}
-use Rattle.amqp_resource.proofs.Keeping.{keeps-closed}
+use Rattle.amqp_resource.proofs.Keeping.{here-closed}
 use Rattle.amqp_resource.proofs.link_steps.close_step.Goals as goal
 
-pub returns-clause-goes : goal.returns-clause-goes
-returns-clause-goes g c r s told =
+pub returns-clause-leaves : goal.returns-clause-leaves
+returns-clause-leaves g c =
     let ended = c.end_link.ensures in
-    rw c.no_draws.ensures (answered-close c.args.held.now c.end_link.new.held r c.args.link c.args.payload.now told c.requires.message c.requires.opened s (ended.tied s.tied) (ended.live s.tied) ended.links ended.opened)
-
-pub returns-clause-keeps : goal.returns-clause-keeps
-returns-clause-keeps g c told f =
-    let ended = c.end_link.ensures in
-    keeps-closed c.args.held.now c.end_link.new.held told c.args.link c.args.payload.now _ c.no_draws.ensures c.requires.message c.requires.opened ended.live ended.links ended.tied ended.opened f
+    here-closed c.args.held.now c.end_link.new.held c.args.link c.args.payload.now _ c.no_draws.ensures c.requires.message c.requires.opened ended.live ended.links ended.tied ended.opened
 
 pub returns-clause-pays : goal.returns-clause-pays
 returns-clause-pays g c =

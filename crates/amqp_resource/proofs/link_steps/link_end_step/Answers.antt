@@ -1,25 +1,15 @@
 use Rattle.std.proofs.Common.{sym, ◌∙◌}
-use Rattle.amqp_resource.proofs.Going.{answered-link_end, answered-no_link_end}
-use Rattle.amqp_resource.proofs.Keeping.{keeps-link_end, keeps-no_end}
+use Rattle.amqp_resource.proofs.Keeping.{here-link_end, here-no_end}
 use Rattle.amqp_resource.proofs.Looked.{pays_none}
 use Rattle.amqp_resource.proofs.link_steps.link_end_step.Goals as goal
 
-pub returns-then-not-has_link-clause-goes : goal.returns-then-not-has_link-clause-goes
-returns-then-not-has_link-clause-goes g c r s told =
-    rw c.no_draws.ensures (answered-no_link_end c.args.held.now r c.args.link told (sym c.has_link.ensures ∙ c.if-not-has_link.true) s)
+pub returns-then-not-has_link-clause-leaves : goal.returns-then-not-has_link-clause-leaves
+returns-then-not-has_link-clause-leaves g c = here-no_end c.args.held.now c.args.link _ c.no_draws.ensures (sym c.has_link.ensures ∙ c.if-not-has_link.true)
 
-pub returns-clause-goes : goal.returns-clause-goes
-returns-clause-goes g c r s told =
+pub returns-clause-leaves : goal.returns-clause-leaves
+returns-clause-leaves g c =
     let ended = c.end_link.ensures in
-    rw c.no_draws-2.ensures (answered-link_end c.args.held.now c.end_link.new.held r c.args.link told (sym c.has_link.ensures ∙ c.if-not-has_link.false) s (ended.tied s.tied) (ended.live s.tied) ended.links ended.opened)
-
-pub returns-then-not-has_link-clause-keeps : goal.returns-then-not-has_link-clause-keeps
-returns-then-not-has_link-clause-keeps g c told f = keeps-no_end c.args.held.now told c.args.link _ c.no_draws.ensures (sym c.has_link.ensures ∙ c.if-not-has_link.true) f
-
-pub returns-clause-keeps : goal.returns-clause-keeps
-returns-clause-keeps g c told f =
-    let ended = c.end_link.ensures in
-    keeps-link_end c.args.held.now c.end_link.new.held told c.args.link _ c.no_draws-2.ensures (sym c.has_link.ensures ∙ c.if-not-has_link.false) ended.live ended.links ended.tied ended.opened f
+    here-link_end c.args.held.now c.end_link.new.held c.args.link _ c.no_draws-2.ensures (sym c.has_link.ensures ∙ c.if-not-has_link.false) ended.live ended.links ended.tied ended.opened
 
 pub returns-then-not-has_link-clause-pays : goal.returns-then-not-has_link-clause-pays
 returns-then-not-has_link-clause-pays g c = pays_none _ _ _ _

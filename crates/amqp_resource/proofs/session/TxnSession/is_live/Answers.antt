@@ -1,6 +1,6 @@
 use Rattle.std.proofs.Common.{◌∙◌}
 use Rattle.amqp_resource.specs.Session.{held_of}
-use Rattle.amqp_resource.proofs.Going.{kept_live}
+use Rattle.amqp_resource.proofs.Standing.{kept_live}
 use Rattle.amqp_resource.proofs.session.TxnSession.is_live.Goals as goal
 
 pub returns-clause-as_record : goal.returns-clause-as_record

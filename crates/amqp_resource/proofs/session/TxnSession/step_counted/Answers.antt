@@ -1,7 +1,8 @@
-use Rattle.std.proofs.Common.{ap, arith, refl, rules}
+use Rattle.std.proofs.Common.{arith, refl, rules}
 use Rattle.std.proofs.lemmas.Grind.{common_steps}
-use Rattle.amqp_resource.proofs.Parts.{step_answer, step_stands, step_taken, step_part, step_opened, opened_none, step_refused, step_last, step_unknown, step_unknown_only, step_cause, step_vetoed, vetoed_none, step_attach, step_memory, cause_attach, cause_rose, cause_veto, cause_ended, cause_first, no_call_weaker}
-use Rattle.amqp_resource.proofs.Complete.{complete, drew_next}
+use Rattle.amqp_resource.proofs.Parts.{step_unknown, cause_attach, cause_rose, cause_veto, cause_ended, cause_first}
+use Rattle.amqp_resource.proofs.Complete.{drew_next}
+use Rattle.amqp_resource.proofs.Saying.{step_records}
 use Rattle.amqp_resource.proofs.session.TxnSession.step_counted.Goals as goal
 
 -- a session that had stopped
@@ -9,28 +10,14 @@ pub returns-in-Some-clause-says : goal.returns-in-Some-clause-says
 returns-in-Some-clause-says g c = record {
   stopped = rw c.in-Some.is (refl, refl, refl);
   runs = λ e. cc (e, c.in-Some.is);
-  answer = λ e r s. cc (e, c.in-Some.is);
-  stands = λ e r s. cc (e, c.in-Some.is);
-  taken = λ e r s. cc (e, c.in-Some.is);
-  handed = λ e r s. cc (e, c.in-Some.is);
-  opened = λ e r s. cc (e, c.in-Some.is);
-  opened_none = λ e r s. cc (e, c.in-Some.is);
-  refused = λ e r s. cc (e, c.in-Some.is);
-  refused_last = λ e r s. cc (e, c.in-Some.is);
-  vetoed = λ e r s. cc (e, c.in-Some.is);
-  vetoed_none = λ e r s. cc (e, c.in-Some.is);
-  unknown = λ e r s. cc (e, c.in-Some.is);
-  unknown_only = λ e r s. cc (e, c.in-Some.is);
-  refusal = λ e r s. cc (e, c.in-Some.is);
+  by_record = λ e r s. cc (e, c.in-Some.is);
   surely = tt;
   refusal_rose = tt;
   veto_rose = tt;
   counted = omega arith;
-  attach_refused = λ e r s. cc (e, c.in-Some.is);
   ended = λ e. cc (e, c.in-Some.is);
   ended_only = tt;
   same = tt;
-  memory = λ e r s. cc (e, c.in-Some.is);
   untouched = refl;
   later = omega arith;
   fixed = refl;
@@ -44,7 +31,6 @@ returns-in-Some-clause-says g c = record {
   drew = tt;
   source = refl;
   start = refl;
-  complete = λ e r s n i. cc (e, c.in-Some.is);
 }
 
 pub returns-clause-says : goal.returns-clause-says
@@ -53,43 +39,28 @@ returns-clause-says g c =
     let new = g.S.Tells.told c.take_step-result.new.below in
     record {
       stopped = first_of (search rules, grind (arith, common_steps));
-      runs = λ e. cause_first old new _ _ c.take_step-result.ensures.cause;
-      answer = λ e r s. step_answer _ _ _ r _ _ (c.take_step-result.ensures.goes r s);
-      stands = λ e r s. step_stands _ _ _ r _ _ (c.take_step-result.ensures.goes r s);
-      taken = λ e r s. step_taken _ _ _ r _ _ (c.take_step-result.ensures.goes r s);
-      handed = λ e r s. step_part _ _ _ r _ _ (c.take_step-result.ensures.goes r s);
-      opened = λ e r s. step_opened _ _ _ r _ _ (c.take_step-result.ensures.goes r s);
-      opened_none = λ e r s. opened_none _ _ _ r _ _ (c.take_step-result.ensures.goes r s) (no_call_weaker _ _ _ _ (ap (λ b. (g.S.Tells.told b).opened)) c.take_step-result.ensures.untouched);
-      refused = λ e r s. step_refused _ _ _ r _ _ (c.take_step-result.ensures.goes r s);
-      refused_last = λ e r s. step_last _ _ _ r _ _ (c.take_step-result.ensures.goes r s);
-      vetoed = λ e r s. step_vetoed _ _ _ r _ _ (c.take_step-result.ensures.goes r s);
-      vetoed_none = λ e r s. vetoed_none _ _ _ r _ _ (c.take_step-result.ensures.goes r s) (no_call_weaker _ _ _ _ (ap (λ b. (g.S.Tells.told b).reviews.vetoed)) c.take_step-result.ensures.untouched);
-      unknown = λ e r s. step_unknown _ _ _ r _ _ (c.take_step-result.ensures.goes r s);
-      unknown_only = λ e r s. step_unknown_only _ _ _ r _ _ (c.take_step-result.ensures.goes r s);
-      refusal = λ e r s. step_cause _ _ _ r _ _ (c.take_step-result.ensures.goes r s);
-      surely = c.take_step-result.ensures.surely;
-      veto_rose = cause_veto old new _ _ c.take_step-result.ensures.cause;
-      counted = c.take_step-result.ensures.counted;
-      refusal_rose = cause_rose old new _ _ c.take_step-result.ensures.cause;
-      attach_refused = λ e r s. step_attach _ _ _ r _ _ (c.take_step-result.ensures.goes r s) c.take_step-result.ensures.cause;
-      ended = λ e. c.take_step-result.ensures.ended;
-      ended_only = cause_ended old new _ _ c.take_step-result.ensures.cause;
+      by_record = λ e r s. step_records _ _ _ _ c.args.self.now.below c.take_step-result.new.below r _ _ _ s c.take_step-result.ensures.leaves (drew_next _ _ _ c.take_step-result.ensures.draws.drew);
+      runs = λ e. cause_first old new _ _ c.take_step-result.ensures.leaves.cause;
+      surely = c.take_step-result.ensures.leaves.surely;
+      veto_rose = cause_veto old new _ _ c.take_step-result.ensures.leaves.cause;
+      counted = c.take_step-result.ensures.leaves.counted;
+      refusal_rose = cause_rose old new _ _ c.take_step-result.ensures.leaves.cause;
+      ended = λ e. c.take_step-result.ensures.leaves.ended;
+      ended_only = cause_ended old new _ _ c.take_step-result.ensures.leaves.cause;
       same = first_of (search rules, grind (arith, common_steps));
-      memory = λ e r s. step_memory _ _ _ r _ _ (c.take_step-result.ensures.goes r s);
-      untouched = c.take_step-result.ensures.untouched;
-      later = c.take_step-result.ensures.later;
-      fixed = c.take_step-result.ensures.fixed;
-      fits = λ f. let kept = c.take_step-result.ensures.keeps f in kept.fits;
-      keeps = λ e f. let kept = c.take_step-result.ensures.keeps f in kept.answer;
-      dead = λ e f u. let kept = c.take_step-result.ensures.keeps f in kept.unknown u;
-      attach_rose = cause_attach old new _ _ c.take_step-result.ensures.cause;
+      untouched = c.take_step-result.ensures.leaves.untouched;
+      later = c.take_step-result.ensures.leaves.later;
+      fixed = c.take_step-result.ensures.leaves.fixed;
+      fits = λ f. let kept = c.take_step-result.ensures.leaves.keeps f in kept.fits;
+      keeps = λ e f. let kept = c.take_step-result.ensures.leaves.keeps f in kept.answer;
+      dead = λ e f u. let kept = c.take_step-result.ensures.leaves.keeps f in step_unknown _ _ old new _ _ kept.answer u;
+      attach_rose = cause_attach old new _ _ c.take_step-result.ensures.leaves.cause;
       refusals = refl;
       vetoes = refl;
       stops = λ e. c.stop_after-self.ensures;
-      drew = c.take_step-result.ensures.drew;
-      source = c.take_step-result.ensures.source;
-      start = c.take_step-result.ensures.start;
-      complete = λ e r s n i. complete _ _ _ _ r _ n _ (c.take_step-result.ensures.goes r s) c.take_step-result.ensures.cause (drew_next _ _ _ c.take_step-result.ensures.drew) i;
+      drew = c.take_step-result.ensures.draws.drew;
+      source = c.take_step-result.ensures.draws.source;
+      start = c.take_step-result.ensures.draws.start;
     }
 
 pub returns-clause-looks : goal.returns-clause-looks

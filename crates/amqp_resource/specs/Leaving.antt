@@ -1,0 +1,46 @@
+-- What a step leaves, as each function of a step says it in one clause.
+use Rattle.std.specs.Prelude.{ℕ, Bool, ◌≡◌, ◌≤◌, Option, Result, IfOk, OnErr}
+use Rattle.amqp_txn_types.specs.declared.id.TransactionId.{TransactionId}
+use Rattle.amqp_ids.specs.Drawn.{DrawnIds}
+use Rattle.amqp_ids.specs.Ids.{Drew}
+use Rattle.amqp_layer.specs.Told.{Told}
+use Rattle.amqp_record.specs.declared.step.Step.{Step}
+use Rattle.amqp_record.specs.declared.reply.Reply.{Reply}
+use Rattle.amqp_record.specs.declared.stop.StepError.{StepError}
+use Rattle.amqp_resource.specs.declared.held.Held.{Held}
+use Rattle.amqp_resource.specs.Held.{SameHeld}
+use Rattle.amqp_resource.specs.Keeping.{Fits, Keeps}
+use Rattle.amqp_resource.specs.Steps.{AnswersEnd, IfRefused, OnNoCall, OnNoMemory, StepCause, StopsSurely, ended_by}
+
+-- a step over a layer that tells this, and is sure or not
+pub record StepLeaves {S : Type 0} (told : S → Told) (sure : Bool) (old new : Held) (below now : S)
+    (s : Step) (result : Result (DrawnIds × Reply) StepError) : Type 0 where
+  -- What is kept, and the answer by it; when each answer may come; and an end is answered with its
+  -- own value.
+  pub keeps : Fits old → Keeps old new (told below) (told now) s result
+  pub cause : StepCause (told below) (told now) s result
+  pub surely : IfRefused result (λ error handed. StopsSurely sure s handed)
+  pub ended : AnswersEnd (ended_by s) result
+  -- Want of memory changes nothing, and such an answer makes no call below.
+  pub same : OnNoMemory result (SameHeld old new)
+  pub untouched : OnNoCall s result (now ≡ below)
+  -- What no step changes below, and the counts that never fall.
+  pub fixed : (told now).fixed ≡ (told below).fixed
+  pub later : (told below).refusals ≤ (told now).refusals
+  pub counted : (told below).reviews.vetoes ≤ (told now).reviews.vetoes
+
+-- a step that makes no call below, whatever the layer there tells
+pub record LeavesHere (old new : Held) (s : Step) (result : Result (DrawnIds × Reply) StepError)
+    : Type 0 where
+  pub keeps : (told : Told) → Fits old → Keeps old new told told s result
+  pub cause : (told : Told) → StepCause told told s result
+  pub ended : AnswersEnd (ended_by s) result
+  pub same : OnNoMemory result (SameHeld old new)
+
+-- the ids that a step drew are the source's next ones, and every error leaves the source
+pub record StepDraws {G : Type 0} (next : G → ℕ → TransactionId)
+    (starts : G → Option (ℕ → TransactionId)) (before after : G)
+    (result : Result (DrawnIds × Reply) StepError) : Type 0 where
+  pub drew : IfOk result (λ out. Drew (next before) (next after) out.0.ids)
+  pub source : OnErr result (after ≡ before)
+  pub start : starts after ≡ starts before
