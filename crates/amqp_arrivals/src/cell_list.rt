@@ -69,6 +69,7 @@ impl CellList {
     }
 
     /// Takes what a live cell holds out of it, which is dead then: one look.
+    #[inline(always)]
     pub fn take<L: Ledger>(
         &mut self,
         place: usize,

@@ -165,6 +165,7 @@ impl LiveWork {
 
     /// Takes the first work of an id out: one look, and one dead cell more. `None` where nothing is
     /// kept for it, and then nothing changes. It takes no memory.
+    #[inline(always)]
     pub fn take_first<L: Ledger>(
         &mut self,
         txn_id: &TransactionId,

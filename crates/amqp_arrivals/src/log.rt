@@ -208,6 +208,7 @@ impl ArrivalLog {
 
     /// Takes the first work of an id out: one look. `None` where nothing is kept for it, and then
     /// nothing changes. It takes no memory.
+    #[inline(always)]
     pub fn take_first<L: Ledger>(
         &mut self,
         txn_id: &TransactionId,

@@ -7,6 +7,7 @@ use crate::layer::LayerBelow;
 use amqp_txn_types::{Frame, Frames};
 
 /// The frame through the incoming call of its kind, with that call's answer.
+#[inline(always)]
 pub fn on_incoming_frame<S: LayerBelow>(
     below: &mut S,
     frame: Frame,

@@ -65,6 +65,7 @@ fn window_after<S: LayerBelow>(below: &mut S, after_transfer: bool) -> Option<Fl
 
 /// The incoming call for the frame, a check of each disposition given back and, after a transfer,
 /// the session's window. It takes no memory of its own.
+#[inline(always)]
 pub fn take_frame<S: LayerBelow>(below: &mut S, frame: Frame) -> Result<Answers, TakeError>
     ensures told { TakesFrame (S.told below.old) (S.told below.new) frame result }
     ensures through { TakesThrough S.incoming_gives S.check_gives S.window_gives below.old below.new

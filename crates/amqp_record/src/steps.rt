@@ -34,6 +34,7 @@ impl Model for Steps {
 }
 
 /// The entry of a step that isn't answered yet.
+#[inline(always)]
 fn awaiting(alloc: Global, step: Step) -> Entry
     ensures { result ≡ awaiting step }
 {
@@ -95,6 +96,7 @@ impl Steps {
     }
 
     /// Appends the step. For want of memory the step comes back, and the list is as it was.
+    #[inline(always)]
     pub fn push(&mut self, step: Step) -> Result<(), (Step, NoMemory)>
         ensures ok { OnOk result (self.new ≡ self.old ++ step ∷ []) }
         ensures err { IfErr result (λ refused. (refused.0 ≡ step) × (self.new ≡ self.old)) }
@@ -109,6 +111,7 @@ impl Steps {
 
     /// Appends the step. For want of memory, the only error, the step is let go, and the list is as
     /// it was.
+    #[inline(always)]
     pub fn append(&mut self, step: Step) -> Result<(), NoMemory>
         ensures ok { OnOk result (self.new ≡ self.old ++ step ∷ []) }
         ensures err { OnErr result (self.new ≡ self.old) }

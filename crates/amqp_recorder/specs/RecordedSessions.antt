@@ -13,6 +13,7 @@ use Rattle.amqp_sessions.specs.Names.{LeftBy, Names, SameNames}
 use Rattle.amqp_sessions.specs.Sessions.{Kept, Leaves, LeavesFrame, LeavesOpening}
 use Rattle.amqp_txn_types.specs.declared.items.NoMemory.{NoMemory}
 use Rattle.amqp_layer.specs.declared.verdict.Verdict.{Verdict}
+use Rattle.amqp_layer.specs.declared.verdict.Verdict.TheVariants as verdicts
 use Rattle.amqp_recorder.specs.Vetoing.{RecordsReview}
 
 -- what a refusal leaves is what want of memory may leave
@@ -112,5 +113,8 @@ module _ {S : Type 0} (told : S → Told) (kept : S → Kept) (names : S → Nam
       kept = ap kept alone.untouched;
       names = names-same (inner_of old) (inner_of new) alone.untouched;
     }
-    | inr asked ↦ law (inner_of old) (inner_of new) list answer asked.inner.gave
+    | inr reached ↦ elim reached [
+      | inl asked ↦ law (inner_of old) (inner_of new) list answer asked.inner.gave
+      | inr vetoed ↦ law (inner_of old) (inner_of new) list (Ok verdicts.Veto) vetoed.inner.gave
+    ]
   ]

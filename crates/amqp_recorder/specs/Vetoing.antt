@@ -1,5 +1,5 @@
 -- What a recorder answers to a review, and the laws of what it takes after an Accept.
-use Rattle.std.specs.Prelude.{ℕ, ◌≡◌, ◌||◌, ◌⊎◌, Bool, true, false, Result, Ok, Err, List}
+use Rattle.std.specs.Prelude.{ℕ, ◌≡◌, ◌||◌, ◌⊎◌, Bool, true, false, Result, Ok, Err, IsErr, List}
 use Rattle.std.proofs.Common.{refl, ap, ◌∙◌}
 use Rattle.amqp_txn_types.specs.Counts.{one_more}
 use Rattle.amqp_txn_types.specs.declared.items.NoMemory.{NoMemory}
@@ -22,13 +22,14 @@ pub record Reviewed {S : Type 0} (told : S → Told)
   pub reviews : Reviews (told old) (told new) list result
   pub gave : gives old new list result
 
--- a recorder answers by itself: its plan vetoes the frames, or there was no room
+-- a recorder answers by itself where its plan vetoes the frames, of which it may lack memory for a
+-- copy
 abbrev pub AnswersAlone : Bool → ℕ → ℕ → ℕ → ℕ → Result Verdict NoMemory → Type 0
 AnswersAlone planned own own_after vetoes vetoes_after (Ok verdicts.Accept) = ⊥
 AnswersAlone planned own own_after vetoes vetoes_after (Ok verdicts.Veto) =
     (planned ≡ true) × (own_after ≡ own) × (vetoes_after ≡ one_more vetoes)
 AnswersAlone planned own own_after vetoes vetoes_after (Err error) =
-    (own_after ≡ one_more own) × (vetoes_after ≡ vetoes)
+    (planned ≡ true) × (own_after ≡ one_more own) × (vetoes_after ≡ vetoes)
 
 -- a review that didn't reach the layer in a recorder
 pub record Unasked {S : Type 0} (old new : Recorder S) (planned : Bool)
@@ -46,6 +47,17 @@ pub record Asked {S : Type 0} (told : S → Told)
   pub own : own_of new ≡ own_of old
   pub vetoes : own_vetoes_of new ≡ own_vetoes_of old
 
+-- a review that the layer in a recorder vetoed, of whose frames there was no memory for a copy: a
+-- refusal of the recorder's own
+pub record Uncopied {S : Type 0} (told : S → Told)
+    (gives : S → S → List Frame → Result Verdict NoMemory → Type 0) (old new : Recorder S)
+    (planned : Bool) (list : List Frame) (result : Result Verdict NoMemory) : Type 0 where
+  pub unplanned : planned ≡ false
+  pub inner : Reviewed told gives (inner_of old) (inner_of new) list (Ok verdicts.Veto)
+  pub answer : IsErr result
+  pub own : own_of new ≡ one_more (own_of old)
+  pub vetoes : own_vetoes_of new ≡ own_vetoes_of old
+
 -- a review of a recorder, which uses up no number
 pub record RecordsReview {S : Type 0} (told : S → Told)
     (gives : S → S → List Frame → Result Verdict NoMemory → Type 0) (old new : Recorder S)
@@ -53,6 +65,7 @@ pub record RecordsReview {S : Type 0} (told : S → Told)
   pub recorded :
       Unasked old new (any_refused (plan_of old) (calls_of old) list) result
       ⊎ Asked told gives old new (any_refused (plan_of old) (calls_of old) list) list result
+      ⊎ Uncopied told gives old new (any_refused (plan_of old) (calls_of old) list) list result
   pub calls : calls_of new ≡ calls_of old
   pub plan : plan_of new ≡ plan_of old
   pub starved : starved_of new ≡ starved_of old

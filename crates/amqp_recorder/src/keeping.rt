@@ -10,6 +10,7 @@ use amqp_txn_types::{Frame, Frames, NoMemory, TryClone, refuse};
 use std::alloc::Global;
 
 /// A copy of what comes, and room for one more item of each list. The only error is want of memory.
+#[inline(always)]
 pub(crate) fn prepare<F: TryClone>(
     item: &F,
     kept: &mut Vec<(F, Frames)>,
@@ -26,7 +27,7 @@ pub(crate) fn prepare<F: TryClone>(
     item.try_clone()
 }
 
-/// A copy of the frames that are reviewed, and room for one more such list. The only error is want of
+/// A copy of the frames that are vetoed, and room for one more such list. The only error is want of
 /// memory.
 pub(crate) fn prepare_review(frames: &Frames, vetoed: &mut Vec<Frames>) -> Result<Frames, NoMemory>
     ensures copy { IfOk result (λ copy. copy ≡ frames.now) }
@@ -39,6 +40,7 @@ pub(crate) fn prepare_review(frames: &Frames, vetoed: &mut Vec<Frames>) -> Resul
 
 /// What comes before a call of the layer: that no plan refuses it, and room for what is kept of it. A
 /// planned refusal is kept. It gives a copy of the frame, to be kept.
+#[inline(always)]
 pub(crate) fn before_call(
     planned: Planned,
     frame: &Frame,
@@ -70,6 +72,7 @@ pub(crate) fn before_call(
 
 /// Keeps what the layer answered to a frame, and gives what is answered for it. A refusal of its own,
 /// for want of memory, is counted.
+#[inline(always)]
 pub(crate) fn after_call(
     alloc: Global,
     kept: &mut Vec<(Frame, Frames)>,
@@ -93,6 +96,7 @@ pub(crate) fn after_call(
 }
 
 /// A copy, which takes no memory where there are no frames.
+#[inline(always)]
 fn copied(alloc: Global, frames: &Frames) -> Result<Frames, NoMemory>
     ensures copy { IfOk result (λ copy. copy ≡ frames.now) }
     ensures empty { OnErr result (frames.now ≢ []) }
@@ -105,6 +109,7 @@ fn copied(alloc: Global, frames: &Frames) -> Result<Frames, NoMemory>
 
 /// Keeps what was taken with a copy of the frames given back for it, and gives these. The only error
 /// is want of memory for the copy, where there are such frames.
+#[inline(always)]
 pub(crate) fn keep_taken<F: Drop>(
     alloc: Global,
     kept: &mut Vec<(F, Frames)>,

@@ -29,6 +29,8 @@ use std::alloc::Global;
 ///
 /// A review is vetoed where the plan refuses one of the calls that its frames would make, and else
 /// where the layer in it vetoes it. It counts as no call, and the starved numbers don't matter to it.
+/// The frames are copied once they are vetoed: where there is no memory for that the answer is
+/// `NoMemory`.
 #[derive(Drop)]
 pub struct Recorder<S> {
     session: S,
@@ -171,6 +173,7 @@ impl<S: LayerBelow> Recorder<S> {
     }
 
     /// The frame through the layer in it. Room for what is kept is made first.
+    #[inline(always)]
     fn take(&mut self, frame: Frame) -> Result<Frames, SessionInnerError>
         ensures told { Takes (⟦<Recorder<S> as Tells>⟧.told self.old) (⟦<Recorder<S> as Tells>⟧.told self.new)
             frame result }
@@ -322,16 +325,19 @@ impl<S: LayerBelow> LayerBelow for Recorder<S> {
     }
 
     fn review(&mut self, frames: &Frames) -> Result<Verdict, NoMemory> {
-        let Ok(copy) = prepare_review(frames, &mut self.vetoed.items) else {
-            return refuse(&mut self.refusals, NoMemory);
-        };
         if any_refused(&self.plan, self.calls, frames.as_slice()) {
+            let Ok(copy) = prepare_review(frames, &mut self.vetoed.items) else {
+                return refuse(&mut self.refusals, NoMemory);
+            };
             self.vetoes = self.vetoes.saturating_add(1);
             self.vetoed.items.push_reserved(copy);
             return Ok(Verdict::Veto);
         }
         match self.session.review(frames) {
             Ok(Verdict::Veto) => {
+                let Ok(copy) = prepare_review(frames, &mut self.vetoed.items) else {
+                    return refuse(&mut self.refusals, NoMemory);
+                };
                 self.vetoed.items.push_reserved(copy);
                 Ok(Verdict::Veto)
             }

@@ -56,6 +56,7 @@ fn driven(entries: Vec<Entry>, stop: Stop, handed: usize) -> Driven
 }
 
 /// Fills in what the step of an entry drew and was answered.
+#[inline(always)]
 fn fill_in(entry: &mut Entry, drawn: Drawn, reply: Reply)
     ensures { entry.new ≡ entry_of entry.old.step drawn reply }
 {

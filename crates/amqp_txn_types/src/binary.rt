@@ -121,6 +121,7 @@ impl Binary {
 }
 
 impl TryClone for Binary {
+    #[inline(always)]
     fn try_clone(&self) -> Result<Self, NoMemory> {
         let octets = match &self.octets {
             Octets::InPlace(short) => Octets::InPlace(short.copy()),

@@ -82,6 +82,7 @@ pub struct TransactionalState {
 }
 
 impl TryClone for TransactionalState {
+    #[inline(always)]
     fn try_clone(&self) -> Result<Self, NoMemory> {
         Ok(TransactionalState {
             txn_id: self.txn_id,
@@ -137,6 +138,7 @@ pub enum Outcome {
 }
 
 impl TryClone for Outcome {
+    #[inline(always)]
     fn try_clone(&self) -> Result<Self, NoMemory> {
         match self {
             Outcome::Accepted => Ok(Outcome::Accepted),
@@ -174,6 +176,7 @@ pub enum DeliveryState {
 }
 
 impl TryClone for DeliveryState {
+    #[inline(always)]
     fn try_clone(&self) -> Result<Self, NoMemory> {
         match self {
             DeliveryState::Received {

@@ -72,6 +72,7 @@ pub fn frame_of(work: TxnWorkFrame) -> Frame
 /// whose state is no transactional one. Part 4 of the standard, sections 4.4.1 (posting) and
 /// 4.4.2 (retirement).
 #[tactic(auto, unfolding(crate::specs::Frames::stripped))]
+#[inline(always)]
 pub fn strip(work: TxnWorkFrame) -> Frame
     ensures { result ≡ stripped (frame_of_work work) }
 {
@@ -130,6 +131,7 @@ pub fn is_coordinator(attach: &Attach) -> bool
     matches!(attach.target, Some(TargetArchetype::Coordinator(_)))
 }
 
+#[inline(always)]
 fn stripped_of(state: Option<DeliveryState>) -> Option<DeliveryState>
     ensures { result ≡ stripped_state state }
 {

@@ -195,6 +195,7 @@ impl Items<u8> {
 }
 
 impl<T: TryClone> TryClone for Option<T> {
+    #[inline(always)]
     fn try_clone(&self) -> Result<Self, NoMemory> {
         match self {
             None => Ok(None),

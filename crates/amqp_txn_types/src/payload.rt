@@ -91,6 +91,7 @@ impl Payload {
 }
 
 impl TryClone for Payload {
+    #[inline(always)]
     fn try_clone(&self) -> Result<Self, NoMemory> {
         let octets = match &self.octets {
             Octets::InPlace(short) => Octets::InPlace(short.copy()),

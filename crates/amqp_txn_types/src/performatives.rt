@@ -287,6 +287,7 @@ pub struct Transfer {
 }
 
 impl TryClone for Transfer {
+    #[inline(always)]
     fn try_clone(&self) -> Result<Self, NoMemory> {
         Ok(Transfer {
             handle: self.handle,
@@ -323,6 +324,7 @@ pub struct Disposition {
 }
 
 impl TryClone for Disposition {
+    #[inline(always)]
     fn try_clone(&self) -> Result<Self, NoMemory> {
         Ok(Disposition {
             role: self.role,
@@ -440,6 +442,7 @@ pub enum Frame {
 const _: () = prove!(size_of::<Frame>() <= 248);
 
 impl TryClone for Frame {
+    #[inline(always)]
     fn try_clone(&self) -> Result<Self, NoMemory> {
         match self {
             Frame::Attach(x) => Ok(Frame::Attach(x.try_clone()?)),

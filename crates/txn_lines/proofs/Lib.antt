@@ -1,3 +1,4 @@
+pub mod Feeds
 pub mod Names
 pub mod Numbers
 pub mod Pieces

@@ -1,6 +1,6 @@
 //! The words of a step line, each kind by its table.
 
-ghost use Rattle.std.specs.Prelude.{◌≡◌, ◌+◌, ◌*◌, Some};
+ghost use Rattle.std.specs.Prelude.{◌≡◌, ◌≤◌, ◌+◌, ◌*◌, Some, None, MatchOption, length, take};
 ghost use Rattle.std.specs.List.{list_all};
 ghost use Rattle.std.specs.Str.{bytes_eq};
 ghost use Rattle.txn_lines.specs.LineWords.{at_most, bool_of, decimal_of, name_of, number_after, octets_of, optional, outcome_of, payload_of, role_of, txn_id_of, u32_of, u64_of, is_name, is_name_octet};
@@ -213,10 +213,44 @@ fn octets_of(alloc: Global, word: &[u8]) -> Result<Vec<u8>, Unread>
     }
 }
 
+/// The octets that at most 64 hexadecimal digits spell, at the front of a block, by their number.
+fn short_octets_of(word: &[u8], block: &mut [u8; 32]) -> Option<usize>
+    requires { length word.now ≤ 64 }
+    ensures { MatchOption result (octets_of word.now ≡ None)
+        (λ len. (len ≤ 32) × (octets_of word.now ≡ Some (take len block.new))) }
+{
+    let len = word.len() / 2;
+    match hex::decode_to_slice(word, &mut block[..len]) {
+        Ok(()) => Some(len),
+        Err(_) => None,
+    }
+}
+
+/// The id of a transaction, of 1 to 32 octets in at most 64 hexadecimal digits.
+fn short_id_of(word: &[u8]) -> Result<TransactionId, Unread>
+    requires { length word.now ≤ 64 }
+    ensures { Reads (λ id. id) result (txn_id_of word.now) }
+{
+    let mut block = [0; 32];
+    let Some(len) = short_octets_of(word, &mut block) else {
+        return Err(Unread::NotAStep);
+    };
+    if len == 0 {
+        return Err(Unread::NotAStep);
+    }
+    match TransactionId::new(&block[..len]) {
+        Ok(id) => Ok(id),
+        Err(_) => Err(Unread::NotAStep),
+    }
+}
+
 /// The id of a transaction, of 1 to 32 octets in hexadecimal digits.
 pub(crate) fn txn_id_of(alloc: Global, word: &[u8]) -> Result<TransactionId, Unread>
     ensures { Reads (λ id. id) result (txn_id_of word.now) }
 {
+    if word.len() <= 64 {
+        return short_id_of(word);
+    }
     let octets = octets_of(alloc, word)?;
     if octets.is_empty() {
         return Err(Unread::NotAStep);
@@ -233,6 +267,16 @@ pub(crate) fn payload_of(alloc: Global, word: &[u8]) -> Result<Payload, Unread>
 {
     if is_text(word, "-") {
         return Ok(Payload::new());
+    }
+    if word.len() <= 64 {
+        let mut block = [0; 32];
+        let Some(len) = short_octets_of(word, &mut block) else {
+            return Err(Unread::NotAStep);
+        };
+        if len == 0 {
+            return Err(Unread::NotAStep);
+        }
+        return Ok(Payload::from_slice(alloc, &block[..len])?);
     }
     let octets = octets_of(alloc, word)?;
     if octets.is_empty() {

@@ -4,7 +4,7 @@ ghost use Rattle.std.specs.Prelude.{◌≡◌, ◌<◌, ◌+◌, ◌≤◌, ◌�
 ghost use Rattle.txn_lines.specs.Lines.{lines_of, input_steps};
 ghost use Rattle.txn_lines.specs.Reads.{Spells};
 
-use crate::cutting::cut_at;
+use crate::cutting::cut_line;
 use crate::step_lines::step_of_line;
 use crate::unread::Unread;
 use amqp_record::Steps;
@@ -53,7 +53,7 @@ fn first_line(octets: &[u8]) -> (&[u8], &[u8])
     ensures lines { lines_of octets.now ≡ result.0.now ∷ lines_of result.1.now }
     ensures shorter { length result.1.now < length octets.now }
 {
-    let (line, after) = cut_at(octets, b'\n');
+    let (line, after) = cut_line(octets);
     match after {
         None => (line, &[]),
         Some(after) => (line, after),

@@ -1,6 +1,6 @@
 //! The words of a report, each by its table, and the ends of texts that they are put on.
 
-ghost use Rattle.std.specs.Prelude.{◌≡◌, ◌++◌, ◌∷◌, decimal, string_bytes, OnOk};
+ghost use Rattle.std.specs.Prelude.{◌≡◌, ◌≤◌, ◌++◌, ◌∷◌, decimal, length, string_bytes, IfSome, OnOk};
 ghost use Rattle.hex.specs.Hex.{encode_lower};
 ghost use Rattle.txn_program.specs.Report.{bool_word, error_word, handle_word, number_word, optional_outcome_word, optional_state_word, outcome_word, payload_word, reject_words, role_word, settled_word, state_word, stop_word};
 
@@ -67,8 +67,24 @@ pub(crate) fn put_optional_handle(out: &mut String, handle: Option<Handle>) -> R
 pub(crate) fn put_octets(alloc: Global, out: &mut String, octets: &[u8]) -> Result<(), NoMemory>
     ensures { OnOk result (string_bytes out.new ≡ string_bytes out.old ++ encode_lower octets.now) }
 {
+    if octets.len() <= 32 {
+        let mut digits = [0; 64];
+        if let Some(text) = short_digits(octets, &mut digits) {
+            return put(out, text);
+        }
+    }
     let digits = hex::encode(alloc, octets)?;
     put(out, digits.as_str())
+}
+
+/// At most 32 octets in lower case hexadecimal digits, which stand in a block.
+fn short_digits<'a>(octets: &[u8], digits: &'a mut [u8; 64]) -> Option<&'a str>
+    requires { length octets.now ≤ 32 }
+    ensures { IfSome result (λ text. text.now ≡ encode_lower octets.now) }
+{
+    let digits = &mut digits[..2 * octets.len()];
+    hex::encode_to_slice(octets, digits).ok()?;
+    str::from_utf8(digits).ok()
 }
 
 /// Puts the digits of an id at the end.
