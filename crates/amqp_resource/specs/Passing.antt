@@ -2,7 +2,7 @@
 use Rattle.std.specs.Prelude.{ℕ, ◌≡◌, Result, Ok, Err}
 use Rattle.amqp_txn_types.specs.Counts.{one_more}
 use Rattle.amqp_resource.specs.declared.session.TxnSession.{TxnSession}
-use Rattle.amqp_resource.specs.Session.{below_of, held_of, refusals_of, stop_of}
+use Rattle.amqp_resource.specs.Session.{below_of, held_of, refusals_of, stop_of, vetoes_of}
 
 -- a count, with one more where the answer is an Err
 abbrev pub counted : {T E : Type 0} → Result T E → ℕ → ℕ
@@ -18,6 +18,7 @@ pub record Passes {S T E : Type 0} (Tells Gives : S → S → Type 0) (old new :
   pub held : held_of new ≡ held_of old
   pub stop : stop_of new ≡ stop_of old
   pub counts : refusals_of new ≡ counted result (refusals_of old)
+  pub vetoes : vetoes_of new ≡ vetoes_of old
 
 -- the same of a call that refuses nothing
 pub record PassesOn {S : Type 0} (Tells Gives : S → S → Type 0) (old new : TxnSession S)
@@ -27,3 +28,4 @@ pub record PassesOn {S : Type 0} (Tells Gives : S → S → Type 0) (old new : T
   pub held : held_of new ≡ held_of old
   pub stop : stop_of new ≡ stop_of old
   pub own : refusals_of new ≡ refusals_of old
+  pub vetoes : vetoes_of new ≡ vetoes_of old

@@ -9,7 +9,7 @@ use Rattle.amqp_sessions.specs.declared.plain_session.PlainSession.{PlainSession
 use Rattle.amqp_sessions.specs.declared.session_errors.BeginError.{BeginError}
 use Rattle.amqp_sessions.specs.declared.session_errors.BeginError.TheVariants as refusals
 use Rattle.amqp_sessions.specs.Numbers.{after_begin, at_first}
-use Rattle.amqp_sessions.specs.PlainSessions.{begin_of, channel_of, connection_stop_of, incoming_of, links_of, numbers_of, refusals_of, slots_of, state_of, stop_of, untold_of}
+use Rattle.amqp_sessions.specs.PlainSessions.{begin_of, channel_of, connection_stop_of, incoming_of, links_of, numbers_of, refusals_of, slots_of, state_of, stop_of, untold_of, vetoes_of}
 use Rattle.amqp_endpoints.specs.declared.connection.IncomingSession.{IncomingSession}
 use Rattle.amqp_acceptors.specs.declared.control.ControlLinkAcceptor.{ControlLinkAcceptor}
 use Rattle.amqp_acceptors.specs.Fields.{default_shared}
@@ -17,7 +17,7 @@ use Rattle.amqp_acceptors.specs.Receivers.{IsDefaultReceiver}
 use Rattle.amqp_listener.specs.declared.listener.ListenerSession.{ListenerSession}
 use Rattle.amqp_listener.specs.Listening.{control_of, held_of, inner_of, own_of, queue_of}
 use Rattle.amqp_resource.specs.declared.session.TxnSession.{TxnSession}
-use Rattle.amqp_resource.specs.Session.{FitsTogether, StandsFor, below_of, refusals_of as own_refusals_of, stop_of as code_of}
+use Rattle.amqp_resource.specs.Session.{FitsTogether, StandsFor, below_of, refusals_of as own_refusals_of, stop_of as code_of, vetoes_of as own_vetoes_of}
 use Rattle.amqp_session_builder.specs.declared.builder.Builder.{Builder}
 use Rattle.amqp_session_builder.specs.Builders.{begin_built}
 use Rattle.amqp_session_acceptor.specs.declared.accepted.AcceptedSession.{AcceptedSession}
@@ -37,6 +37,7 @@ pub record HasBegun (session : PlainSession) (state : SessionState) (builder : B
   pub stop : stop_of session ≡ None
   pub connection_stop : connection_stop_of session ≡ None
   pub refusals : refusals_of session ≡ 0
+  pub vetoes : vetoes_of session ≡ 0
 
 -- an acceptor of control links whose fields were not set
 abbrev pub IsDefaultControl : ControlLinkAcceptor → Type 0
@@ -61,6 +62,7 @@ pub record IsTransacting (Control : ControlLinkAcceptor → Type 0)
   pub fits : FitsTogether session
   pub runs : code_of session ≡ None
   pub own : own_refusals_of session ≡ 0
+  pub vetoes : own_vetoes_of session ≡ 0
 
 -- a session is transactional exactly where its builder has an acceptor of control links, which is
 -- its listener's; the listener of any other has the default one

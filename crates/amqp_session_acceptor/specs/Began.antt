@@ -9,7 +9,7 @@ use Rattle.amqp_endpoints.specs.Connections.{Allocates, ConnectionTold, begin_er
 use Rattle.amqp_endpoints.specs.declared.connection.AllocSessionError.{AllocSessionError}
 use Rattle.amqp_acceptors.specs.declared.control.ControlLinkAcceptor.{ControlLinkAcceptor}
 use Rattle.amqp_resource.specs.declared.session.TxnSession.{TxnSession}
-use Rattle.amqp_resource.specs.Session.{FitsTogether, StandsFor, below_of, refusals_of, stop_of}
+use Rattle.amqp_resource.specs.Session.{FitsTogether, StandsFor, below_of, refusals_of, stop_of, vetoes_of}
 use Rattle.amqp_session_builder.specs.declared.builder.Builder.{Builder}
 use Rattle.amqp_session_builder.specs.Builders.{BegunOn, begin_built}
 use Rattle.amqp_session_acceptor.specs.declared.began.BeganSession.{BeganSession}
@@ -24,6 +24,7 @@ pub record BegunOver (session : TxnSession PlainSession) (sent : Begin) (channel
   pub fits : FitsTogether session
   pub runs : stop_of session ≡ None
   pub own : refusals_of session ≡ 0
+  pub vetoes : vetoes_of session ≡ 0
 
 -- a session is transactional exactly where its builder has an acceptor of control links
 abbrev pub IsBegan : Option ControlLinkAcceptor → BeganSession → Begin → OutgoingChannel → Begin

@@ -24,6 +24,7 @@ returns-in-Ok c =
         fits = subst Fits (sym passed.held) over.fits;
         runs = passed.stop ∙ over.stop;
         own = passed.counts ∙ over.refusals;
+        vetoes = passed.vetoes ∙ over.vetoes;
       },
       search rules,
     )
