@@ -6,8 +6,6 @@ ghost use Rattle.amqp_listener.specs.Listening.{ChangesQueue, TakesNewest, contr
 
 mod endpoint_calls;
 mod session_calls;
-#[cfg(test)]
-mod tests;
 mod transactional_calls;
 
 use crate::attach_queue::AttachQueue;
