@@ -1,14 +1,24 @@
 //! Links and sessions that a peer begins, under one name.
 //!
-//! | items | are | from |
-//! |---|---|---|
-//! | [`LinkAcceptor`], [`ControlLinkAcceptor`], [`Builder`] | what answers a peer's attach | `amqp_acceptors` |
-//! | [`LocalSenderLinkAcceptor`], [`LocalReceiverLinkAcceptor`], [`SharedLinkAcceptorFields`] | what an acceptor gives its links | `amqp_acceptors` |
-//! | [`OnDynamic`], [`RejectDynamic`], [`Ask`] | rules for nodes that the peer wants to be made | `amqp_acceptors` |
-//! | [`LinkEndpoint`], [`AcceptorAttachError`], [`SessionHandle`] | a link that was accepted, why one is not, and the session that is lent for it | `amqp_acceptors` |
-//! | [`ListenerSession`] | a session whose peer's attaches wait to be accepted | `amqp_listener` |
-//! | [`AcceptingListener`] | a listener that accepts each link as it comes | `amqp_accepting` |
-//! | [`ListenerSessionEndpoint`], [`ConnectionEnd`], [`MemoryConnection`] | the ends that acceptors work on | `amqp_endpoints` |
+//! | from `amqp_acceptors` | |
+//! |---|---|
+//! | [`LinkAcceptor`], [`ControlLinkAcceptor`], [`Builder`] | what answers a peer's attach |
+//! | [`LocalSenderLinkAcceptor`] | what an acceptor gives its local senders |
+//! | [`LocalReceiverLinkAcceptor`] | what it gives its local receivers |
+//! | [`SharedLinkAcceptorFields`] | what it gives both |
+//! | [`OnDynamic`], [`RejectDynamic`], [`Ask`] | rules for nodes that the peer wants to be made |
+//! | [`LinkEndpoint`], [`AcceptorAttachError`] | a link that was accepted, and why one is not |
+//! | [`SessionHandle`] | the session that is lent for it |
+//!
+//! | from `amqp_listener`, `amqp_accepting` | |
+//! |---|---|
+//! | [`ListenerSession`] | a session whose peer's attaches wait to be accepted |
+//! | [`AcceptingListener`] | a listener that accepts each link as it comes |
+//!
+//! | from `amqp_endpoints` | |
+//! |---|---|
+//! | [`ListenerSessionEndpoint`], [`ConnectionEnd`] | the ends that acceptors work on |
+//! | [`MemoryConnection`] | a connection in memory |
 //!
 //! ```text
 //! let mut listener = ListenerSession::new(alloc, session, ControlLinkAcceptor::default());

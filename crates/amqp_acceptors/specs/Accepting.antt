@@ -58,8 +58,8 @@ abbrev pub SenderToldStop : Option SessionStopReason → SenderAttachError → T
 SenderToldStop stop (senders.Alloc error) = StoppedBy {T = OutputHandle} stop (Err error)
 SenderToldStop stop _ = Unit {0}
 
--- a link is accepted only where no reason is kept why the session stopped, and a reason that is told
--- is the one that is kept
+-- a link is accepted only where no reason is kept why the session stopped, and a reason that is
+-- told is the one that is kept
 abbrev pub AcceptStoppedBy : {A E : Type 0} → (Option SessionStopReason → E → Type 0)
     → Option SessionStopReason → Result A E → Type 0
 AcceptStoppedBy Tells stop (Ok accepted) = stop ≡ None

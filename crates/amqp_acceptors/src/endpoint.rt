@@ -1,5 +1,8 @@
 //! What a link acceptor answers.
 
+ghost use Rattle.std.specs.Prelude.{◌≡◌};
+ghost use Rattle.amqp_acceptors.specs.declared.endpoint.AcceptorAttachError.TheVariants as errors;
+
 use amqp_endpoints::{ReceiverAttachError, SenderAttachError};
 use amqp_links::{WireReceiver, WireSender};
 use amqp_txn_types::SessionStopReason;
@@ -29,9 +32,6 @@ pub enum AcceptorAttachError {
 }
 
 impl From<SenderAttachError> for AcceptorAttachError {
-    ghost use Rattle.std.specs.Prelude.{◌≡◌};
-    ghost use Rattle.amqp_acceptors.specs.declared.endpoint.AcceptorAttachError.TheVariants as errors;
-
     ghost from_gives = { λ refused error. error ≡ errors.LocalSender refused };
 
     fn from(error: SenderAttachError) -> Self {
@@ -40,9 +40,6 @@ impl From<SenderAttachError> for AcceptorAttachError {
 }
 
 impl From<ReceiverAttachError> for AcceptorAttachError {
-    ghost use Rattle.std.specs.Prelude.{◌≡◌};
-    ghost use Rattle.amqp_acceptors.specs.declared.endpoint.AcceptorAttachError.TheVariants as errors;
-
     ghost from_gives = { λ refused error. error ≡ errors.LocalReceiver refused };
 
     fn from(error: ReceiverAttachError) -> Self {

@@ -174,9 +174,12 @@ impl<FS: OnDynamic<Source>, FT: OnDynamic<Target>> LinkAcceptor<FS, FT> {
             session.old session.new result }
     {
         if let Some(reason) = session.session_stop_reason() {
-            return Err(stopped(reason, remote.role));
+            let error = stopped(reason, remote.role);
+            drop(remote);
+            return Err(error);
         }
         if is_coordinator(&remote) {
+            drop(remote);
             return Err(AcceptorAttachError::LocalReceiver(
                 ReceiverAttachError::CoordinatorIsNotImplemented,
             ));

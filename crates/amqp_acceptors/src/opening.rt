@@ -3,6 +3,7 @@
 ghost use Rattle.std.specs.Prelude.{◌≡◌, IfOk};
 ghost use Rattle.amqp_layer.specs.Told.{Checks};
 ghost use Rattle.amqp_acceptors.specs.Opening.{OpenLeaves, OpenStoppedBy, OpensThrough, relay_of};
+ghost use Rattle.amqp_acceptors.specs.declared.opening.OpenError.TheVariants as errors;
 
 use crate::fields::SharedLinkAcceptorFields;
 use crate::reply::{Reply, reply_to};
@@ -38,9 +39,6 @@ pub enum OpenError {
 }
 
 impl From<AllocLinkError> for OpenError {
-    ghost use Rattle.std.specs.Prelude.{◌≡◌};
-    ghost use Rattle.amqp_acceptors.specs.declared.opening.OpenError.TheVariants as errors;
-
     ghost from_gives = { λ refused error. error ≡ errors.Alloc refused };
 
     fn from(error: AllocLinkError) -> Self {
@@ -49,9 +47,6 @@ impl From<AllocLinkError> for OpenError {
 }
 
 impl From<SessionInnerError> for OpenError {
-    ghost use Rattle.std.specs.Prelude.{◌≡◌};
-    ghost use Rattle.amqp_acceptors.specs.declared.opening.OpenError.TheVariants as errors;
-
     ghost from_gives = { λ refused error. error ≡ errors.Session refused };
 
     fn from(error: SessionInnerError) -> Self {

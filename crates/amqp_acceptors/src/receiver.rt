@@ -124,7 +124,11 @@ impl<T: TargetKind, F: OnDynamic<T>> LocalReceiverLinkAcceptor<T, F> {
             T.is_dynamic (T.with_capabilities self.now.target_capabilities) target)
             T.archetype shared.now self.now.credit_mode remote) }
     {
-        let local = local_terminus(&self.on_dynamic_target, target, &self.target_capabilities)?;
+        let rule = &self.on_dynamic_target;
+        let Ok(local) = local_terminus(rule, target, &self.target_capabilities) else {
+            drop(remote);
+            return Err(NoMemory);
+        };
         let credit = credit_flow(self.credit_mode, &remote);
         remote.target = local.map(T::into_archetype);
         Opening::new(alloc, shared, remote, Role::Receiver, None, credit)
@@ -192,6 +196,7 @@ impl<T: TargetKind, F: OnDynamic<T>> LocalReceiverLinkAcceptor<T, F> {
             return Err(ReceiverAttachError::NoMemory);
         };
         let Ok(mut end) = opening.end(OutputHandle(0)) else {
+            drop(opening);
             return Err(ReceiverAttachError::NoMemory);
         };
         let (output, frames) = opening.open(session)?;

@@ -121,15 +121,19 @@ pub(crate) fn reply_to(
     ensures { IfOk result (λ reply. reply ≡ reply_of shared.now remote role
         initial_delivery_count) }
 {
+    let Ok(said) = shared.try_clone() else {
+        drop(remote);
+        return Err(NoMemory);
+    };
     Ok(Attach {
         role,
-        snd_settle_mode: shared.sender_mode_for(remote.snd_settle_mode),
-        rcv_settle_mode: shared.receiver_mode_for(remote.rcv_settle_mode),
+        snd_settle_mode: said.sender_mode_for(remote.snd_settle_mode),
+        rcv_settle_mode: said.receiver_mode_for(remote.rcv_settle_mode),
         initial_delivery_count,
-        max_message_size: shared.max_message_size,
-        offered_capabilities: shared.offered_capabilities.try_clone()?,
-        desired_capabilities: shared.desired_capabilities.try_clone()?,
-        properties: shared.properties.try_clone()?,
+        max_message_size: said.max_message_size,
+        offered_capabilities: said.offered_capabilities,
+        desired_capabilities: said.desired_capabilities,
+        properties: said.properties,
         ..remote
     })
 }

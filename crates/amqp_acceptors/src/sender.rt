@@ -77,7 +77,12 @@ impl<F: OnDynamic<Source>> LocalSenderLinkAcceptor<F> {
             self.now.initial_delivery_count remote) }
     {
         let rule = &self.on_dynamic_source;
-        remote.source = local_terminus(rule, remote.source.take(), &self.source_capabilities)?;
+        let source = remote.source.take();
+        let Ok(source) = local_terminus(rule, source, &self.source_capabilities) else {
+            drop(remote);
+            return Err(NoMemory);
+        };
+        remote.source = source;
         let count = Some(self.initial_delivery_count);
         Opening::new(alloc, shared, remote, Role::Sender, count, None)
     }
@@ -114,6 +119,7 @@ impl<F: OnDynamic<Source>> LocalSenderLinkAcceptor<F> {
             return Err(SenderAttachError::NoMemory);
         };
         let Ok(mut end) = opening.end(OutputHandle(0)) else {
+            drop(opening);
             return Err(SenderAttachError::NoMemory);
         };
         let (output, frames) = opening.open(session)?;

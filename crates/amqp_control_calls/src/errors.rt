@@ -1,7 +1,8 @@
 //! Why a call on a control link fails.
 
 ghost use Rattle.std.specs.Prelude.{◌≡◌};
-ghost use Rattle.amqp_control_calls.specs.Errors.{link_state};
+ghost use Rattle.amqp_control_calls.specs.Errors.{link_state, unsent};
+ghost use Rattle.amqp_control_calls.specs.declared.errors.ControllerSendError.TheVariants as errors;
 
 use amqp_links::{
     DetachError, IllegalLinkStateError, LinkStateError, MessageSizeExceeded, SendError,
@@ -40,9 +41,6 @@ pub enum ControllerSendError {
 }
 
 impl From<NoMemory> for ControllerSendError {
-    ghost use Rattle.std.specs.Prelude.{◌≡◌};
-    ghost use Rattle.amqp_control_calls.specs.declared.errors.ControllerSendError.TheVariants as errors;
-
     ghost from_gives = { λ _ error. error ≡ errors.NoMemory };
 
     fn from(_error: NoMemory) -> Self {
@@ -51,9 +49,6 @@ impl From<NoMemory> for ControllerSendError {
 }
 
 impl From<LinkStateError> for ControllerSendError {
-    ghost use Rattle.std.specs.Prelude.{◌≡◌};
-    ghost use Rattle.amqp_control_calls.specs.declared.errors.ControllerSendError.TheVariants as errors;
-
     ghost from_gives = { λ fault error. error ≡ errors.LinkStateError fault };
 
     fn from(error: LinkStateError) -> Self {
@@ -63,9 +58,6 @@ impl From<LinkStateError> for ControllerSendError {
 
 /// Each error is that of its name.
 impl From<SendError> for ControllerSendError {
-    ghost use Rattle.std.specs.Prelude.{◌≡◌};
-    ghost use Rattle.amqp_control_calls.specs.Errors.{unsent};
-
     ghost from_gives = { λ refused error. error ≡ unsent refused };
 
     fn from(error: SendError) -> Self {
@@ -83,10 +75,6 @@ impl From<SendError> for ControllerSendError {
 
 /// Each error is the state of the link of its name.
 impl From<IllegalLinkStateError> for ControllerSendError {
-    ghost use Rattle.std.specs.Prelude.{◌≡◌};
-    ghost use Rattle.amqp_control_calls.specs.declared.errors.ControllerSendError.TheVariants as errors;
-    ghost use Rattle.amqp_control_calls.specs.Errors.{link_state};
-
     ghost from_gives = { λ fault error. error ≡ errors.LinkStateError (link_state fault) };
 
     fn from(error: IllegalLinkStateError) -> Self {

@@ -3,7 +3,7 @@
 //!
 //! | type | is |
 //! |---|---|
-//! | [`TxnCoordinator`] | the ids that were declared to it: it hears messages and asks the session |
+//! | [`TxnCoordinator`] | the ids that were declared to it; it hears messages, asks the session |
 //! | [`ResourceTransaction`] | the work of one transaction, kept in the order in which it came |
 //! | [`TransactionManager`] | the transactions of a resource, each under its id |
 //!

@@ -60,7 +60,11 @@ impl ResourceTransaction {
             .push_back(TxnWorkFrame::Post { transfer, payload })
         {
             Ok(()) => Ok(answer),
-            Err(_) => Err(NoMemory),
+            Err(unkept) => {
+                drop(unkept);
+                drop(answer);
+                Err(NoMemory)
+            }
         }
     }
 

@@ -1,5 +1,9 @@
 //! The end of a connection, as sessions see it.
 
+ghost use Rattle.std.specs.Prelude.{◌≡◌};
+ghost use Rattle.amqp_endpoints.specs.declared.connection.AllocSessionError.TheVariants as refusals;
+ghost use Rattle.amqp_endpoints.specs.Connections.{begin_error};
+
 use amqp_links::Poll;
 use amqp_sessions::BeginError;
 use amqp_txn_types::{Begin, ConnectionStopReason, NoMemory, OutgoingChannel, TryClone};
@@ -39,9 +43,6 @@ pub enum AllocSessionError {
 }
 
 impl From<NoMemory> for AllocSessionError {
-    ghost use Rattle.std.specs.Prelude.{◌≡◌};
-    ghost use Rattle.amqp_endpoints.specs.declared.connection.AllocSessionError.TheVariants as refusals;
-
     ghost from_gives = { λ _ error. error ≡ refusals.NoMemory };
 
     fn from(_error: NoMemory) -> Self {
@@ -50,9 +51,6 @@ impl From<NoMemory> for AllocSessionError {
 }
 
 impl From<AllocSessionError> for BeginError {
-    ghost use Rattle.std.specs.Prelude.{◌≡◌};
-    ghost use Rattle.amqp_endpoints.specs.Connections.{begin_error};
-
     ghost from_gives = { λ refused error. error ≡ begin_error refused };
 
     fn from(error: AllocSessionError) -> Self {

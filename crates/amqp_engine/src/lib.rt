@@ -1,10 +1,11 @@
 //! Sessions that are built and run, under one name.
 //!
-//! | items | are | from |
-//! |---|---|---|
-//! | [`Builder`] | a session, built field by field | `amqp_session_builder` |
-//! | [`SessionEngine`], [`ClientBegin`], [`Turn`], [`SessionControl`] | a session that is run by its events | `amqp_session_engine` |
-//! | [`take_frame`], [`TakeError`] | one frame through a session | `amqp_layer` |
+//! | items | are |
+//! |---|---|
+//! | [`Builder`] | a session, built field by field, of `amqp_session_builder` |
+//! | [`SessionEngine`], [`ClientBegin`] | a session that is run by its events |
+//! | [`Turn`], [`SessionControl`] | its answers and what it is asked, of `amqp_session_engine` |
+//! | [`take_frame`], [`TakeError`] | one frame through a session, of `amqp_layer` |
 //!
 //! This crate has nothing of its own: it passes these on, and their definitions too.
 #![tactic(auto)]

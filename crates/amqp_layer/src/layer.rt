@@ -33,16 +33,16 @@ pub trait LayerBelow: Tells {
     /// answer.
     ghost incoming_gives: { Self → Self → Came → Result (List Came) Fault → Type 0 };
 
-    /// What the attach of a control link answers and leaves: the layer before and after, the attach,
-    /// the answer.
+    /// What the attach of a control link answers and leaves: the layer before and after, the
+    /// attach, the answer.
     ghost opening_gives: { Self → Self → Opening → Result (List Came) Fault → Type 0 };
 
     /// What the check of a disposition answers and leaves: the layer before and after, the
     /// disposition, the answer.
     ghost check_gives: { Self → Self → Settling → Result Unit Fault → Type 0 };
 
-    /// The flow that tells the session's window, and what asking for it leaves: the layer before and
-    /// after, the flow.
+    /// The flow that tells the session's window, and what asking for it leaves: the layer before
+    /// and after, the flow.
     ghost window_gives: { Self → Self → Option Window → Type 0 };
 
     /// What a review answers and leaves: the layer before and after, the frames, the answer.
@@ -95,7 +95,8 @@ pub trait LayerBelow: Tells {
     ) -> Result<Frames, SessionInnerError>
         ensures told { Takes (Self.told self.old) (Self.told self.new)
             (frames.Transfer transfer payload) result }
-        ensures gives { incoming_gives self.old self.new (frames.Transfer transfer payload) result };
+        ensures gives { incoming_gives self.old self.new
+            (frames.Transfer transfer payload) result };
 
     /// A disposition (section 2.7.6).
     fn on_incoming_disposition(
@@ -131,8 +132,8 @@ pub trait LayerBelow: Tells {
         ensures gives { window_gives self.old self.new result };
 
     /// Whether these frames, which are about to be handed one after another, would all be taken.
-    /// None of them is handed by that. A Veto comes only where the count of vetoes rose in the call,
-    /// or stands at its last value, 2^64 - 1; want of memory counts as a refusal.
+    /// None of them is handed by that. A Veto comes only where the count of vetoes rose in the
+    /// call, or stands at its last value, 2^64 - 1; want of memory counts as a refusal.
     ///
     /// # Requires
     ///

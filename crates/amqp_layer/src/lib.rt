@@ -2,7 +2,7 @@
 //!
 //! | type | is |
 //! |---|---|
-//! | [`Tells`] | what contracts see of a session or of a layer: what it took, opened, refused and vetoed |
+//! | [`Tells`] | what contracts see of a session or layer: what it took, opened, refused, vetoed |
 //! | [`LayerBelow`] | the calls that a transactional session makes below |
 //! | [`Verdict`] | what a layer answers that is asked about frames before they are handed |
 //! | [`OpenSession`] | a layer that takes everything |
@@ -10,8 +10,8 @@
 //!
 //! A layer says, in contracts, what each call adds to its lists and counts (`told`), and what it
 //! answers and leaves (`incoming_gives`, `opening_gives`, `check_gives`, `window_gives`,
-//! `review_gives`). Where it accepted a list of frames in a review, it takes them one after another,
-//! if memory allows. What stands above is proved over every such layer:
+//! `review_gives`). Where it accepted a list of frames in a review, it takes them one after
+//! another, if memory allows. What stands above is proved over every such layer:
 //!
 //! ```text
 //! let mut below = OpenSession::new(alloc);
@@ -20,8 +20,8 @@
 //! ```
 //!
 //! Below stand the types of `amqp_txn_types`. The promise that this crate carries: one frame goes
-//! through a layer by its incoming call, the checks of what is given back and, after a transfer, the
-//! window, and by nothing else. 'The standard' is OASIS AMQP 1.0.
+//! through a layer by its incoming call, the checks of what is given back and, after a transfer,
+//! the window, and by nothing else. 'The standard' is OASIS AMQP 1.0.
 #![tactic(auto)]
 
 mod answers;

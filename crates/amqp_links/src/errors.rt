@@ -1,5 +1,12 @@
 //! Why the calls of a link fail.
 
+ghost use Rattle.std.specs.Prelude.{◌≡◌};
+ghost use Rattle.amqp_links.specs.declared.errors.LinkStateError.TheVariants as link_state_errors;
+ghost use Rattle.amqp_links.specs.declared.errors.DetachError.TheVariants as detach_errors;
+ghost use Rattle.amqp_links.specs.declared.errors.IllegalLinkStateError.TheVariants as illegal_link_state_errors;
+ghost use Rattle.amqp_links.specs.declared.errors.RecvError.TheVariants as recv_errors;
+ghost use Rattle.amqp_links.specs.declared.errors.SendError.TheVariants as send_errors;
+
 use amqp_txn_types::{Error, NoMemory, SessionStopReason};
 use thiserror::Error as ThisError;
 
@@ -33,10 +40,7 @@ pub enum LinkStateError {
 }
 
 impl From<NoMemory> for LinkStateError {
-    ghost use Rattle.std.specs.Prelude.{◌≡◌};
-    ghost use Rattle.amqp_links.specs.declared.errors.LinkStateError.TheVariants as faults;
-
-    ghost from_gives = { λ _ error. error ≡ faults.NoMemory };
+    ghost from_gives = { λ _ error. error ≡ link_state_errors.NoMemory };
 
     fn from(_error: NoMemory) -> Self {
         LinkStateError::NoMemory
@@ -71,10 +75,7 @@ pub enum DetachError {
 }
 
 impl From<NoMemory> for DetachError {
-    ghost use Rattle.std.specs.Prelude.{◌≡◌};
-    ghost use Rattle.amqp_links.specs.declared.errors.DetachError.TheVariants as faults;
-
-    ghost from_gives = { λ _ error. error ≡ faults.NoMemory };
+    ghost from_gives = { λ _ error. error ≡ detach_errors.NoMemory };
 
     fn from(_error: NoMemory) -> Self {
         DetachError::NoMemory
@@ -96,10 +97,7 @@ pub enum IllegalLinkStateError {
 }
 
 impl From<NoMemory> for IllegalLinkStateError {
-    ghost use Rattle.std.specs.Prelude.{◌≡◌};
-    ghost use Rattle.amqp_links.specs.declared.errors.IllegalLinkStateError.TheVariants as faults;
-
-    ghost from_gives = { λ _ error. error ≡ faults.NoMemory };
+    ghost from_gives = { λ _ error. error ≡ illegal_link_state_errors.NoMemory };
 
     fn from(_error: NoMemory) -> Self {
         IllegalLinkStateError::NoMemory
@@ -127,10 +125,7 @@ pub enum RecvError {
 }
 
 impl From<NoMemory> for RecvError {
-    ghost use Rattle.std.specs.Prelude.{◌≡◌};
-    ghost use Rattle.amqp_links.specs.declared.errors.RecvError.TheVariants as faults;
-
-    ghost from_gives = { λ _ error. error ≡ faults.NoMemory };
+    ghost from_gives = { λ _ error. error ≡ recv_errors.NoMemory };
 
     fn from(_error: NoMemory) -> Self {
         RecvError::NoMemory
@@ -174,10 +169,7 @@ pub enum SendError {
 }
 
 impl From<NoMemory> for SendError {
-    ghost use Rattle.std.specs.Prelude.{◌≡◌};
-    ghost use Rattle.amqp_links.specs.declared.errors.SendError.TheVariants as faults;
-
-    ghost from_gives = { λ _ error. error ≡ faults.NoMemory };
+    ghost from_gives = { λ _ error. error ≡ send_errors.NoMemory };
 
     fn from(_error: NoMemory) -> Self {
         SendError::NoMemory

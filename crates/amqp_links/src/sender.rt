@@ -38,7 +38,8 @@ pub trait SenderLink {
     ghost outcome_gives: { Self → Self → Number → Found Told → Type 0 } = { λ _ _ _ _. Unit {0} };
 
     /// What one close answers and leaves of this link, beside what the link tells.
-    ghost close_gives: { Self → Self → Option Cause → Result Unit Unclosed → Type 0 } = { λ _ _ _ _. Unit {0} };
+    ghost close_gives: { Self → Self → Option Cause → Result Unit Unclosed
+        → Type 0 } = { λ _ _ _ _. Unit {0} };
 
     /// Sends a message, with the state that its transfer says.
     ///

@@ -253,7 +253,8 @@ impl ReceiverLink for WireReceiver {
 
     fn set_credit(&mut self, credit: u32) -> Result<(), FlowError>
         ensures told { SetsCredit (receiver_tells self.old) (receiver_tells self.new) result }
-        ensures fails { FailsOnlyAsListed (is_failing self.old.calls) link_errors.IllegalState result }
+        ensures fails { FailsOnlyAsListed (is_failing self.old.calls)
+            link_errors.IllegalState result }
         ensures wire { self.new ≡ after_credit self.old credit result }
     {
         if self.calls.begin() {

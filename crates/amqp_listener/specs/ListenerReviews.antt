@@ -21,8 +21,9 @@ pub record TakesBare {S : Type 0} (takes : S → List Frame → Type 0) (l : Lis
   pub inner : takes (inner_of l) list
 
 -- what lasts of a call, by more that it leaves
-lasts-weakened : {T : Type 0} (sure : Bool) (left more : Type 0) (result : Result T SessionInnerError)
-    → (left → more) → Lasts sure left result → Lasts false more result
+lasts-weakened : {T : Type 0} (sure : Bool) (left more : Type 0)
+    (result : Result T SessionInnerError) → (left → more) → Lasts sure left result
+    → Lasts false more result
 lasts-weakened sure left more (Ok value) then lasts = then lasts
 lasts-weakened sure left more (Err error) then lasts = (lasts.0, refl)
 
@@ -71,21 +72,24 @@ pub heard-goes-on : {S : Type 0} (told : S → Told) (takes : S → List Frame �
     (answer : Result (List Frame) SessionInnerError)
     → HearsFrame told gives names old new frame answer
     → GoesOn (TakesBare takes) false old new frame answer
-heard-goes-on told takes sure gives names law old new (frames.Attach attach) answer heard rest each =
+heard-goes-on told takes sure gives names law old new (frames.Attach attach) answer heard rest
+    each =
     absurd (cc each.bare)
 heard-goes-on told takes sure gives names law old new (frames.Flow flow) answer heard rest each =
     absurd (cc each.bare)
-heard-goes-on told takes sure gives names law old new (frames.Detach detach) answer heard rest each =
+heard-goes-on told takes sure gives names law old new (frames.Detach detach) answer heard rest
+    each =
     absurd (cc each.bare)
-heard-goes-on told takes sure gives names law old new (frames.Transfer transfer payload) answer heard
-    rest each =
+heard-goes-on told takes sure gives names law old new (frames.Transfer transfer payload) answer
+    heard rest each =
     let Left : Result (List Frame) SessionInnerError → Type 0 =
     Lasts false (TakesBare takes new rest) in
     let h = heard.hears.0 in
     subst Left (sym h.2)
     (lasts-let_pass sure (takes (inner_of new) rest) (TakesBare takes new rest) h.0
     (λ inner. record { bare = (and_parts _ _ each.bare).1; inner = inner })
-    (law (inner_of old) (inner_of new) (frames.Transfer transfer payload) h.0 h.1.gave rest each.inner))
+    (law (inner_of old) (inner_of new) (frames.Transfer transfer payload) h.0 h.1.gave rest
+    each.inner))
 heard-goes-on told takes sure gives names law old new (frames.Disposition disposition) answer heard
     rest each =
     lasts-weakened sure (takes (inner_of new) rest) (TakesBare takes new rest) answer

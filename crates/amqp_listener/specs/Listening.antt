@@ -117,8 +117,8 @@ pub record NoRoom {S T E : Type 0} (old new : S) (held held_now : InputHandle �
   pub result_is : result ≡ Err fault
 
 -- an allocation of a link that the peer attached, through a listener, by how its name was known: of
--- an unknown name what is held is replayed, if there is room for the copies; a name that is known is
--- refused, and nothing is copied for it
+-- an unknown name what is held is replayed, if there is room for the copies; a name that is known
+-- is refused, and nothing is copied for it
 abbrev pub AllocatesHeld : {S : Type 0} → (S → Told)
     → (S → S → Text → Relay → InputHandle → Result OutputHandle AllocLinkError → Type 0)
     → S → S → NameState → (InputHandle → List LinkFlow) → (InputHandle → List LinkFlow) → Text

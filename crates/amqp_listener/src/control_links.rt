@@ -68,8 +68,9 @@ pub fn open_control<S: Session>(
     ensures leaves { LeavesOpening (S.kept session.old) (S.kept session.new) (S.names session.old)
         (S.names session.new) attach.now result }
     ensures opens { OpensControl S.told S.names S.allocate_incoming_link_gives
-        S.outgoing_flow_gives S.deallocate_link_gives session.old session.new (flows_for held.old) (flows_for held.new)
-        (control_opening control.now attach.now) result }
+        S.outgoing_flow_gives S.deallocate_link_gives session.old session.new
+        (flows_for held.old) (flows_for held.new) (control_opening control.now attach.now)
+        result }
 {
     let opening = control.prepare(alloc, attach)?;
     match open_held(session, held, opening) {

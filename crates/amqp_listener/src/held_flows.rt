@@ -6,7 +6,7 @@ ghost use Rattle.amqp_sessions.specs.Links.{same_input};
 ghost use Rattle.amqp_txn_types.specs.declared.small.InputHandle.{InputHandle as Input};
 ghost use Rattle.amqp_listener.specs.Held.{HasRoom, HasRoomFor, ListHasRoom, SameHeld, SameLists, flows_for, link_flow_in, replaying, with_flows, with_held};
 
-use amqp_sessions::Relay;
+use amqp_sessions::{Relay, link_flow};
 use amqp_txn_types::{Flow, InputHandle, LinkFlow, LinkFlows, NoMemory, TryClone};
 use std::alloc::Global;
 use std::collections::HashMap;
@@ -55,18 +55,14 @@ impl HeldFlows {
             return Ok(None);
         };
         self.make_room(InputHandle(handle.0))?;
-        Ok(Some(LinkFlow {
-            handle,
-            delivery_count: flow.delivery_count,
-            link_credit: flow.link_credit,
-            available: flow.available,
-            drain: flow.drain,
-            echo: flow.echo,
-            properties: flow.properties.try_clone()?,
-        }))
+        Ok(Some(link_flow(handle, flow.try_clone()?)))
     }
 
     /// Holds a flow for its handle, after those that are held for it.
+    ///
+    /// # Requires
+    ///
+    /// There is room for the flow, made by [`HeldFlows::prepare`].
     pub fn hold(&mut self, flow: Option<LinkFlow>)
         requires { HasRoomFor self.old flow }
         ensures { SameHeld (with_held flow (flows_for self.old)) (flows_for self.new) }

@@ -6,8 +6,6 @@ ghost use Rattle.amqp_listener.specs.Listening.{ChangesQueue, TakesNewest, contr
 
 mod endpoint_calls;
 mod session_calls;
-#[cfg(test)]
-mod tests;
 mod transactional_calls;
 
 use crate::attach_queue::AttachQueue;
@@ -25,10 +23,10 @@ use std::alloc::Global;
 /// A session with a queue of the peer's attaches and the flows that came before their handle was
 /// allocated.
 ///
-/// It counts its own calls that are answered with an Err, and tells none of what it took, opened and
-/// refused: put it into a `Recorder`. What the session in it refuses and it answers Ok isn't counted.
-/// A review is the session's: so a transfer whose handle isn't attached, which is dropped where it
-/// comes by itself, is vetoed where it is to be handed in a commit.
+/// It counts its own calls that are answered with an Err, and tells none of what it took, opened
+/// and refused: put it into a `Recorder`. What the session in it refuses and it answers Ok isn't
+/// counted. A review is the session's: so a transfer whose handle isn't attached, which is dropped
+/// where it comes by itself, is vetoed where it is to be handed in a commit.
 #[derive(Drop)]
 pub struct ListenerSession<S> {
     session: S,
@@ -57,6 +55,13 @@ impl<S: Session> ListenerSession<S> {
             refusals: 0,
             alloc,
         }
+    }
+
+    /// The session in it.
+    pub fn session(&self) -> &S
+        ensures { result.now ≡ inner_of self.now }
+    {
+        &self.session
     }
 
     /// Closes the queue: from now on no attach is queued. Those that wait are still given.

@@ -1,16 +1,14 @@
 //! What no clause says: that an accepting listener answers attaches where there is memory.
 
-use crate::tests::listener;
+use crate::listener_tests::listener;
 use amqp_accepting::AcceptingListener;
 use amqp_acceptors::LinkAcceptor;
 use amqp_endpoints::ListenerSessionEndpoint;
 use amqp_layer::{LayerBelow, SessionInnerError, Verdict};
 use amqp_session_test_values::{judges, takes_work};
 use amqp_sessions::{PlainSession, Session};
-use amqp_txn_types::{
-    Attach, Coordinator, Frame, Frames, Handle, ReceiverSettleMode, Role, SenderSettleMode,
-    SessionStopReason, TargetArchetype, Text,
-};
+use amqp_test_values::{refuses, sender_attach};
+use amqp_txn_types::{Coordinator, Frame, Frames, Role, SessionStopReason, TargetArchetype, Text};
 use std::alloc::Global;
 
 type Accepting = AcceptingListener<PlainSession>;
@@ -26,21 +24,9 @@ fn attach(
     role: Role,
     target: Option<TargetArchetype>,
 ) -> Result<Frames, SessionInnerError> {
-    let name = Text::from_str(alloc, "a")?;
-    listener.on_incoming_attach(Attach {
-        name,
-        handle: Handle(5),
-        role,
-        snd_settle_mode: SenderSettleMode::Mixed,
-        rcv_settle_mode: ReceiverSettleMode::First,
-        source: None,
-        target,
-        initial_delivery_count: None,
-        max_message_size: None,
-        offered_capabilities: None,
-        desired_capabilities: None,
-        properties: None,
-    })
+    let mut attach = sender_attach(Text::from_str(alloc, "a")?, 5, target);
+    attach.role = role;
+    listener.on_incoming_attach(attach)
 }
 
 /// The roles of the attaches among some frames, and how many flows there are.
@@ -59,18 +45,6 @@ fn replies(answer: Result<Frames, SessionInnerError>) -> Option<(Option<Role>, u
     }
     drop(frames);
     Some((role, flows))
-}
-
-/// Whether the answer is that Err.
-fn refuses(answer: Result<Frames, SessionInnerError>, wanted: SessionInnerError) -> bool {
-    match answer {
-        Ok(frames) => {
-            drop(frames);
-            drop(wanted);
-            false
-        }
-        Err(error) => error == wanted,
-    }
 }
 
 /// Whether no attach waits.

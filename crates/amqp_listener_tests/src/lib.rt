@@ -1,8 +1,10 @@
-//! The tests of `amqp_listener` that use its public calls alone, with the acceptors and the
-//! recorder over it. They stand apart from it, since a crate with tests is proved twice.
+//! The tests of `amqp_listener`, with the acceptors and the recorder over it, and of
+//! `amqp_accepting`. They stand apart from these, since a crate with tests is proved twice.
 #![tactic(auto)]
 
 #[cfg(test)]
 mod accepting_tests;
+#[cfg(test)]
+mod listener_tests;
 #[cfg(test)]
 mod tests;

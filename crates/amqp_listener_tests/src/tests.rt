@@ -1,8 +1,7 @@
 //! What no clause says: that the calls of an acceptor and a recorder over a listener succeed.
 
-use amqp_acceptors::{
-    AcceptorAttachError, ControlLinkAcceptor, LinkAcceptor, LinkEndpoint, SessionHandle,
-};
+use crate::listener_tests::listener;
+use amqp_acceptors::{AcceptorAttachError, LinkAcceptor, LinkEndpoint, SessionHandle};
 use amqp_endpoints::ListenerSessionEndpoint;
 use amqp_layer::{LayerBelow, Verdict};
 use amqp_links::Poll;
@@ -10,54 +9,19 @@ use amqp_listener::ListenerSession;
 use amqp_recorder::Recorder;
 use amqp_session_test_values::{judges, takes_work};
 use amqp_sessions::{PlainSession, Session};
-use amqp_txn_types::{
-    Attach, Begin, ConnectionStopReason, Frames, Handle, OutgoingChannel, ReceiverSettleMode, Role,
-    SenderSettleMode, SessionState, SessionStopReason, Text,
-};
+use amqp_test_values::sender_attach;
+use amqp_txn_types::{ConnectionStopReason, Frames, SessionStopReason, Text};
 use std::alloc::Global;
 
 /// What accepting the next link answers.
 type Accepted = Poll<Result<(LinkEndpoint, Frames), AcceptorAttachError>>;
-
-pub(crate) fn listener(alloc: Global) -> ListenerSession<PlainSession> {
-    let begin = Begin {
-        remote_channel: None,
-        next_outgoing_id: 0,
-        incoming_window: 2,
-        outgoing_window: 2,
-        handle_max: Handle(9),
-        offered_capabilities: None,
-        desired_capabilities: None,
-        properties: None,
-    };
-    let plain = PlainSession::new(alloc, OutgoingChannel(7), SessionState::Mapped, begin);
-    ListenerSession::new(alloc, plain, ControlLinkAcceptor::default())
-}
-
-/// The attach of a sender with that name.
-fn attach(name: Text) -> Attach {
-    Attach {
-        name,
-        handle: Handle(5),
-        role: Role::Sender,
-        snd_settle_mode: SenderSettleMode::Mixed,
-        rcv_settle_mode: ReceiverSettleMode::First,
-        source: None,
-        target: None,
-        initial_delivery_count: None,
-        max_message_size: None,
-        offered_capabilities: None,
-        desired_capabilities: None,
-        properties: None,
-    }
-}
 
 /// The peer attaches the link "a": whether that is Ok, without frames.
 fn hears_attach<S: LayerBelow>(alloc: Global, session: &mut S) -> bool {
     let Ok(name) = Text::from_str(alloc, "a") else {
         return false;
     };
-    match session.on_incoming_attach(attach(name)) {
+    match session.on_incoming_attach(sender_attach(name, 5, None)) {
         Ok(frames) => frames.is_empty(),
         Err(error) => {
             drop(error);

@@ -1,5 +1,10 @@
 //! Why a post fails.
 
+ghost use Rattle.std.specs.Prelude.{◌≡◌};
+ghost use Rattle.amqp_posting.specs.declared.errors.PostError.TheVariants as errors;
+ghost use Rattle.amqp_control_calls.specs.Errors.{link_state};
+ghost use Rattle.amqp_posting.specs.Errors.{unposted};
+
 use amqp_control_calls::link_state_of;
 use amqp_links::{
     DetachError, IllegalLinkStateError, LinkStateError, MessageSizeExceeded, SendError,
@@ -34,9 +39,6 @@ pub enum PostError {
 }
 
 impl From<NoMemory> for PostError {
-    ghost use Rattle.std.specs.Prelude.{◌≡◌};
-    ghost use Rattle.amqp_posting.specs.declared.errors.PostError.TheVariants as errors;
-
     ghost from_gives = { λ _ error. error ≡ errors.NoMemory };
 
     fn from(_error: NoMemory) -> Self {
@@ -45,9 +47,6 @@ impl From<NoMemory> for PostError {
 }
 
 impl From<LinkStateError> for PostError {
-    ghost use Rattle.std.specs.Prelude.{◌≡◌};
-    ghost use Rattle.amqp_posting.specs.declared.errors.PostError.TheVariants as errors;
-
     ghost from_gives = { λ fault error. error ≡ errors.LinkStateError fault };
 
     fn from(error: LinkStateError) -> Self {
@@ -56,9 +55,6 @@ impl From<LinkStateError> for PostError {
 }
 
 impl From<MessageSizeExceeded> for PostError {
-    ghost use Rattle.std.specs.Prelude.{◌≡◌};
-    ghost use Rattle.amqp_posting.specs.declared.errors.PostError.TheVariants as errors;
-
     ghost from_gives = { λ size error. error ≡ errors.MessageSizeExceeded size };
 
     fn from(error: MessageSizeExceeded) -> Self {
@@ -67,9 +63,6 @@ impl From<MessageSizeExceeded> for PostError {
 }
 
 impl From<DetachError> for PostError {
-    ghost use Rattle.std.specs.Prelude.{◌≡◌};
-    ghost use Rattle.amqp_posting.specs.declared.errors.PostError.TheVariants as errors;
-
     ghost from_gives = { λ fault error. error ≡ errors.Detached fault };
 
     fn from(error: DetachError) -> Self {
@@ -79,10 +72,6 @@ impl From<DetachError> for PostError {
 
 /// Each error is the state of the link of its name.
 impl From<IllegalLinkStateError> for PostError {
-    ghost use Rattle.std.specs.Prelude.{◌≡◌};
-    ghost use Rattle.amqp_control_calls.specs.Errors.{link_state};
-    ghost use Rattle.amqp_posting.specs.declared.errors.PostError.TheVariants as errors;
-
     ghost from_gives = { λ fault error. error ≡ errors.LinkStateError (link_state fault) };
 
     fn from(error: IllegalLinkStateError) -> Self {
@@ -92,9 +81,6 @@ impl From<IllegalLinkStateError> for PostError {
 
 /// Each error is that of its name.
 impl From<SendError> for PostError {
-    ghost use Rattle.std.specs.Prelude.{◌≡◌};
-    ghost use Rattle.amqp_posting.specs.Errors.{unposted};
-
     ghost from_gives = { λ refused error. error ≡ unposted refused };
 
     fn from(error: SendError) -> Self {

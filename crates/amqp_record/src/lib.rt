@@ -28,8 +28,8 @@
 //!                                  not live, until t is declared anew
 //! ```
 //!
-//! A commit with a frame may be vetoed by the layer below, before anything is handed: it is rejected
-//! with `Rollback`, and t is rolled back.
+//! A commit with a frame may be vetoed by the layer below, before anything is handed: it is
+//! rejected with `Rollback`, and t is rolled back.
 //!
 //! While t isn't live, a frame under it has no answer (the session stops), and a discharge of it on
 //! an open link is rejected as unknown. A discharge on another link than its home is rejected too,

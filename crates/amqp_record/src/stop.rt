@@ -121,8 +121,8 @@ pub fn code_of_end(reason: &SessionStopReason) -> StopCode
 /// Why a step has no reply.
 #[derive(Debug, Drop, PartialEq, ThisError)]
 pub enum StepError {
-    /// The step is a frame under an id that isn't live, or the layer below refused a frame of it, or
-    /// wanted memory for a commit.
+    /// The step is a frame under an id that isn't live, or the layer below refused a frame of it,
+    /// or wanted memory for a commit.
     #[error("a frame was not taken: {error}")]
     Fault {
         /// What is wrong; `UnknownTxnId` stands for the first cause alone.

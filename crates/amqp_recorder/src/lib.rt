@@ -20,13 +20,13 @@
 //! below.on_incoming_detach(detach)?; // the second call: IllegalState
 //! ```
 //!
-//! A review of frames that would make such a call is vetoed. Calls of another plan, the starved ones,
-//! are answered with want of memory, which no review foresees.
+//! A review of frames that would make such a call is vetoed. Calls of another plan, the starved
+//! ones, are answered with want of memory, which no review foresees.
 //!
-//! Below stand the layer of `amqp_layer`, the sessions of `amqp_sessions` and the ids of `amqp_ids`.
-//! The promise that this crate carries: a recorder's exchanges are the pairs of the calls of the layer
-//! in it that were Ok, in order, but for those whose given frames it couldn't copy, which it answers
-//! with `NoMemory`. 'The standard' is OASIS AMQP 1.0.
+//! Below stand the layer of `amqp_layer`, the sessions of `amqp_sessions` and the ids of
+//! `amqp_ids`. The promise that this crate carries: a recorder's exchanges are the pairs of the
+//! calls of the layer in it that were Ok, in order, but for those whose given frames it couldn't
+//! copy, which it answers with `NoMemory`. 'The standard' is OASIS AMQP 1.0.
 #![tactic(auto)]
 
 mod call_numbers;

@@ -248,7 +248,10 @@ impl Builder {
         let session = self.into_session(alloc, channel, SessionState::Unmapped);
         match SessionEngine::begin_client_session(alloc, session) {
             Ok(begun) => Ok(begun),
-            Err((_session, error)) => Err(error),
+            Err((session, error)) => {
+                drop(session);
+                Err(error)
+            }
         }
     }
 }

@@ -16,7 +16,5 @@
 #![tactic(auto)]
 
 mod builder;
-#[cfg(test)]
-mod tests;
 
 pub use builder::Builder;

@@ -58,7 +58,10 @@ impl<S: Session> ClientBegin<S> {
         let channel = IncomingChannel(frame.channel);
         match frame.body {
             SessionFrameBody::Begin(begin) => take_peers_begin(alloc, session, channel, begin),
-            SessionFrameBody::Link(_) => Err((session, BeginError::IllegalState)),
+            SessionFrameBody::Link(link) => {
+                drop(link);
+                Err((session, BeginError::IllegalState))
+            }
             SessionFrameBody::End(end) => Err((session, ended_early(end.error))),
         }
     }

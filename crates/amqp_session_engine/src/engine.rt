@@ -138,6 +138,7 @@ impl<S: Session> SessionEngine<S> {
             (Rose (S.told self.old).refusals (S.told self.new).refusals) result }
     {
         if !is_mapped(self.session.local_state()) {
+            drop(frame);
             return Err(SessionInnerError::IllegalState);
         }
         send_link(self.alloc, &mut self.session, frame)
@@ -264,6 +265,7 @@ impl<S: Session + HandleDeclare + HandleDischarge> SessionEngine<S> {
             result }
     {
         if !is_end(&control) && !is_mapped(self.session.local_state()) {
+            drop(control);
             return Err(SessionInnerError::IllegalState);
         }
         serve(self.alloc, &mut self.session, control, ids)

@@ -29,6 +29,7 @@ pub(crate) fn take_link<S: LayerBelow>(
         (S.told session.new).refusals) result }
 {
     if awaits_end(session.local_state()) {
+        drop(frame);
         return Ok(quiet(alloc, Running::Waiting));
     }
     match take_frame(session, frame) {
@@ -53,6 +54,7 @@ pub(crate) fn take_begin<S: Session>(
 {
     let state = session.local_state();
     if awaits_end(state) {
+        drop(begin);
         return Ok(quiet(alloc, Running::Waiting));
     }
     match session.on_incoming_begin(channel, begin) {

@@ -28,7 +28,10 @@ fn pass_disposition<S: Session>(
     ensures cause { CausedBy false (Rose (S.told session.old).refusals
         (S.told session.new).refusals) result }
 {
-    session.on_outgoing_disposition(&disposition)?;
+    if let Err(fault) = session.on_outgoing_disposition(&disposition) {
+        drop(disposition);
+        return Err(fault);
+    }
     Ok(sending_one(room, Frame::Disposition(disposition)))
 }
 
@@ -44,7 +47,10 @@ pub(crate) fn send_disposition<S: Session>(
     ensures cause { CausedBy false (Rose (S.told session.old).refusals
         (S.told session.new).refusals) result }
 {
-    let room = room_for_one(alloc)?;
+    let Ok(room) = room_for_one(alloc) else {
+        drop(disposition);
+        return Err(SessionInnerError::NoMemory);
+    };
     pass_disposition(room, session, disposition)
 }
 
@@ -102,7 +108,10 @@ fn pass_link<S: Session>(
 {
     match frame {
         LinkFrame::Attach(attach) => {
-            session.on_outgoing_attach(&attach)?;
+            if let Err(fault) = session.on_outgoing_attach(&attach) {
+                drop(attach);
+                return Err(fault);
+            }
             Ok(sending_one(room, Frame::Attach(attach)))
         }
         LinkFrame::Flow(flow) => pass_flow(room, session, flow),
@@ -114,7 +123,10 @@ fn pass_link<S: Session>(
         } => pass_transfer(room, session, input, transfer, payload, is_first),
         LinkFrame::Disposition(disposition) => pass_disposition(room, session, disposition),
         LinkFrame::Detach(detach) => {
-            session.on_outgoing_detach(&detach)?;
+            if let Err(fault) = session.on_outgoing_detach(&detach) {
+                drop(detach);
+                return Err(fault);
+            }
             Ok(sending_one(room, Frame::Detach(detach)))
         }
     }
@@ -134,6 +146,9 @@ pub(crate) fn send_link<S: Session>(
     ensures cause { CausedBy false (Rose (S.told session.old).refusals
         (S.told session.new).refusals) result }
 {
-    let room = room_for_one(alloc)?;
+    let Ok(room) = room_for_one(alloc) else {
+        drop(frame);
+        return Err(SessionInnerError::NoMemory);
+    };
     pass_link(room, session, frame)
 }

@@ -1,5 +1,6 @@
 -- The tables of a session's links stay in agreement.
-use Rattle.std.proofs.Common.{ℕ, ◌≡◌, ◌≢◌, true, false, cond, Option, Some, None, List, inl, inr, sym, ◌∙◌, ap, refl, nat_eq, ◌<◌, length, is_some, set, get_or, IsSome, option_copied, Bor}
+use Rattle.std.proofs.Common.{ℕ, ◌≡◌, ◌≢◌, true, false, cond, Option, Some, None, List, inl, inr, sym, ◌∙◌, ap, refl, nat_eq, ◌<◌, length, is_some, set, get_or, Bool, IsSome, option_copied, Bor}
+use Rattle.std.specs.Prelude.{position}
 use Rattle.std.specs.Cmp.Lexicographic.{pointwise, same_text, nat_list_eq_equiv}
 use Rattle.std.proofs.lemmas.Cmp.{nat_eq_equiv}
 use Rattle.std.proofs.lemmas.Bool.{cases_Bool, cases_eq, eqb-true}
@@ -201,70 +202,65 @@ module _ (slots now : List (Option Link)) (by_name : Text → Option OutputHandl
   pub not_found-input : (input : InputHandle) → by_input input ≡ None → output_mapped now input ≡ None
   not_found-input input absent = rw (← same) (no_output (output_mapped slots input) (sym absent ∙ finds-input slots by_name by_input agree input))
 
+-- what a key finds, once one link has changed: `has` tests for the key that `key_in` shows
+module _ {K : Type 0} (key_in : Option Link → Option K) (has : K → Option Link → Bool) (none : (key : K) → has key None ≡ false) (has-in : (key : K) (slot : Option Link) → has key slot ≡ true → key_in slot ≡ Some key) (in-has : (key : K) (slot : Option Link) → key_in slot ≡ Some key → has key slot ≡ true) (slots new : List (Option Link)) (find : K → Option OutputHandle) (at : ℕ) (old : Indexes (λ i. key_in (link_at slots i)) find) (others : (i : ℕ) → i ≢ at → link_at new i ≡ link_at slots i) where
+  -- another link with the key had it before
+  was-found : (key : K) (k : ℕ) → k ≢ at → has key (link_at new k) ≡ true → find key ≡ Some (record { 0 = k })
+  was-found key k ne hit =
+      let was : has key (link_at slots k) ≡ true = rw (others k ne) at hit in
+      old.finds key k (has-in key (link_at slots k) was)
+
+  -- a key that no link had is that of the link that has it now
+  key-now : (key : K) → find key ≡ None → key_in (link_at new at) ≡ Some key → position (has key) new ≡ Some at
+  key-now key free here =
+      let only : (k : ℕ) → has key (link_at new k) ≡ true → k ≡ at = λ k hit. elim (cases_eq k at) [
+        | inl e ↦ e
+        | inr ne ↦
+            let there : find key ≡ Some (record { 0 = k }) = was-found key k ne hit in
+            absurd (cc (there, free))
+      ] in
+      position-only (has key) new at None (none key) (in-has key (link_at new at) here) only
+
+  -- no link has the key of a link that was freed
+  key-gone : (key : K) → key_in (link_at slots at) ≡ Some key → link_at new at ≡ None → position (has key) new ≡ None
+  key-gone key had gone =
+      let fails : (k : ℕ) → has key (link_at new k) ≡ false = λ k. elim (cases_Bool (has key (link_at new k))) [
+        | inr miss ↦ miss
+        | inl hit ↦ elim (cases_eq k at) [
+          | inl e ↦ let absent : has key (link_at new k) ≡ false = rw (e, gone) (none key) in absent
+          | inr ne ↦
+              let there : find key ≡ Some (record { 0 = k }) = was-found key k ne hit in
+              let first : find key ≡ Some (record { 0 = at }) = old.finds key at had in
+              let handles : ◌≡◌ {A = OutputHandle} (record { 0 = k }) (record { 0 = at }) = cc (there, first) in
+              absurd (ne (ap (λ h. h.0) handles))
+        ]
+      ] in
+      position-none (has key) new None fails
+
 module _ (slots new : List (Option Link)) (f : Text → Option OutputHandle) (g : InputHandle → Option OutputHandle) (at : ℕ) (old : Agree slots f g) (others : (i : ℕ) → i ≢ at → link_at new i ≡ link_at slots i) where
   -- a name that no link had is that of the link that has it now
   pub named-now : (name : Text) → output_named slots name ≡ None → name_in (link_at new at) ≡ Some name → output_named new name ≡ Some at
   unfolding output_named
   named-now name free here =
-      let only : (k : ℕ) → has_name name (link_at new k) ≡ true → k ≡ at = λ k hit. elim (cases_eq k at) [
-        | inl e ↦ e
-        | inr ne ↦
-            let was : has_name name (link_at slots k) ≡ true = rw (others k ne) at hit in
-            let there : f name ≡ Some (record { 0 = k }) = old.names.finds name k (has_name-in name (link_at slots k) was) in
-            let absent : f name ≡ None = name-free slots f g old name free in
-            absurd (cc (there, absent))
-      ] in
-      position-only (has_name name) new at None refl (in-has_name name (link_at new at) here) only
+      key-now name_in has_name (λ _. refl) has_name-in in-has_name slots new f at old.names others name (name-free slots f g old name free) here
 
   -- an input handle that was mapped to no link is mapped to the link that has it now
   pub mapped-now : (input : InputHandle) → output_mapped slots input ≡ None → input_in (link_at new at) ≡ Some input → output_mapped new input ≡ Some at
   unfolding output_mapped
   mapped-now input free here =
-      let only : (k : ℕ) → has_input input (link_at new k) ≡ true → k ≡ at = λ k hit. elim (cases_eq k at) [
-        | inl e ↦ e
-        | inr ne ↦
-            let was : has_input input (link_at slots k) ≡ true = rw (others k ne) at hit in
-            let there : g input ≡ Some (record { 0 = k }) = old.inputs.finds input k (has_input-in input (link_at slots k) was) in
-            let absent : g input ≡ None = input-free slots f g old input free in
-            absurd (cc (there, absent))
-      ] in
-      position-only (has_input input) new at None refl (in-has_input input (link_at new at) here) only
+      key-now input_in has_input (λ _. refl) has_input-in in-has_input slots new g at old.inputs others input (input-free slots f g old input free) here
 
   -- no link has the name of a link that was freed
   pub unnamed-now : (name : Text) → name_in (link_at slots at) ≡ Some name → link_at new at ≡ None → output_named new name ≡ None
   unfolding output_named
   unnamed-now name had gone =
-      let fails : (k : ℕ) → has_name name (link_at new k) ≡ false = λ k. elim (cases_Bool (has_name name (link_at new k))) [
-        | inr miss ↦ miss
-        | inl hit ↦ elim (cases_eq k at) [
-          | inl e ↦ let none : has_name name (link_at new k) ≡ false = rw (e, gone) refl in none
-          | inr ne ↦
-              let was : has_name name (link_at slots k) ≡ true = rw (others k ne) at hit in
-              let there : f name ≡ Some (record { 0 = k }) = old.names.finds name k (has_name-in name (link_at slots k) was) in
-              let first : f name ≡ Some (record { 0 = at }) = old.names.finds name at had in
-              let handles : ◌≡◌ {A = OutputHandle} (record { 0 = k }) (record { 0 = at }) = cc (there, first) in
-              absurd (ne (ap (λ h. h.0) handles))
-        ]
-      ] in
-      position-none (has_name name) new None fails
+      key-gone name_in has_name (λ _. refl) has_name-in in-has_name slots new f at old.names others name had gone
 
   -- the input handle of a link that was freed is mapped to none
   pub unmapped-now : (input : InputHandle) → input_in (link_at slots at) ≡ Some input → link_at new at ≡ None → output_mapped new input ≡ None
   unfolding output_mapped
   unmapped-now input had gone =
-      let fails : (k : ℕ) → has_input input (link_at new k) ≡ false = λ k. elim (cases_Bool (has_input input (link_at new k))) [
-        | inr miss ↦ miss
-        | inl hit ↦ elim (cases_eq k at) [
-          | inl e ↦ let none : has_input input (link_at new k) ≡ false = rw (e, gone) refl in none
-          | inr ne ↦
-              let was : has_input input (link_at slots k) ≡ true = rw (others k ne) at hit in
-              let there : g input ≡ Some (record { 0 = k }) = old.inputs.finds input k (has_input-in input (link_at slots k) was) in
-              let first : g input ≡ Some (record { 0 = at }) = old.inputs.finds input at had in
-              let handles : ◌≡◌ {A = OutputHandle} (record { 0 = k }) (record { 0 = at }) = cc (there, first) in
-              absurd (ne (ap (λ h. h.0) handles))
-        ]
-      ] in
-      position-none (has_input input) new None fails
+      key-gone input_in has_input (λ _. refl) has_input-in in-has_input slots new g at old.inputs others input had gone
 
 -- a link that is written with its name leaves the links by name
 pub written-named : (slots : List (Option Link)) (at : ℕ) (link slot : Link) → link_at slots at ≡ Some link → slot.name ≡ link.name → (name : Text) → output_named (set slots at (Some slot)) name ≡ output_named slots name

@@ -33,7 +33,7 @@ mod session_errors;
 mod state_moves;
 mod transacting;
 
-pub use link_frames::control_error;
+pub use link_frames::{control_error, link_flow};
 pub use plain_session::PlainSession;
 pub use relay::{NameState, Relay};
 pub use session::Session;

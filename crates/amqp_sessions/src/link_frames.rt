@@ -77,7 +77,7 @@ pub fn attach_link(
 }
 
 /// The part of a flow that is about one link.
-fn link_flow(handle: Handle, flow: Flow) -> LinkFlow
+pub fn link_flow(handle: Handle, flow: Flow) -> LinkFlow
     ensures { result ≡ link_flow handle flow }
 {
     LinkFlow {
@@ -110,7 +110,7 @@ pub fn pass_flow(
     let Some((output, _)) = links.find_mapped(InputHandle(handle.0)) else {
         return Err(SessionInnerError::UnattachedHandle);
     };
-    links.add_flow(output, link_flow(handle, flow))?;
+    links.append_flow(output, link_flow(handle, flow))?;
     Ok(())
 }
 
@@ -172,15 +172,7 @@ pub fn takes_all(state: SessionState, links: &Links, frames: &[Frame]) -> bool
     ensures taken { OnTrue result ((state ≡ Mapped)
         × (list_all (takes_work links.now.slots) frames.now ≡ true)) }
 {
-    match state {
-        SessionState::Mapped => takes_each(links, frames),
-        SessionState::Unmapped
-        | SessionState::BeginSent
-        | SessionState::BeginReceived
-        | SessionState::EndSent
-        | SessionState::EndReceived
-        | SessionState::Discarding => false,
-    }
+    matches!(state, SessionState::Mapped) && takes_each(links, frames)
 }
 
 /// A detach, which frees its link and is answered by one.

@@ -1,6 +1,6 @@
 //! The links of a session, by name, by input handle and by output handle.
 
-ghost use Rattle.std.specs.Prelude.{◌≡◌, ◌<◌, ◌^◌, ◌++◌, ◌∷◌, [], Some, None, is_some, option_copied, IfSome, IsSome, MatchOption, OnOk, OnErr, IfOk};
+ghost use Rattle.std.specs.Prelude.{◌≡◌, ◌<◌, ◌^◌, [], Some, None, is_some, option_copied, IfSome, IsSome, MatchOption, OnOk, OnErr, IfOk};
 ghost use Rattle.std.specs.Bool.{OnTrue};
 ghost use Rattle.std.specs.HashMap.{get as entry_of};
 ghost use Rattle.amqp_txn_types.specs.declared.small.InputHandle.{InputHandle as Input};
@@ -10,8 +10,7 @@ ghost use Rattle.amqp_sessions.specs.Agreement.{found_without, input_in, name_in
 
 use crate::relay::Relay;
 use amqp_txn_types::{
-    InputHandle, LinkFlow, LinkFlows, NoMemory, OutputHandle, ReceiverSettleMode, Role, Text,
-    TryClone,
+    InputHandle, LinkFlow, NoMemory, OutputHandle, ReceiverSettleMode, Role, Text, TryClone,
 };
 use slab::Slab;
 use std::alloc::Global;
@@ -108,6 +107,10 @@ impl Links {
     }
 
     /// Places a link that waits for the peer's attach. The only error is want of memory.
+    ///
+    /// # Requires
+    ///
+    /// No link has the name, and the next output handle fits into 32 bits.
     pub fn place(&mut self, name: Text, relay: Relay) -> Result<OutputHandle, NoMemory>
         requires unknown { output_named self.old.slots name ≡ None }
         requires fits { self.old.next < 2 ^ 32 }
@@ -133,6 +136,10 @@ impl Links {
     }
 
     /// Places a link that is attached. The only error is want of memory.
+    ///
+    /// # Requires
+    ///
+    /// No link has the name or the input handle, and the next output handle fits into 32 bits.
     pub fn place_mapped(
         &mut self,
         name: Text,
@@ -170,6 +177,11 @@ impl Links {
     }
 
     /// Maps an input handle to a link that waits for it. The only error is want of memory.
+    ///
+    /// # Requires
+    ///
+    /// The output handle has a link, which waits for the peer's attach, and no link has the input
+    /// handle.
     pub fn attach(
         &mut self,
         output: OutputHandle,
@@ -216,8 +228,12 @@ impl Links {
         true
     }
 
-    /// Adds a flow to what is passed on to a link. The only error is want of memory.
-    pub fn add_flow(&mut self, output: OutputHandle, flow: LinkFlow) -> Result<(), NoMemory>
+    /// Appends a flow to what is passed on to a link. The only error is want of memory.
+    ///
+    /// # Requires
+    ///
+    /// The output handle has a link.
+    pub fn append_flow(&mut self, output: OutputHandle, flow: LinkFlow) -> Result<(), NoMemory>
         requires { IsSome (link_at self.old.slots output.0) }
         ensures added { OnOk result
             (Sets self.old.slots self.new.slots output.0
@@ -226,10 +242,14 @@ impl Links {
         ensures err { OnErr result (self.new ≡ self.old) }
     {
         let link = self.slots.get_mut(output.0 as usize).unwrap();
-        push_flow(&mut link.relay.flows, flow)
+        link.relay.flows.append(flow)
     }
 
     /// Counts a transfer of a link.
+    ///
+    /// # Requires
+    ///
+    /// The output handle has a link.
     pub fn count_transfer(&mut self, output: OutputHandle)
         requires { IsSome (link_at self.old.slots output.0) }
         ensures counted { Sets self.old.slots self.new.slots output.0
@@ -252,20 +272,6 @@ fn settled_as(
     match role {
         Role::Sender => attached,
         Role::Receiver => kept,
-    }
-}
-
-/// Appends a flow. For want of memory it is let go, and the list is as it was.
-fn push_flow(flows: &mut LinkFlows, flow: LinkFlow) -> Result<(), NoMemory>
-    ensures ok { OnOk result (flows.new ≡ flows.old ++ flow ∷ []) }
-    ensures err { OnErr result (flows.new ≡ flows.old) }
-{
-    match flows.push(flow) {
-        Ok(()) => Ok(()),
-        Err((flow, error)) => {
-            drop(flow);
-            Err(error)
-        }
     }
 }
 

@@ -246,13 +246,5 @@ fn either(first: bool, one: SessionNumbers, other: SessionNumbers) -> SessionNum
 fn is_due(state: SessionState, came: u64, window: u32) -> bool
     ensures { result ≡ is_due state came window }
 {
-    match state {
-        SessionState::Mapped => came >= 1 && came >= (window / 2) as u64,
-        SessionState::Unmapped
-        | SessionState::BeginSent
-        | SessionState::BeginReceived
-        | SessionState::EndSent
-        | SessionState::EndReceived
-        | SessionState::Discarding => false,
-    }
+    matches!(state, SessionState::Mapped) && came >= 1 && came >= (window / 2) as u64
 }

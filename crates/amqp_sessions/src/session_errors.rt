@@ -1,5 +1,9 @@
 //! Why a session doesn't allocate a link or begin.
 
+ghost use Rattle.std.specs.Prelude.{◌≡◌};
+ghost use Rattle.amqp_sessions.specs.declared.session_errors.AllocLinkError.TheVariants as alloc_link_errors;
+ghost use Rattle.amqp_sessions.specs.declared.session_errors.BeginError.TheVariants as begin_errors;
+
 use amqp_txn_types::{ConnectionStopReason, Error, NoMemory, SessionStopReason};
 use thiserror::Error as ThisError;
 
@@ -24,10 +28,7 @@ pub enum AllocLinkError {
 }
 
 impl From<NoMemory> for AllocLinkError {
-    ghost use Rattle.std.specs.Prelude.{◌≡◌};
-    ghost use Rattle.amqp_sessions.specs.declared.session_errors.AllocLinkError.TheVariants as refusals;
-
-    ghost from_gives = { λ _ e. e ≡ refusals.NoMemory };
+    ghost from_gives = { λ _ e. e ≡ alloc_link_errors.NoMemory };
 
     fn from(_error: NoMemory) -> Self {
         AllocLinkError::NoMemory
@@ -58,10 +59,7 @@ pub enum BeginError {
 }
 
 impl From<NoMemory> for BeginError {
-    ghost use Rattle.std.specs.Prelude.{◌≡◌};
-    ghost use Rattle.amqp_sessions.specs.declared.session_errors.BeginError.TheVariants as refusals;
-
-    ghost from_gives = { λ _ e. e ≡ refusals.NoMemory };
+    ghost from_gives = { λ _ e. e ≡ begin_errors.NoMemory };
 
     fn from(_error: NoMemory) -> Self {
         BeginError::NoMemory

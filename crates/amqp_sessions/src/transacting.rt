@@ -89,7 +89,8 @@ pub trait HandleDischarge: Tells {
 
     /// Ends the transaction and hands its frames below, in the order in which they came, where they
     /// are accepted there. The answers are those of its frames; `UnknownId` where there is no such
-    /// transaction, `Rollback` where its frames were vetoed: then it has ended, and none was handed.
+    /// transaction, `Rollback` where its frames were vetoed: then it has ended, and none was
+    /// handed.
     fn commit_transaction(
         &mut self,
         txn_id: &TransactionId,

@@ -26,9 +26,14 @@ pub trait ByteSink {
         ensures { Reserves (written self.old) (written self.new) (faults self.old) (faults self.new)
             (spare self.old) (spare self.new) more result };
 
-    /// Appends the first octets of the piece, and answers how many: at least one where there is one.
+    /// Appends the first octets of the piece, and answers how many: at least one where there is
+    /// one.
     ///
     /// A sink that fails appends nothing.
+    ///
+    /// # Requires
+    ///
+    /// There is room for the piece, made by `reserve`.
     fn write(&mut self, bytes: &[u8]) -> Result<usize, Failed>
         requires { length bytes.now ≤ spare self.old }
         ensures { Writes (written self.old) (written self.new) (faults self.old) (faults self.new)

@@ -155,6 +155,7 @@ impl ControllerBuilder {
         ensures names { NamesAttach (S.names session.old) (S.names session.new) self.name result }
     {
         let Ok((allocated, relayed, kept)) = three_copies(&self.name) else {
+            drop(self);
             return Err(SenderAttachError::NoMemory);
         };
         let relay = relay_of(self.alloc, relayed);
@@ -172,6 +173,8 @@ impl ControllerBuilder {
             Ok(()) => Ok((attaching, attach)),
             Err(fault) => {
                 session.deallocate_link(output);
+                drop(attaching);
+                drop(attach);
                 Err(SenderAttachError::Session(fault))
             }
         }

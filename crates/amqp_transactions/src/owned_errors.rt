@@ -1,5 +1,11 @@
 //! Why an owned transaction isn't declared or discharged.
 
+ghost use Rattle.std.specs.Prelude.{◌≡◌};
+ghost use Rattle.amqp_transactions.specs.declared.owned_errors.OwnedDeclareError.TheVariants as declare_errors;
+ghost use Rattle.amqp_transactions.specs.declared.owned_errors.OwnedDischargeError.TheVariants as discharge_errors;
+ghost use Rattle.amqp_control_calls.specs.Errors.{link_state};
+ghost use Rattle.amqp_control_calls.specs.declared.errors.ControllerSendError.TheVariants as sends;
+
 use amqp_control_calls::ControllerSendError;
 use amqp_endpoints::SenderAttachError;
 use amqp_links::{DetachError, IllegalLinkStateError};
@@ -17,10 +23,7 @@ pub enum OwnedDeclareError {
 }
 
 impl From<SenderAttachError> for OwnedDeclareError {
-    ghost use Rattle.std.specs.Prelude.{◌≡◌};
-    ghost use Rattle.amqp_transactions.specs.declared.owned_errors.OwnedDeclareError.TheVariants as errors;
-
-    ghost from_gives = { λ fault error. error ≡ errors.AttachError fault };
+    ghost from_gives = { λ fault error. error ≡ declare_errors.AttachError fault };
 
     fn from(error: SenderAttachError) -> Self {
         OwnedDeclareError::AttachError(error)
@@ -28,10 +31,7 @@ impl From<SenderAttachError> for OwnedDeclareError {
 }
 
 impl From<ControllerSendError> for OwnedDeclareError {
-    ghost use Rattle.std.specs.Prelude.{◌≡◌};
-    ghost use Rattle.amqp_transactions.specs.declared.owned_errors.OwnedDeclareError.TheVariants as errors;
-
-    ghost from_gives = { λ fault error. error ≡ errors.ControllerSendError fault };
+    ghost from_gives = { λ fault error. error ≡ declare_errors.ControllerSendError fault };
 
     fn from(error: ControllerSendError) -> Self {
         OwnedDeclareError::ControllerSendError(error)
@@ -50,10 +50,7 @@ pub enum OwnedDischargeError {
 }
 
 impl From<ControllerSendError> for OwnedDischargeError {
-    ghost use Rattle.std.specs.Prelude.{◌≡◌};
-    ghost use Rattle.amqp_transactions.specs.declared.owned_errors.OwnedDischargeError.TheVariants as errors;
-
-    ghost from_gives = { λ fault error. error ≡ errors.ControllerSendError fault };
+    ghost from_gives = { λ fault error. error ≡ discharge_errors.ControllerSendError fault };
 
     fn from(error: ControllerSendError) -> Self {
         OwnedDischargeError::ControllerSendError(error)
@@ -61,10 +58,7 @@ impl From<ControllerSendError> for OwnedDischargeError {
 }
 
 impl From<DetachError> for OwnedDischargeError {
-    ghost use Rattle.std.specs.Prelude.{◌≡◌};
-    ghost use Rattle.amqp_transactions.specs.declared.owned_errors.OwnedDischargeError.TheVariants as errors;
-
-    ghost from_gives = { λ fault error. error ≡ errors.DetachError fault };
+    ghost from_gives = { λ fault error. error ≡ discharge_errors.DetachError fault };
 
     fn from(error: DetachError) -> Self {
         OwnedDischargeError::DetachError(error)
@@ -73,12 +67,7 @@ impl From<DetachError> for OwnedDischargeError {
 
 /// Each error is the state of the control link of its name.
 impl From<IllegalLinkStateError> for OwnedDischargeError {
-    ghost use Rattle.std.specs.Prelude.{◌≡◌};
-    ghost use Rattle.amqp_control_calls.specs.Errors.{link_state};
-    ghost use Rattle.amqp_control_calls.specs.declared.errors.ControllerSendError.TheVariants as sends;
-    ghost use Rattle.amqp_transactions.specs.declared.owned_errors.OwnedDischargeError.TheVariants as errors;
-
-    ghost from_gives = { λ fault error. error ≡ errors.ControllerSendError
+    ghost from_gives = { λ fault error. error ≡ discharge_errors.ControllerSendError
         (sends.LinkStateError (link_state fault)) };
 
     fn from(error: IllegalLinkStateError) -> Self {

@@ -32,7 +32,8 @@ impl<S: Session> Session for AcceptingListener<S> {
 
     ghost allocate_link_gives = { λ old new name relay answer. PassesCheck
         ⟦<ListenerSession<S> as Tells>⟧.told (λ a b.
-        ⟦<ListenerSession<S> as Session>⟧.allocate_link_gives a b name relay answer) old new answer };
+        ⟦<ListenerSession<S> as Session>⟧.allocate_link_gives a b name relay answer)
+        old new answer };
 
     ghost allocate_incoming_link_gives = { λ old new name relay input answer. PassesCheck
         ⟦<ListenerSession<S> as Tells>⟧.told (λ a b.
@@ -50,7 +51,8 @@ impl<S: Session> Session for AcceptingListener<S> {
 
     ghost end_received_gives = { λ old new channel end answer. PassesMove
         ⟦<ListenerSession<S> as Tells>⟧.told end_received (λ a b.
-        ⟦<ListenerSession<S> as Session>⟧.end_received_gives a b channel end answer) old new answer };
+        ⟦<ListenerSession<S> as Session>⟧.end_received_gives a b channel end answer) old new
+        answer };
 
     ghost begin_sent_gives = { λ old new answer. PassesMove ⟦<ListenerSession<S> as Tells>⟧.told
         begin_sent (λ a b. ⟦<ListenerSession<S> as Session>⟧.begin_sent_gives a b answer)

@@ -8,9 +8,9 @@ use Rattle.amqp_acceptors.proofs.link.LinkAcceptor.accept_incoming_attach.Goals 
 pub returns-in-Some-clause-told : goal.returns-in-Some-clause-told
 returns-in-Some-clause-told g c = record {
   steady = search rules;
-  cause = stop-uncounted (LinkEndpoint × List Frame) _ _ _ _ c.stopped.ensures;
+  cause = stop-uncounted (LinkEndpoint × List Frame) _ _ _ _ c.stopped-error.ensures;
 }
 
 -- the reason that is kept is the one that is told
 pub returns-in-Some-clause-stopped : goal.returns-in-Some-clause-stopped
-returns-in-Some-clause-stopped g c = stop-tells _ _ _ _ (search rules) c.stopped.ensures
+returns-in-Some-clause-stopped g c = stop-tells _ _ _ _ (search rules) c.stopped-error.ensures

@@ -6,7 +6,7 @@ use Rattle.amqp_sessions.specs.contracts.links.Links.{the_view}
 use Rattle.amqp_sessions.specs.Links.{link_at}
 use Rattle.amqp_sessions.proofs.Agreeing.{agree-written, written-same}
 use Rattle.amqp_sessions.proofs.Answered.{on_err-then}
-use Rattle.amqp_sessions.proofs.links.Links.add_flow.Goals as goal
+use Rattle.amqp_sessions.proofs.links.Links.append_flow.Goals as goal
 
 pub invariant_of-self : goal.invariant_of-self
 invariant_of-self c =
@@ -20,5 +20,5 @@ returns-clause-err c =
     let there : link_at slots at ≡ Some link = sym c.get_mut.ensures.value ∙ ap option_copied_mut c.unwrap-link.ensures in
     let written = λ (flows : List LinkFlow). set slots at (Some (record link { relay = record link.relay { flows = flows } })) in
     let view = λ (now : List (Option Link)). the_view (record c.self.inside { slots = record c.self.inside.slots { slots = now } }) in
-    on_err-then {Q = view (written c.push_flow.new.flows) ≡ c.args.self.now} _ c.push_flow.ensures.err
-    (λ same. let as_was : written c.push_flow.new.flows ≡ slots = ap written same ∙ written-same slots at link there in ap view as_was ∙ c.self.view_is)
+    on_err-then {Q = view (written c.append.new.self) ≡ c.args.self.now} _ c.append.ensures.err
+    (λ same. let as_was : written c.append.new.self ≡ slots = ap written same ∙ written-same slots at link there in ap view as_was ∙ c.self.view_is)

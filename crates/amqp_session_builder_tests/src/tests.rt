@@ -1,9 +1,9 @@
 //! What no clause says: that the calls succeed where there is memory.
 
-use crate::*;
 use amqp_acceptors::ControlLinkAcceptor;
 use amqp_endpoints::MemoryConnection;
 use amqp_layer::LayerBelow;
+use amqp_session_builder::*;
 use amqp_sessions::{BeginError, Session};
 use amqp_txn_types::{
     ConnectionStopReason, Fields, Handle, OutgoingChannel, SessionState, Symbol, Symbols, TryClone,

@@ -1,74 +1,33 @@
 //! What no clause says: that the calls succeed where there is memory.
 
-use super::*;
+use amqp_acceptors::ControlLinkAcceptor;
 use amqp_endpoints::ListenerSessionEndpoint;
 use amqp_ids::CountIds;
+use amqp_layer::{LayerBelow, SessionInnerError};
+use amqp_listener::ListenerSession;
+use amqp_session_test_values::{plain_session, relay};
 use amqp_sessions::{
-    AllocLinkError, AllocTxnIdError, HandleDeclare, HandleDischarge, NameState, PlainSession, Relay,
+    AllocLinkError, AllocTxnIdError, HandleDeclare, HandleDischarge, NameState, PlainSession,
+    Session,
 };
+use amqp_test_values::{control_attach, flow, refuses, sender_attach};
 use amqp_txn_types::{
-    Begin, Coordinator, Handle, InputHandle, Items, OutgoingChannel, OutputHandle,
-    ReceiverSettleMode, Role, SenderSettleMode, SessionStopReason, TargetArchetype, Text,
+    Flow, Frames, Handle, InputHandle, OutputHandle, Role, SessionState, SessionStopReason, Text,
     TransactionError, TransactionId,
 };
+use std::alloc::Global;
 
-fn listener(alloc: Global) -> ListenerSession<PlainSession> {
-    let begin = Begin {
-        remote_channel: None,
-        next_outgoing_id: 0,
-        incoming_window: 2,
-        outgoing_window: 2,
-        handle_max: Handle(9),
-        offered_capabilities: None,
-        desired_capabilities: None,
-        properties: None,
-    };
-    let plain = PlainSession::new(alloc, OutgoingChannel(7), SessionState::Mapped, begin);
+/// A listener over a mapped session without links.
+pub fn listener(alloc: Global) -> ListenerSession<PlainSession> {
+    let plain = plain_session(alloc, SessionState::Mapped, 9);
     ListenerSession::new(alloc, plain, ControlLinkAcceptor::default())
-}
-
-fn attach(name: Text, handle: u32, target: Option<TargetArchetype>) -> Attach {
-    Attach {
-        name,
-        handle: Handle(handle),
-        role: Role::Sender,
-        snd_settle_mode: SenderSettleMode::Mixed,
-        rcv_settle_mode: ReceiverSettleMode::First,
-        source: None,
-        target,
-        initial_delivery_count: None,
-        max_message_size: None,
-        offered_capabilities: None,
-        desired_capabilities: None,
-        properties: None,
-    }
 }
 
 /// A flow that grants credit to the link with a handle.
 fn granting(handle: u32, credit: u32) -> Flow {
-    Flow {
-        next_incoming_id: None,
-        incoming_window: 2,
-        next_outgoing_id: 0,
-        outgoing_window: 2,
-        handle: Some(Handle(handle)),
-        delivery_count: None,
-        link_credit: Some(credit),
-        available: None,
-        drain: false,
-        echo: false,
-        properties: None,
-    }
-}
-
-fn relay(alloc: Global) -> Relay {
-    Relay {
-        name: Text::new(alloc),
-        role: Role::Sender,
-        rcv_settle_mode: ReceiverSettleMode::First,
-        flows: Items::new(alloc),
-        transfers: 0,
-    }
+    let mut granting = flow(Some(Handle(handle)));
+    granting.link_credit = Some(credit);
+    granting
 }
 
 /// Whether the answer is an Ok with this many frames.
@@ -82,17 +41,6 @@ fn gives(answer: Result<Frames, SessionInnerError>, count: usize) -> bool {
     }
 }
 
-/// Whether the answer is this Err.
-fn refuses<T: Drop, E: PartialEq + Drop>(answer: Result<T, E>, wanted: E) -> bool {
-    match answer {
-        Ok(value) => {
-            drop(value);
-            false
-        }
-        Err(error) => error == wanted,
-    }
-}
-
 /// The peer attaches a link.
 fn attach_to(
     alloc: Global,
@@ -100,7 +48,7 @@ fn attach_to(
     name: &str,
 ) -> Result<Frames, SessionInnerError> {
     match Text::from_str(alloc, name) {
-        Ok(name) => listener.on_incoming_attach(attach(name, 5, None)),
+        Ok(name) => listener.on_incoming_attach(sender_attach(name, 5, None)),
         Err(_) => Err(SessionInnerError::NoMemory),
     }
 }
@@ -110,9 +58,8 @@ fn attach_control(
     alloc: Global,
     listener: &mut ListenerSession<PlainSession>,
 ) -> Result<Frames, SessionInnerError> {
-    let target = TargetArchetype::Coordinator(Coordinator { capabilities: None });
     match Text::from_str(alloc, "c") {
-        Ok(name) => listener.on_control_attach(&attach(name, 3, Some(target))),
+        Ok(name) => listener.on_control_attach(&control_attach(name, 3)),
         Err(_) => Err(SessionInnerError::NoMemory),
     }
 }
@@ -150,7 +97,7 @@ fn allocate(
     name: &str,
 ) -> Result<OutputHandle, AllocLinkError> {
     match Text::from_str(alloc, name) {
-        Ok(name) => listener.allocate_link(name, relay(alloc)),
+        Ok(name) => listener.allocate_link(name, relay(alloc, Role::Sender)),
         Err(_) => Err(AllocLinkError::NoMemory),
     }
 }
@@ -162,7 +109,9 @@ fn allocate_incoming(
     name: &str,
 ) -> Result<OutputHandle, AllocLinkError> {
     match Text::from_str(alloc, name) {
-        Ok(name) => listener.allocate_incoming_link(name, relay(alloc), InputHandle(5)),
+        Ok(name) => {
+            listener.allocate_incoming_link(name, relay(alloc, Role::Sender), InputHandle(5))
+        }
         Err(_) => Err(AllocLinkError::NoMemory),
     }
 }
@@ -177,7 +126,7 @@ fn has_credits(
     let Ok(output) = allocated else {
         return false;
     };
-    let Some(relay) = listener.session.relay(output) else {
+    let Some(relay) = listener.session().relay(output) else {
         return false;
     };
     match relay.flows.as_slice() {
