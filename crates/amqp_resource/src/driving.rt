@@ -68,13 +68,18 @@ fn fill_in(entry: &mut Entry, drawn: Drawn, reply: Reply)
 /// the record: each entry stands where its step did.
 ///
 /// Its clauses are those of [`drive_counted`] but for the one on looks.
+///
+/// # Requires
+///
+/// That the session is fresh: nothing was done with it, and the layer below is Mapped.
 pub fn drive<S: LayerBelow, G: IdSource>(
     session: &mut TxnSession<S>,
     steps: Steps,
     ids: &mut G,
 ) -> Driven
     requires { IsFresh S.told session.old }
-    ensures { DriveSays S.told S.sure G.next G.start session.old session.new ids.old ids.new steps result }
+    ensures { DriveSays S.told S.sure G.next G.start session.old session.new ids.old ids.new steps
+        result }
 {
     drive_blank::<S, G, Brand>(session, steps, ids, Blank::new(1))
 }
@@ -90,13 +95,18 @@ fn drive_blank<S: LayerBelow, G: IdSource, L: Ledger>(
     requires name { blank.name ≡ L.name }
     requires parts { blank.parts ≡ L.parts }
     requires some { 0 < blank.parts }
-    ensures { DriveSays S.told S.sure G.next G.start session.old session.new ids.old ids.new steps result }
+    ensures { DriveSays S.told S.sure G.next G.start session.old session.new ids.old ids.new steps
+        result }
 {
     let mut looks = Looks::<L>::new(blank);
     drive_counted(session, steps, ids, &mut looks)
 }
 
 /// A run as by [`drive`], which counts its looks into the log of the work.
+///
+/// # Requires
+///
+/// What [`drive`] requires.
 pub fn drive_counted<S: LayerBelow, G: IdSource, L: Ledger>(
     session: &mut TxnSession<S>,
     steps: Steps,

@@ -153,13 +153,18 @@ impl<S: LayerBelow> TxnSession<S> {
     /// `NoMemory` leaves the session as it was.
     ///
     /// Its clauses are those of [`step_counted`](Self::step_counted) but for those on looks.
+    ///
+    /// # Requires
+    ///
+    /// That fewer than 2^64 - 1 control links were opened, where the session hasn't stopped.
     pub fn step<G: IdSource>(
         &mut self,
         step: &Step,
         ids: &mut G,
     ) -> Result<(Drawn16, Reply), StepError>
         requires { stop_of self.old ≡ None → opened_of self.old < 2 ^ 64 - 1 }
-        ensures { StepSays S.told S.sure G.next G.start self.old self.new ids.old ids.new step.now result }
+        ensures { StepSays S.told S.sure G.next G.start self.old self.new ids.old ids.new step.now
+            result }
     {
         self.step_blank::<G, Brand>(step, ids, Blank::new(1))
     }
@@ -175,13 +180,18 @@ impl<S: LayerBelow> TxnSession<S> {
         requires name { blank.name ≡ L.name }
         requires parts { blank.parts ≡ L.parts }
         requires some { 0 < blank.parts }
-        ensures { StepSays S.told S.sure G.next G.start self.old self.new ids.old ids.new step.now result }
+        ensures { StepSays S.told S.sure G.next G.start self.old self.new ids.old ids.new step.now
+            result }
     {
         let mut looks = Looks::<L>::new(blank);
         self.step_counted(step, ids, &mut looks)
     }
 
     /// One step as by [`step`](Self::step), which counts its looks into the log of the work.
+    ///
+    /// # Requires
+    ///
+    /// What [`step`](Self::step) requires.
     pub fn step_counted<G: IdSource, L: Ledger>(
         &mut self,
         step: &Step,
