@@ -2,9 +2,10 @@
 
 use amqp_acceptors::*;
 use amqp_sessions::{PlainSession, Session};
+use amqp_test_values::begin;
 use amqp_txn_types::{
-    Attach, Begin, Coordinator, Flow, Frame, Frames, Handle, OutgoingChannel, ReceiverSettleMode,
-    Role, SenderSettleMode, SessionState, Source, Symbol, Symbols, Target, TargetArchetype, Text,
+    Attach, Coordinator, Flow, Frame, Frames, Handle, OutgoingChannel, ReceiverSettleMode, Role,
+    SenderSettleMode, SessionState, Source, Symbol, Symbols, Target, TargetArchetype, Text,
 };
 use std::alloc::Global;
 
@@ -17,17 +18,7 @@ pub fn same<T: PartialEq + Drop>(found: T, wanted: T) -> bool {
 }
 
 pub fn session(alloc: Global, state: SessionState) -> PlainSession {
-    let begin = Begin {
-        remote_channel: None,
-        next_outgoing_id: 0,
-        incoming_window: 2,
-        outgoing_window: 2,
-        handle_max: Handle(7),
-        offered_capabilities: None,
-        desired_capabilities: None,
-        properties: None,
-    };
-    PlainSession::new(alloc, OutgoingChannel(0), state, begin)
+    PlainSession::new(alloc, OutgoingChannel(0), state, begin(7))
 }
 
 fn source(dynamic: bool) -> Source {
@@ -154,6 +145,10 @@ pub fn symbols(alloc: Global, word: &str) -> Symbols {
 }
 
 /// What an acceptor answers whose rules may be asked.
+///
+/// # Requires
+///
+/// The rules for dynamic sources and targets may be asked.
 pub fn accept<S: Session, FS: OnDynamic<Source>, FT: OnDynamic<Target>>(
     alloc: Global,
     acceptor: &LinkAcceptor<FS, FT>,
@@ -167,6 +162,10 @@ pub fn accept<S: Session, FS: OnDynamic<Source>, FT: OnDynamic<Target>>(
 }
 
 /// The frames with which an acceptor answers over a mapped session, where it accepts.
+///
+/// # Requires
+///
+/// The rules for dynamic sources and targets may be asked.
 pub fn frames_of<FS: OnDynamic<Source>, FT: OnDynamic<Target>>(
     alloc: Global,
     acceptor: &LinkAcceptor<FS, FT>,

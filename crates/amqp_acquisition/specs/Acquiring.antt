@@ -38,8 +38,8 @@ abbrev pub OnFlowFault : IllegalLinkStateError → Type 0 → Type 0
 OnFlowFault faults.NoMemory P = Unit {0}
 OnFlowFault error P = P
 
--- the properties name the transaction, which they didn't before, and a flow with the credit tells the
--- peer
+-- the properties name the transaction, which they didn't before, and a flow with the credit tells
+-- the peer
 pub record Acquired (old new : ReceiverTold) (txn_id : TransactionId) (credit : ℕ) : Type 0 where
   pub unnamed : names_transaction old ≡ false
   pub properties : new.properties ≡ naming old.properties txn_id

@@ -29,10 +29,10 @@
 //! each refusal hands back the transaction or the acquisition; each call of an acquisition makes
 //! the calls of its receiver that its docs name, and passes their answers on; its end is what the
 //! control link answered to a commit or a rollback of its transaction. Where a receiver is gone
-//! from the answer, as in a refused `acquire` or an `abandon`, that these calls were made is proved,
-//! and that no other followed isn't: a contract can't name that receiver. Nor can one say what a
-//! link under a lock holds, so that a discharge is put after the flow of the cleanup isn't proved
-//! either. 'The standard' is OASIS AMQP 1.0.
+//! from the answer, as in a refused `acquire` or an `abandon`, that these calls were made is
+//! proved, and that no other followed isn't: a contract can't name that receiver. Nor can one say
+//! what a link under a lock holds, so that a discharge is put after the flow of the cleanup isn't
+//! proved either. 'The standard' is OASIS AMQP 1.0.
 #![tactic(auto)]
 
 mod acquiring;

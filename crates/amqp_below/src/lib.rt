@@ -1,13 +1,19 @@
 //! The outsides that a transactional session works on, under one name.
 //!
-//! | items | are | from |
-//! |---|---|---|
-//! | [`LayerBelow`], [`OpenSession`], [`take_frame`] | what takes the frames that are handed on | `amqp_layer` |
-//! | [`Session`], [`HandleDeclare`], [`HandleDischarge`], [`PlainSession`] | sessions with links, and their transactional calls | `amqp_sessions` |
-//! | [`ListenerSessionEndpoint`], [`ConnectionEnd`], [`MemoryConnection`] | the ends that acceptors work on | `amqp_endpoints` |
-//! | [`Recorder`] | a layer or a session that keeps what the one in it took | `amqp_recorder` |
-//! | [`IdSource`], [`Drawn`], [`ListIds`], [`CountIds`] | where the ids of declares come from | `amqp_ids` |
-//! | [`ByteSource`], [`ByteSink`], [`SureSource`], [`SureSink`], [`MemorySource`], [`MemorySink`] | where octets come from and go | `amqp_streams` |
+//! | items | are |
+//! |---|---|
+//! | [`LayerBelow`], [`OpenSession`], [`take_frame`] | what takes the frames that are handed on |
+//! | [`Session`], [`PlainSession`] | sessions with links |
+//! | [`HandleDeclare`], [`HandleDischarge`] | the transactional calls of a session |
+//! | [`ListenerSessionEndpoint`], [`ConnectionEnd`] | the ends that acceptors work on |
+//! | [`MemoryConnection`] | a connection in memory |
+//! | [`Recorder`] | a layer or a session that keeps what the one in it took |
+//! | [`IdSource`], [`Drawn`], [`ListIds`], [`CountIds`] | where the ids of declares come from |
+//! | [`ByteSource`], [`SureSource`], [`MemorySource`] | where octets come from |
+//! | [`ByteSink`], [`SureSink`], [`MemorySink`] | where octets go |
+//!
+//! They are from `amqp_layer`, `amqp_sessions`, `amqp_endpoints`, `amqp_recorder`, `amqp_ids` and
+//! `amqp_streams`.
 //!
 //! This crate has nothing of its own: it passes these on, and their definitions too.
 #![tactic(auto)]

@@ -10,44 +10,25 @@ use amqp_endpoints::SenderAttachError;
 use amqp_layer::LayerBelow;
 use amqp_links::WireSender;
 use amqp_sessions::{AllocLinkError, PlainSession, Session};
+use amqp_test_values::{begin, sender_attach};
 use amqp_transactions::{Attaching, Controller, OwnedTransaction, TransactionDischarge};
 use amqp_txn_types::{
-    Attach, Begin, Coordinator, DeliveryState, Handle, OutgoingChannel, ReceiverSettleMode, Role,
-    SenderSettleMode, SessionState, SessionStopReason, Token,
+    Coordinator, DeliveryState, OutgoingChannel, Role, SenderSettleMode, SessionState,
+    SessionStopReason, Token,
 };
 use std::process::Abort;
 use std::sync::Wait;
 
 fn session<R: AllocGlobal>(rt: &R) -> PlainSession {
-    let begin = Begin {
-        remote_channel: None,
-        next_outgoing_id: 0,
-        incoming_window: 2,
-        outgoing_window: 2,
-        handle_max: Handle(3),
-        offered_capabilities: None,
-        desired_capabilities: None,
-        properties: None,
-    };
-    PlainSession::new(rt.alloc(), OutgoingChannel(0), SessionState::Mapped, begin)
+    let channel = OutgoingChannel(0);
+    PlainSession::new(rt.alloc(), channel, SessionState::Mapped, begin(3))
 }
 
 /// The peer attaches the link.
 fn peer_attaches<S: Session, R: Abort + AllocGlobal>(rt: &R, session: &mut S) {
-    let attach = Attach {
-        name: name(rt),
-        handle: Handle(0),
-        role: Role::Receiver,
-        snd_settle_mode: SenderSettleMode::Unsettled,
-        rcv_settle_mode: ReceiverSettleMode::First,
-        source: None,
-        target: None,
-        initial_delivery_count: None,
-        max_message_size: None,
-        offered_capabilities: None,
-        desired_capabilities: None,
-        properties: None,
-    };
+    let mut attach = sender_attach(name(rt), 0, None);
+    attach.role = Role::Receiver;
+    attach.snd_settle_mode = SenderSettleMode::Unsettled;
     drop(session.on_incoming_attach(attach).expect(rt, "an Ok"));
 }
 

@@ -129,8 +129,8 @@ pub fn rejected_row<T: TransactionDischarge + Over, R: Wait + Abort + AllocGloba
     handed_back(rt, refused(rt, ready(rt, commit.poll(rt))), (2, 4, 0))
 }
 
-/// The error of a discharge that is rejected: the value isn't discharged, neither while the wait goes
-/// on nor at its end.
+/// The error of a discharge that is rejected: the value isn't discharged, neither while the wait
+/// goes on nor at its end.
 pub fn undischarged_row<T: TransactionDischarge + Over, R: Wait + Abort>(
     rt: &R,
     mut value: T,

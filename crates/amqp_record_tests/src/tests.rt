@@ -4,30 +4,17 @@
 use amqp_ids::Drawn;
 use amqp_layer::{Answers, SessionInnerError};
 use amqp_record::*;
+use amqp_test_values::{control_attach, detach};
 use amqp_txn_types::{
-    AmqpError, Attach, Coordinator, Detach, Frame, Frames, Handle, NoMemory, Payload,
-    ReceiverSettleMode, Role, SenderSettleMode, SessionStopReason, TargetArchetype, Text,
-    TransactionId, TryClone,
+    AmqpError, Frame, Frames, NoMemory, Payload, SessionStopReason, Text, TransactionId, TryClone,
 };
 use std::alloc::Global;
 use std::process::Abort;
 
-fn control_attach(alloc: Global) -> Result<Frame, NoMemory> {
-    let attach = Attach {
-        name: Text::from_str(alloc, "c")?,
-        handle: Handle(0),
-        role: Role::Sender,
-        snd_settle_mode: SenderSettleMode::Mixed,
-        rcv_settle_mode: ReceiverSettleMode::First,
-        source: None,
-        target: Some(TargetArchetype::Coordinator(Coordinator { capabilities: None })),
-        initial_delivery_count: None,
-        max_message_size: None,
-        offered_capabilities: None,
-        desired_capabilities: None,
-        properties: None,
-    };
-    Ok(Frame::Attach(attach))
+/// The attach of a control link.
+fn control_frame(alloc: Global) -> Result<Frame, NoMemory> {
+    let name = Text::from_str(alloc, "c")?;
+    Ok(Frame::Attach(control_attach(name, 0)))
 }
 
 fn entry(alloc: Global, step: Step, reply: Reply) -> Entry {
@@ -39,7 +26,7 @@ fn entry(alloc: Global, step: Step, reply: Reply) -> Entry {
 }
 
 fn attached(alloc: Global, link: u64) -> Result<Entry, NoMemory> {
-    let frame = control_attach(alloc)?;
+    let frame = control_frame(alloc)?;
     let frames = Frames::new(alloc);
     Ok(entry(alloc, Step::Frame(frame), Reply::Attached { link, frames }))
 }
@@ -51,46 +38,31 @@ fn closed(alloc: Global, link: u64) -> Result<Entry, NoMemory> {
 }
 
 fn plain(alloc: Global) -> Entry {
-    let detach = Detach {
-        handle: Handle(1),
-        closed: true,
-        error: None,
-    };
     let answers = Answers {
         given: Frames::new(alloc),
         window: None,
     };
     entry(
         alloc,
-        Step::Frame(Frame::Detach(detach)),
+        Step::Frame(Frame::Detach(detach(1))),
         Reply::Frames(answers),
     )
 }
 
-fn add(entries: &mut Entries, entry: Entry) -> Result<(), NoMemory> {
-    match entries.push(entry) {
-        Ok(()) => Ok(()),
-        Err((unkept, error)) => {
-            drop(unkept);
-            Err(error)
-        }
-    }
-}
-
 fn add_attached(alloc: Global, entries: &mut Entries, link: u64) -> Result<(), NoMemory> {
     let entry = attached(alloc, link)?;
-    add(entries, entry)
+    entries.append(entry)
 }
 
 fn add_closed(alloc: Global, entries: &mut Entries, link: u64) -> Result<(), NoMemory> {
     let entry = closed(alloc, link)?;
-    add(entries, entry)
+    entries.append(entry)
 }
 
 /// Link 0 is attached, a plain frame is taken, link 0 is closed, and link 1 is attached.
 fn add_all(alloc: Global, entries: &mut Entries) -> Result<(), NoMemory> {
     add_attached(alloc, entries, 0)?;
-    add(entries, plain(alloc))?;
+    entries.append(plain(alloc))?;
     add_closed(alloc, entries, 0)?;
     add_attached(alloc, entries, 1)
 }
@@ -231,7 +203,7 @@ fn a_step_is_pushed(rt: HostRuntime) {
 
 #[test]
 fn a_control_attach_is_not_plain(rt: HostRuntime) {
-    let frame = control_attach(rt.alloc()).expect(&rt, "an Ok");
+    let frame = control_frame(rt.alloc()).expect(&rt, "an Ok");
     let plain = is_plain(&frame);
     let under = is_under(&frame, &TransactionId::from([1; 16]));
     drop(frame);

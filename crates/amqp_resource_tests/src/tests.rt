@@ -5,10 +5,10 @@ use amqp_layer::{LayerBelow, OpenSession, SessionInnerError, Tells, Verdict};
 use amqp_recorder::Recorder;
 use amqp_resource::*;
 use amqp_sessions::{HandleDeclare, HandleDischarge};
-use amqp_test_values::{control_attach, disposition, under};
+use amqp_test_values::{control_attach, disposition, transfer as transfer_on, under};
 use amqp_txn_codec::{ControlMessageBody, Declare, Discharge};
 use amqp_txn_types::{
-    Attach, CallNumbers, DeliveryState, Detach, Disposition, Flow, Frame, Frames, Handle, NoMemory,
+    Attach, CallNumbers, DeliveryState, Detach, Disposition, Flow, Frame, Frames, NoMemory,
     Payload, SessionState, Text, TransactionError, TransactionId, Transfer,
 };
 use std::alloc::Global;
@@ -161,20 +161,12 @@ pub(crate) fn discharge(alloc: Global, txn_id: TransactionId) -> Result<Step, No
 
 /// The transfer of a delivery with an id.
 pub(crate) fn transfer(settled: bool, state: Option<DeliveryState>) -> Frame {
+    let mut transfer = transfer_on(1);
+    transfer.delivery_id = Some(7);
+    transfer.settled = Some(settled);
+    transfer.state = state;
     Frame::Transfer {
-        transfer: Transfer {
-            handle: Handle(1),
-            delivery_id: Some(7),
-            delivery_tag: None,
-            message_format: None,
-            settled: Some(settled),
-            more: false,
-            rcv_settle_mode: None,
-            state,
-            resume: false,
-            aborted: false,
-            batchable: false,
-        },
+        transfer,
         payload: Payload::new(),
     }
 }

@@ -54,7 +54,10 @@ fn accept_plain(
     let listener = ListenerSession::new(alloc, session, ControlLinkAcceptor::default());
     match SessionEngine::begin_listener_session(alloc, listener) {
         Ok((engine, begin)) => Ok((AcceptedSession::Plain(engine), begin)),
-        Err((_listener, error)) => Err(error),
+        Err((listener, error)) => {
+            drop(listener);
+            Err(error)
+        }
     }
 }
 
@@ -74,7 +77,10 @@ fn accept_transactional(
     let session = TxnSession::new(alloc, listener);
     match SessionEngine::begin_listener_session(alloc, session) {
         Ok((engine, begin)) => Ok((AcceptedSession::Transactional(engine), begin)),
-        Err((_session, error)) => Err(error),
+        Err((session, error)) => {
+            drop(session);
+            Err(error)
+        }
     }
 }
 

@@ -49,7 +49,10 @@ fn begin_transactional<C: ConnectionEnd>(
     let session = TxnSession::new(alloc, session);
     match SessionEngine::begin_client_session(alloc, session) {
         Ok((client, begin)) => Ok((BeganSession::Transactional(client), begin)),
-        Err((_session, error)) => Err(error),
+        Err((session, error)) => {
+            drop(session);
+            Err(error)
+        }
     }
 }
 

@@ -7,10 +7,8 @@ use amqp_listener::ListenerSession;
 use amqp_resource::TxnSession;
 use amqp_session_acceptor::*;
 use amqp_sessions::{BeginError, PlainSession};
-use amqp_test_values::begin;
-use amqp_txn_types::{
-    Begin, ConnectionStopReason, DeliveryState, Frame, Handle, Payload, Transfer,
-};
+use amqp_test_values::{begin, transfer as transfer_on};
+use amqp_txn_types::{Begin, ConnectionStopReason, DeliveryState, Frame, Payload};
 use std::alloc::Global;
 
 /// A session that does transactions, whose peer's attaches wait.
@@ -81,20 +79,11 @@ pub fn error_word(error: BeginError) -> &'static str {
 
 /// An unsettled transfer of a delivery on a handle that no link has.
 pub fn transfer(state: Option<DeliveryState>) -> Frame {
+    let mut transfer = transfer_on(5);
+    transfer.delivery_id = Some(7);
+    transfer.state = state;
     Frame::Transfer {
-        transfer: Transfer {
-            handle: Handle(5),
-            delivery_id: Some(7),
-            delivery_tag: None,
-            message_format: None,
-            settled: None,
-            more: false,
-            rcv_settle_mode: None,
-            state,
-            resume: false,
-            aborted: false,
-            batchable: false,
-        },
+        transfer,
         payload: Payload::new(),
     }
 }

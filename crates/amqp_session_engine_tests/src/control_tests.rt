@@ -1,16 +1,19 @@
 //! Each control and each outgoing frame once, over a plain session.
 
 use crate::test_values::{
-    asked, attach, detach, disposition, ended, error, mapped, only_frame, quiet, relay, replied,
-    sent, stopped_for, transfer, turn,
+    asked, ended, mapped, only_frame, quiet, replied, sent, stopped_for, turn,
 };
 use amqp_layer::SessionInnerError;
 use amqp_session_engine::*;
+use amqp_session_test_values::relay;
 use amqp_sessions::{AllocTxnIdError, PlainSession};
-use amqp_test_values::{gives, refuses, same};
+use amqp_test_values::{
+    detach, disposition, flow, gives, plain_error, refuses, same, sender_attach, transfer,
+};
 use amqp_txn_types::{
-    Binary, ConnectionError, End, ErrorCondition, Flow, Frame, Handle, InputHandle, LinkFlow,
-    LinkFrame, OutputHandle, Payload, SessionStopReason, Text, TransactionError, TransactionId,
+    Attach, Binary, ConnectionError, End, ErrorCondition, Flow, Frame, Handle, InputHandle,
+    LinkFlow, LinkFrame, OutputHandle, Payload, Role, SessionStopReason, Text, TransactionError,
+    TransactionId,
 };
 use std::alloc::Global;
 use std::process::Abort;
@@ -28,21 +31,19 @@ fn replies<R: Abort>(rt: &R, alloc: Global, control: SessionControl, reply: Cont
     answers(engine, control, replied(alloc, reply))
 }
 
+/// What a session replies that allocates its first link.
+fn first_link() -> ControlReply {
+    ControlReply::Linked(Ok(OutputHandle(0)))
+}
+
 #[test]
 fn links_are_allocated(rt: HostRuntime) {
     let alloc = rt.alloc();
     let control = SessionControl::AllocateLink {
         link_name: Text::new(alloc),
-        link_relay: relay(alloc),
+        link_relay: relay(alloc, Role::Receiver),
     };
-    assert!(rt;
-        replies(
-            &rt,
-            alloc,
-            control,
-            ControlReply::Linked(Ok(OutputHandle(0)))
-        )
-    );
+    assert!(rt; replies(&rt, alloc, control, first_link()));
 }
 
 #[test]
@@ -50,68 +51,38 @@ fn incoming_links_are_allocated(rt: HostRuntime) {
     let alloc = rt.alloc();
     let control = SessionControl::AllocateIncomingLink {
         link_name: Text::new(alloc),
-        link_relay: relay(alloc),
+        link_relay: relay(alloc, Role::Receiver),
         input_handle: InputHandle(1),
     };
-    assert!(rt;
-        replies(
-            &rt,
-            alloc,
-            control,
-            ControlReply::Linked(Ok(OutputHandle(0)))
-        )
-    );
+    assert!(rt; replies(&rt, alloc, control, first_link()));
 }
 
 #[test]
 fn a_connection_is_to_be_closed(rt: HostRuntime) {
     let condition = ConnectionError::FramingError;
     let control = SessionControl::CloseConnectionWithError(condition, None);
-    let closing = error(ErrorCondition::ConnectionError(condition));
-    assert!(rt;
-        replies(
-            &rt,
-            rt.alloc(),
-            control,
-            ControlReply::CloseConnection(closing)
-        )
-    );
+    let closing = ControlReply::CloseConnection(plain_error(ErrorCondition::ConnectionError(
+        condition,
+    )));
+    assert!(rt; replies(&rt, rt.alloc(), control, closing));
 }
 
 #[test]
 fn a_plain_session_allocates_no_ids(rt: HostRuntime) {
+    let control = SessionControl::AllocateTransactionId;
     let refused = ControlReply::Allocated(Err(AllocTxnIdError::NotImplemented));
-    assert!(rt;
-        replies(
-            &rt,
-            rt.alloc(),
-            SessionControl::AllocateTransactionId,
-            refused
-        )
-    );
+    assert!(rt; replies(&rt, rt.alloc(), control, refused));
 }
 
 #[test]
 fn a_plain_session_discharges_nothing(rt: HostRuntime) {
     let txn_id = TransactionId::new(b"t").expect(&rt, "an Ok");
+    let commit = SessionControl::CommitTransaction { txn_id };
     let uncommitted = ControlReply::Committed(Err(TransactionError::UnknownId));
-    assert!(rt;
-        replies(
-            &rt,
-            rt.alloc(),
-            SessionControl::CommitTransaction { txn_id },
-            uncommitted
-        )
-    );
+    assert!(rt; replies(&rt, rt.alloc(), commit, uncommitted));
+    let rollback = SessionControl::RollbackTransaction { txn_id };
     let unended = ControlReply::RolledBack(Err(TransactionError::UnknownId));
-    assert!(rt;
-        replies(
-            &rt,
-            rt.alloc(),
-            SessionControl::RollbackTransaction { txn_id },
-            unended
-        )
-    );
+    assert!(rt; replies(&rt, rt.alloc(), rollback, unended));
 }
 
 #[test]
@@ -157,10 +128,10 @@ fn a_control_outside_mapped_is_illegal(rt: HostRuntime) {
 #[test]
 fn a_disposition_is_sent(rt: HostRuntime) {
     let mut engine = mapped(rt.alloc()).expect(&rt, "a session");
-    let answer = asked(&mut engine, SessionControl::Disposition(disposition()));
+    let answer = asked(&mut engine, SessionControl::Disposition(disposition(0)));
     drop(engine);
     let only = only_frame(&rt, answer);
-    assert!(rt; same(only, Some(Frame::Disposition(disposition()))));
+    assert!(rt; same(only, Some(Frame::Disposition(disposition(0)))));
 }
 
 /// Whether a mapped session sends this frame for that of a link.
@@ -169,6 +140,11 @@ fn sends<R: Abort>(rt: &R, alloc: Global, frame: LinkFrame, wanted: Frame) -> bo
     let answer = sent(&mut engine, frame);
     drop(engine);
     same(only_frame(rt, answer), Some(wanted))
+}
+
+/// An attach of a sender without a name.
+fn attach(alloc: Global) -> Attach {
+    sender_attach(Text::new(alloc), 0, None)
 }
 
 #[test]
@@ -180,33 +156,27 @@ fn an_attach_is_sent(rt: HostRuntime) {
 
 #[test]
 fn a_links_disposition_is_sent(rt: HostRuntime) {
-    let wanted = Frame::Disposition(disposition());
-    assert!(rt;
-        sends(
-            &rt,
-            rt.alloc(),
-            LinkFrame::Disposition(disposition()),
-            wanted
-        )
-    );
+    let frame = LinkFrame::Disposition(disposition(0));
+    let wanted = Frame::Disposition(disposition(0));
+    assert!(rt; sends(&rt, rt.alloc(), frame, wanted));
 }
 
 #[test]
 fn a_detach_is_sent(rt: HostRuntime) {
-    let wanted = Frame::Detach(detach());
-    assert!(rt; sends(&rt, rt.alloc(), LinkFrame::Detach(detach()), wanted));
+    let wanted = Frame::Detach(detach(0));
+    assert!(rt; sends(&rt, rt.alloc(), LinkFrame::Detach(detach(0)), wanted));
 }
 
 #[test]
 fn a_continuation_is_sent_as_it_is(rt: HostRuntime) {
     let frame = LinkFrame::Transfer {
         input: InputHandle(5),
-        transfer: transfer(),
+        transfer: transfer(5),
         payload: Payload::new(),
         is_first: false,
     };
     let wanted = Frame::Transfer {
-        transfer: transfer(),
+        transfer: transfer(5),
         payload: Payload::new(),
     };
     assert!(rt; sends(&rt, rt.alloc(), frame, wanted));
@@ -214,7 +184,7 @@ fn a_continuation_is_sent_as_it_is(rt: HostRuntime) {
 
 /// A first transfer with this tag.
 fn first(tag: Option<Binary>) -> LinkFrame {
-    let mut transfer = transfer();
+    let mut transfer = transfer(5);
     transfer.delivery_tag = tag;
     LinkFrame::Transfer {
         input: InputHandle(5),
@@ -251,20 +221,12 @@ fn a_first_transfer_without_a_tag_is_illegal(rt: HostRuntime) {
     assert!(rt; refuses(refused, SessionInnerError::IllegalState));
 }
 
-fn flow() -> Flow {
-    Flow {
-        next_incoming_id: Some(0),
-        incoming_window: 2,
-        next_outgoing_id: 0,
-        outgoing_window: 2,
-        handle: Some(Handle(0)),
-        delivery_count: None,
-        link_credit: Some(10),
-        available: None,
-        drain: false,
-        echo: false,
-        properties: None,
-    }
+/// The flow of a link with ten credits, with the session's numbers.
+fn numbered_flow() -> Flow {
+    let mut numbered = flow(Some(Handle(0)));
+    numbered.next_incoming_id = Some(0);
+    numbered.link_credit = Some(10);
+    numbered
 }
 
 #[test]
@@ -278,5 +240,5 @@ fn a_flow_gets_the_sessions_numbers(rt: HostRuntime) {
         echo: false,
         properties: None,
     });
-    assert!(rt; sends(&rt, rt.alloc(), frame, Frame::Flow(flow())));
+    assert!(rt; sends(&rt, rt.alloc(), frame, Frame::Flow(numbered_flow())));
 }

@@ -1,26 +1,29 @@
 //! The engine over a plain session, called as its users call it.
 
 use crate::test_values::{
-    asked, attach, begin, begun, cut_off, detach, ended, error, failed, finished, frame, mapped,
-    plain, plain_end, quiet, relay, sent, state, stopped_for, taken, told_to_end, transfer, turn,
+    asked, begun, cut_off, ended, failed, finished, frame, mapped, plain_end, quiet, sent, state,
+    stopped_for, taken, told_to_end, turn,
 };
 use amqp_acceptors::ControlLinkAcceptor;
 use amqp_layer::{LayerBelow, SessionInnerError};
 use amqp_listener::ListenerSession;
 use amqp_session_engine::*;
+use amqp_session_test_values::{plain_session, relay};
 use amqp_sessions::{BeginError, PlainSession, Session};
-use amqp_test_values::{gives, refuses, same};
+use amqp_test_values::{
+    begin, detach, gives, not_allowed, plain_error, refuses, same, sender_attach, transfer,
+};
 use amqp_txn_types::{
     AmqpError, Attach, ConnectionStopReason, End, Error, ErrorCondition, Frame, InputHandle,
-    LinkFrame, OutputHandle, Payload, SessionState, SessionStopReason, Text, TransactionError,
-    TryClone,
+    LinkFrame, OutputHandle, Payload, Role, SessionState, SessionStopReason, Text,
+    TransactionError, TryClone,
 };
 use std::alloc::Global;
 use std::process::Abort;
 
 fn transfer_frame() -> SessionFrameBody {
     SessionFrameBody::Link(Frame::Transfer {
-        transfer: transfer(),
+        transfer: transfer(5),
         payload: Payload::new(),
     })
 }
@@ -30,15 +33,11 @@ fn with_link(alloc: Global) -> Option<SessionEngine<PlainSession>> {
     let mut engine = mapped(alloc)?;
     let control = SessionControl::AllocateIncomingLink {
         link_name: Text::new(alloc),
-        link_relay: relay(alloc),
+        link_relay: relay(alloc, Role::Receiver),
         input_handle: InputHandle(5),
     };
     drop(asked(&mut engine, control));
     Some(engine)
-}
-
-fn not_allowed() -> Error {
-    error(ErrorCondition::AmqpError(AmqpError::NotAllowed))
 }
 
 /// How many transfers came to the link.
@@ -78,7 +77,7 @@ fn an_unknown_id_ends_the_session(rt: HostRuntime) {
     let answer = failed(&mut engine, SessionInnerError::UnknownTxnId);
     let unknown = ErrorCondition::TransactionError(TransactionError::UnknownId);
     let ended = Some(End {
-        error: Some(error(unknown)),
+        error: Some(plain_error(unknown)),
     });
     assert!(rt; gives(answer, turn(alloc, Running::Waiting, ended)));
     assert!(rt; state(&engine) == SessionState::Discarding);
@@ -125,7 +124,7 @@ fn a_connection_that_stopped_is_the_reason(rt: HostRuntime) {
 #[test]
 fn no_link_sends_after_the_end(rt: HostRuntime) {
     let mut engine = ended(rt.alloc()).expect(&rt, "a session");
-    let refused = sent(&mut engine, LinkFrame::Detach(detach()));
+    let refused = sent(&mut engine, LinkFrame::Detach(detach(0)));
     drop(engine);
     assert!(rt; refuses(refused, SessionInnerError::IllegalState));
 }
@@ -146,7 +145,7 @@ fn a_session_runs_from_its_begin_to_its_stop(rt: HostRuntime) {
 
 /// The engine of a listener whose peer began the session.
 fn listener(alloc: Global) -> Option<SessionEngine<ListenerSession<PlainSession>>> {
-    let session = plain(alloc, SessionState::BeginReceived);
+    let session = plain_session(alloc, SessionState::BeginReceived, 7);
     let listener = ListenerSession::new(alloc, session, ControlLinkAcceptor::default());
     match SessionEngine::begin_listener_session(alloc, listener) {
         Ok((engine, sent)) => {
@@ -171,7 +170,7 @@ fn heard(
 fn an_attach_waits_in_a_listener(rt: HostRuntime) {
     let alloc = rt.alloc();
     let mut engine = listener(alloc).expect(&rt, "a session");
-    let answer = heard(&mut engine, attach(alloc));
+    let answer = heard(&mut engine, sender_attach(Text::new(alloc), 0, None));
     assert!(rt; gives(answer, quiet(alloc, Running::Continue)));
     assert!(rt; engine.session().local_state() == SessionState::Mapped);
     drop(engine);
@@ -376,7 +375,7 @@ fn copies(rt: &impl Abort, frame: SessionFrame) -> bool {
 
 #[test]
 fn frames_are_copied(rt: HostRuntime) {
-    assert!(rt; copies(&rt, frame(SessionFrameBody::Begin(begin()))));
+    assert!(rt; copies(&rt, frame(SessionFrameBody::Begin(begin(7)))));
     assert!(rt; copies(&rt, frame(plain_end())));
     assert!(rt; copies(&rt, frame(transfer_frame())));
 }

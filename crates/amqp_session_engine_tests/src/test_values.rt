@@ -3,31 +3,14 @@
 use amqp_ids::CountIds;
 use amqp_layer::{Answers, LayerBelow, SessionInnerError};
 use amqp_session_engine::*;
-use amqp_sessions::{PlainSession, Relay, Session};
+use amqp_session_test_values::plain_session;
+use amqp_sessions::{PlainSession, Session};
+use amqp_test_values::begin;
 use amqp_txn_types::{
-    Attach, Begin, ConnectionStopReason, Detach, Disposition, End, Error, ErrorCondition, Frame,
-    Frames, Handle, LinkFlows, LinkFrame, OutgoingChannel, ReceiverSettleMode, Role,
-    SenderSettleMode, SessionState, SessionStopReason, Text, Transfer,
+    ConnectionStopReason, End, Frame, Frames, LinkFrame, SessionState, SessionStopReason,
 };
 use std::alloc::Global;
 use std::process::Abort;
-
-pub fn begin() -> Begin {
-    Begin {
-        remote_channel: None,
-        next_outgoing_id: 0,
-        incoming_window: 2,
-        outgoing_window: 2,
-        handle_max: Handle(7),
-        offered_capabilities: None,
-        desired_capabilities: None,
-        properties: None,
-    }
-}
-
-pub fn plain(alloc: Global, state: SessionState) -> PlainSession {
-    PlainSession::new(alloc, OutgoingChannel(7), state, begin())
-}
 
 /// A frame of the session, on its channel.
 pub fn frame(body: SessionFrameBody) -> SessionFrame {
@@ -41,7 +24,8 @@ pub fn plain_end() -> SessionFrameBody {
 
 /// A session of this side that sent its begin.
 pub fn begun(alloc: Global) -> Option<ClientBegin<PlainSession>> {
-    match SessionEngine::begin_client_session(alloc, plain(alloc, SessionState::Unmapped)) {
+    let session = plain_session(alloc, SessionState::Unmapped, 7);
+    match SessionEngine::begin_client_session(alloc, session) {
         Ok((begun, sent)) => {
             drop(sent);
             Some(begun)
@@ -62,7 +46,7 @@ pub fn mapped(alloc: Global) -> Option<SessionEngine<PlainSession>> {
 }
 
 fn made_ready(begun: ClientBegin<PlainSession>) -> Option<SessionEngine<PlainSession>> {
-    match begun.on_frame(frame(SessionFrameBody::Begin(begin()))) {
+    match begun.on_frame(frame(SessionFrameBody::Begin(begin(7)))) {
         Ok(engine) => Some(engine),
         Err(refused) => {
             drop(refused);
@@ -141,77 +125,6 @@ pub fn stopped_for(session: &PlainSession, reason: SessionStopReason) -> bool {
     let equal = session.session_stop_reason() == Some(&reason);
     drop(reason);
     equal
-}
-
-pub fn attach(alloc: Global) -> Attach {
-    Attach {
-        name: Text::new(alloc),
-        handle: Handle(0),
-        role: Role::Sender,
-        snd_settle_mode: SenderSettleMode::Mixed,
-        rcv_settle_mode: ReceiverSettleMode::First,
-        source: None,
-        target: None,
-        initial_delivery_count: None,
-        max_message_size: None,
-        offered_capabilities: None,
-        desired_capabilities: None,
-        properties: None,
-    }
-}
-
-pub fn relay(alloc: Global) -> Relay {
-    Relay {
-        name: Text::new(alloc),
-        role: Role::Receiver,
-        rcv_settle_mode: ReceiverSettleMode::First,
-        flows: LinkFlows::new(alloc),
-        transfers: 0,
-    }
-}
-
-pub fn transfer() -> Transfer {
-    Transfer {
-        handle: Handle(5),
-        delivery_id: None,
-        delivery_tag: None,
-        message_format: None,
-        settled: None,
-        more: false,
-        rcv_settle_mode: None,
-        state: None,
-        resume: false,
-        aborted: false,
-        batchable: false,
-    }
-}
-
-pub fn disposition() -> Disposition {
-    Disposition {
-        role: Role::Receiver,
-        first: 0,
-        last: None,
-        settled: true,
-        state: None,
-        batchable: false,
-    }
-}
-
-pub fn detach() -> Detach {
-    Detach {
-        handle: Handle(0),
-        closed: true,
-        error: None,
-    }
-}
-
-/// An error without a text.
-pub fn error(condition: ErrorCondition) -> Error {
-    Error {
-        condition,
-        description: None,
-        info: None,
-    }
 }
 
 /// A turn that sends nothing.

@@ -1,28 +1,18 @@
 //! The texts of controls.
 
-use crate::test_values::{disposition, error, relay};
 use amqp_session_engine::*;
+use amqp_session_test_values::relay;
+use amqp_test_values::{disposition, not_allowed, other_text};
 use amqp_txn_types::{
-    AmqpError, ConnectionError, Error, ErrorCondition, InputHandle, OutgoingChannel, OutputHandle,
-    Text, TransactionId,
+    ConnectionError, InputHandle, OutgoingChannel, OutputHandle, Role, Text, TransactionId,
 };
 use std::alloc::Global;
 use std::fmt::Display;
 use std::process::Abort;
 
-/// The place of the first value whose text is another than the one beside it.
-fn other_text<T: Display>(rt: &impl Abort, alloc: Global, table: &[(T, &str)]) -> Option<usize> {
-    for (place, (value, want)) in table.iter().enumerate() {
-        let text = format!(in alloc; "{value}").expect(rt, "an Ok");
-        if text.as_str() != *want {
-            return Some(place);
-        }
-    }
-    None
-}
-
-fn not_allowed() -> Error {
-    error(ErrorCondition::AmqpError(AmqpError::NotAllowed))
+/// Each value has the text beside it.
+fn have_texts<T: Display>(rt: &impl Abort, alloc: Global, table: &[(T, &str)]) {
+    assert!(rt; other_text(alloc, table) == Ok(None));
 }
 
 #[test]
@@ -31,7 +21,8 @@ fn controls_of_connections_have_their_texts(rt: HostRuntime) {
         (ConnectionControl::Close(None), "Close(None)"),
         (
             ConnectionControl::Close(Some(not_allowed())),
-            "Close(Some(Error { condition: AmqpError(NotAllowed), description: None, info: None }))",
+            "Close(Some(Error { condition: AmqpError(NotAllowed), description: None, \
+             info: None }))",
         ),
         (ConnectionControl::AllocateSession, "AllocateSession"),
         (
@@ -39,7 +30,7 @@ fn controls_of_connections_have_their_texts(rt: HostRuntime) {
             "DeallocateSession(7)",
         ),
     ];
-    assert_eq!(rt; other_text(&rt, rt.alloc(), &table), None);
+    have_texts(&rt, rt.alloc(), &table);
 }
 
 #[test]
@@ -49,14 +40,14 @@ fn controls_of_links_have_their_texts(rt: HostRuntime) {
         (
             SessionControl::AllocateLink {
                 link_name: Text::new(alloc),
-                link_relay: relay(alloc),
+                link_relay: relay(alloc, Role::Receiver),
             },
             "AllocateLink",
         ),
         (
             SessionControl::AllocateIncomingLink {
                 link_name: Text::new(alloc),
-                link_relay: relay(alloc),
+                link_relay: relay(alloc, Role::Receiver),
                 input_handle: InputHandle(1),
             },
             "AllocateIncomingLink",
@@ -66,7 +57,7 @@ fn controls_of_links_have_their_texts(rt: HostRuntime) {
             "DeallocateLink(OutputHandle(2))",
         ),
     ];
-    assert_eq!(rt; other_text(&rt, alloc, &table), None);
+    have_texts(&rt, alloc, &table);
 }
 
 #[test]
@@ -77,13 +68,13 @@ fn controls_of_sessions_have_their_texts(rt: HostRuntime) {
             SessionControl::End(Some(not_allowed())),
             "End(Some(Error { condition: AmqpError(NotAllowed), description: None, info: None }))",
         ),
-        (SessionControl::Disposition(disposition()), "Disposition"),
+        (SessionControl::Disposition(disposition(0)), "Disposition"),
         (
             SessionControl::CloseConnectionWithError(ConnectionError::FramingError, None),
             "CloseConnectionWithError",
         ),
     ];
-    assert_eq!(rt; other_text(&rt, rt.alloc(), &table), None);
+    have_texts(&rt, rt.alloc(), &table);
 }
 
 #[test]
@@ -104,5 +95,5 @@ fn controls_of_transactions_have_their_texts(rt: HostRuntime) {
         ),
         (SessionControl::AbortTransaction(txn_id), "AbortTransaction"),
     ];
-    assert_eq!(rt; other_text(&rt, rt.alloc(), &table), None);
+    have_texts(&rt, rt.alloc(), &table);
 }

@@ -37,9 +37,13 @@ pub fn spells(alloc: Global, octets: &[u8]) -> Result<Steps, SpellError>
         let step = match step_of_line(alloc, line) {
             Ok(step) => step,
             Err(Unread::NotAStep) => return Err(SpellError::Line(steps.len() + 1)),
-            Err(Unread::NoMemory) => return Err(SpellError::NoMemory),
+            Err(Unread::NoMemory) => {
+                drop(steps);
+                return Err(SpellError::NoMemory);
+            }
         };
-        let Ok(()) = steps.push(step) else {
+        let Ok(()) = steps.append(step) else {
+            drop(steps);
             return Err(SpellError::NoMemory);
         };
         rest = after;

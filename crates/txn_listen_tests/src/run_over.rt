@@ -11,11 +11,7 @@ pub(crate) const A: &str = "00000000000000000000000000000001";
 
 fn append_words(alloc: Global, texts: &mut Items<Text>, words: &[&str]) -> Result<(), NoMemory> {
     for word in words {
-        let text = Text::from_str(alloc, word)?;
-        if let Err(unkept) = texts.push(text) {
-            drop(unkept);
-            return Err(NoMemory);
-        }
+        texts.append(Text::from_str(alloc, word)?)?;
     }
     Ok(())
 }

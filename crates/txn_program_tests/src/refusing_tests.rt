@@ -48,22 +48,19 @@ const ONE_COMMIT: &str = "attach c 0\n\
     post 00000000000000000000000000000001 1 3 true - 52\n\
     control 0 005377005332c01301a01000000000000000000000000000000001\n";
 
+/// What they are answered where the commit is vetoed.
+const VETOED: &str = "attached 0\n\
+    declared 00000000000000000000000000000001\n\
+    ok\n\
+    ok\n\
+    ok\n\
+    rejected rollback\n\
+    stop done\n\
+    handed 0\n";
+
 #[test]
 fn a_vetoed_commit_hands_nothing(rt: HostRuntime) -> Result<(), Fail> {
-    assert_run(
-        &rt,
-        &["run", "--refuse", "2", A],
-        ONE_COMMIT,
-        0,
-        "attached 0\n\
-         declared 00000000000000000000000000000001\n\
-         ok\n\
-         ok\n\
-         ok\n\
-         rejected rollback\n\
-         stop done\n\
-         handed 0\n",
-    )
+    assert_run(&rt, &["run", "--refuse", "2", A], ONE_COMMIT, 0, VETOED)
 }
 
 #[test]
@@ -86,20 +83,8 @@ fn want_of_memory_within_a_commit_tells_what_was_taken(rt: HostRuntime) -> Resul
 
 #[test]
 fn a_call_in_both_plans_is_vetoed_first(rt: HostRuntime) -> Result<(), Fail> {
-    assert_run(
-        &rt,
-        &["run", "--refuse", "2", "--starve", "2", A],
-        ONE_COMMIT,
-        0,
-        "attached 0\n\
-         declared 00000000000000000000000000000001\n\
-         ok\n\
-         ok\n\
-         ok\n\
-         rejected rollback\n\
-         stop done\n\
-         handed 0\n",
-    )
+    let words = ["run", "--refuse", "2", "--starve", "2", A];
+    assert_run(&rt, &words, ONE_COMMIT, 0, VETOED)
 }
 
 /// The lines from a place on, up to another.
@@ -123,6 +108,23 @@ fn put_answers(answers: &mut String, to: usize, end: &str) -> Result<(), NoMemor
     Ok(())
 }
 
+/// Runs lines that were put together, and compares with answers that were.
+fn assert_put(
+    rt: &(impl Abort + Alloc<A = Global>),
+    words: &[&str],
+    put: Result<(), NoMemory>,
+    texts: (String, String),
+    status: u8,
+) -> Result<(), Fail> {
+    let (lines, answers) = texts;
+    let run = assert_run(rt, words, lines.as_str(), status, answers.as_str());
+    drop(lines);
+    drop(answers);
+    run?;
+    put?;
+    Ok(())
+}
+
 /// Runs all lines under a plan: the lines up to a place are answered as they are without it, and
 /// then comes that text.
 fn assert_planned(
@@ -135,16 +137,10 @@ fn assert_planned(
     let (status, end) = ends;
     let mut lines = String::new(rt.alloc());
     let mut answers = String::new(rt.alloc());
-    let put = put_lines(&mut lines, 0, 8);
+    let lined = put_lines(&mut lines, 0, 8);
     let told = put_answers(&mut answers, answered, end);
     let words = ["run", word, numbers, A, B];
-    let run = assert_run(rt, &words, lines.as_str(), status, answers.as_str());
-    drop(lines);
-    drop(answers);
-    run?;
-    put?;
-    told?;
-    Ok(())
+    assert_put(rt, &words, lined.and(told), (lines, answers), status)
 }
 
 #[test]
@@ -195,15 +191,9 @@ fn put_ended_answers(answers: &mut String, place: usize) -> Result<(), NoMemory>
 fn assert_ended(rt: &(impl Abort + Alloc<A = Global>), place: usize) -> Result<(), Fail> {
     let mut lines = String::new(rt.alloc());
     let mut answers = String::new(rt.alloc());
-    let put = put_ended(&mut lines, place);
+    let lined = put_ended(&mut lines, place);
     let told = put_ended_answers(&mut answers, place);
-    let run = assert_run(rt, &["run", A, B], lines.as_str(), 1, answers.as_str());
-    drop(lines);
-    drop(answers);
-    run?;
-    put?;
-    told?;
-    Ok(())
+    assert_put(rt, &["run", A, B], lined.and(told), (lines, answers), 1)
 }
 
 #[test]

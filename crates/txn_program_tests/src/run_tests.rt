@@ -18,11 +18,7 @@ pub(crate) fn append_words(
     words: &[&str],
 ) -> Result<(), NoMemory> {
     for word in words {
-        let text = Text::from_str(alloc, word)?;
-        if let Err(unkept) = texts.push(text) {
-            drop(unkept);
-            return Err(NoMemory);
-        }
+        texts.append(Text::from_str(alloc, word)?)?;
     }
     Ok(())
 }

@@ -10,8 +10,8 @@ returns-in-Err-NotAStep c =
 
 pub loop-rest-preserved : goal.loop-rest-preserved
 loop-rest-preserved c =
-    let pushed : c.push.new.self ≡ c.loop-rest.steps ++ c.in-Ok.step ∷ [] = c.in-Ok-push.ensures.ok in
-    let longer : length c.push.new.self ≡ length c.loop-rest.steps + 1 = rw pushed (length-append c.loop-rest.steps (c.in-Ok.step ∷ [])) in
+    let pushed : c.append.new.self ≡ c.loop-rest.steps ++ c.in-Ok.step ∷ [] = c.in-Ok-append.ensures.ok in
+    let longer : length c.append.new.self ≡ length c.loop-rest.steps + 1 = rw pushed (length-append c.loop-rest.steps (c.in-Ok.step ∷ [])) in
     record {
       reads = rw pushed (spells_more c.loop-rest.steps c.in-Ok.step c.loop-rest.rest.now c.first_line.result.0.now c.first_line.result.1.now (input_steps c.args.octets.now) c.first_line.ensures.lines c.in-Ok.ensures c.loop-rest.invariant.reads);
       few = omega (arith, c.first_line.ensures.shorter, c.loop-rest.invariant.few);
