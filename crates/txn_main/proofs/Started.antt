@@ -28,9 +28,8 @@ ran-from-start told command below read wrote room left written ran none-read non
 pub served-words : (open_told : Recorder OpenSession → Told) (listener_told : Recorder (AcceptingListener PlainSession) → Told) (command : Option Command) (words : List (List ℕ)) (below : Below) (status : ℕ)
     → command ≡ command_of words → IsOver open_told listener_told (layer_of command) below
     → RanBelow open_told listener_told command below status
-    → Served open_told listener_told status
+    → Served open_told listener_told words status
 served-words open_told listener_told command words below status same over ran = record {
-  words = words;
   below = below;
   over = subst (λ (given : Option Command). IsOver open_told listener_told (layer_of given) below) same over;
   ran = subst (λ (given : Option Command). RanBelow open_told listener_told given below status) same ran;

@@ -1,5 +1,5 @@
--- What the process does: a run for its words, whose status it ends with.
-use Rattle.std.specs.Prelude.{ℕ, ◌≡◌, Option, None, Result, List, IfOk}
+-- What the process ends with: the status of a run for its words, or of why there was none.
+use Rattle.std.specs.Prelude.{ℕ, ◌≡◌, ◌⊎◌, Option, None, Result, Ok, Err, List}
 use Rattle.amqp_layer.specs.Told.{Told}
 use Rattle.amqp_layer.specs.declared.open.OpenSession.{OpenSession}
 use Rattle.amqp_sessions.specs.declared.plain_session.PlainSession.{PlainSession}
@@ -10,11 +10,12 @@ use Rattle.txn_program.specs.Serving.{Serves}
 use Rattle.txn_program.specs.Words.{command_of}
 use Rattle.txn_program.specs.declared.running.Ran.{Ran}
 use Rattle.txn_program.specs.declared.words.Command.{Command}
-use Rattle.txn_main.specs.Ending.{process_status}
+use Rattle.txn_main.specs.Ending.{fault_status}
 use Rattle.txn_main.specs.Layers.{IsOver, layer_of}
 use Rattle.txn_main.specs.declared.below.Below.{Below}
 use Rattle.txn_main.specs.declared.below.Below.TheVariants as belows
 use Rattle.txn_main.specs.declared.fault.Fault.{Fault}
+use Rattle.txn_main.specs.declared.fault.Fault.TheVariants as faults
 
 -- standard input, of which nothing was read: it tells no octets, and none of its reads failed
 abbrev pub input_at_start : SourceTold
@@ -41,19 +42,23 @@ RanBelow open_told listener_told command (belows.Open below) status =
 RanBelow open_told listener_told command (belows.Listener below) status =
     RanOver listener_told command below status
 
--- a run for some words, over a new recorder of the layer that they ask for, has this status
+-- a run for these words, over a new recorder of the layer that they ask for, has this status
 pub record Served (open_told : Recorder OpenSession → Told)
-    (listener_told : Recorder (AcceptingListener PlainSession) → Told) (status : ℕ)
-    : Type 0 where
-  pub words : List (List ℕ)
+    (listener_told : Recorder (AcceptingListener PlainSession) → Told) (words : List (List ℕ))
+    (status : ℕ) : Type 0 where
   pub below : Below
   pub over : IsOver open_told listener_told (layer_of (command_of words)) below
   pub ran : RanBelow open_told listener_told (command_of words) below status
 
--- the process ends with the status of such a run, or with that of why there was none
-pub record EndsServed (open_told : Recorder OpenSession → Told)
-    (listener_told : Recorder (AcceptingListener PlainSession) → Told) (exit : ℕ)
-    : Type 0 where
-  pub answer : Result ℕ Fault
-  pub served : IfOk answer (Served open_told listener_told)
-  pub exit_is : exit ≡ process_status answer
+-- the process ends with the status of a fault, or with that of a write that failed
+abbrev pub EndsFaulty : Fault → ℕ → Type 0
+EndsFaulty fault exit = (exit ≡ fault_status fault) ⊎ (exit ≡ fault_status faults.Write)
+
+-- the process ends with the status of such a run, or for want of memory; where there are no words,
+-- with that of why
+abbrev pub EndsServed : (Recorder OpenSession → Told)
+    → (Recorder (AcceptingListener PlainSession) → Told) → Result (List (List ℕ)) Fault → ℕ
+    → Type 0
+EndsServed open_told listener_told (Ok words) exit =
+    Served open_told listener_told words exit ⊎ EndsFaulty faults.NoMemory exit
+EndsServed open_told listener_told (Err fault) exit = EndsFaulty fault exit

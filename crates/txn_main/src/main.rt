@@ -4,10 +4,10 @@
 //! standard input and standard output as its source and its sink, and ends with the status.
 #![tactic(auto)]
 
-ghost use Rattle.std.specs.Prelude.{◌≡◌, ◌⊎◌, ℕ, List, IfOk};
+ghost use Rattle.std.specs.Prelude.{◌≡◌, ◌⊎◌, IfErr, IfOk};
 ghost use Rattle.std.specs.Process.{exit_status};
 ghost use Rattle.amqp_recorder.specs.Recording.{IsFresh, is_unused};
-ghost use Rattle.txn_program.specs.Words.{IsWithin, command_of};
+ghost use Rattle.txn_program.specs.Words.{IsWithin};
 ghost use Rattle.txn_main.specs.declared.fault.Fault.TheVariants as faults;
 ghost use Rattle.txn_main.specs.Serving.{EndsServed, RanOver, Served};
 
@@ -40,23 +40,14 @@ fn words(rt: &(impl Env + Alloc<A = Global>)) -> Result<Items<Text>, Fault> {
     Ok(words)
 }
 
-/// What the words ask for, none where they are outside the table.
-fn command(rt: &(impl Env + Alloc<A = Global>)) -> Result<Option<Command>, Fault>
-    ensures command { IfOk result (λ command.
-        (words : List (List ℕ)) × (command ≡ command_of words)) }
-    ensures within { IfOk result IsWithin }
-{
-    let words = words(rt)?;
-    Ok(command_of(rt.alloc(), words.as_slice())?)
-}
-
-/// What the program does, with the status of the run: for the words, over a new recorder of the
+/// What the program does for the words, with the status of the run: over a new recorder of the
 /// layer that they ask for.
-fn serve(rt: &(impl Env + Input + Print + Alloc<A = Global>)) -> Result<u8, Fault>
-    ensures { IfOk result (Served ⟦<Recorder<OpenSession> as Tells>⟧.told
-        ⟦<Recorder<AcceptingListener<PlainSession>> as Tells>⟧.told) }
+fn serve(rt: &(impl Input + Print + Alloc<A = Global>), words: &[Text]) -> Result<u8, Fault>
+    ensures served { IfOk result (Served ⟦<Recorder<OpenSession> as Tells>⟧.told
+        ⟦<Recorder<AcceptingListener<PlainSession>> as Tells>⟧.told words.now) }
+    ensures fault { IfErr result (λ fault. fault ≡ faults.NoMemory) }
 {
-    let command = command(rt)?;
+    let command = command_of(rt.alloc(), words)?;
     match below_of(rt.alloc(), &command) {
         Below::Open(below) => Ok(serve_over(rt, command, below)),
         Below::Listener(below) => Ok(serve_over(rt, command, below)),
@@ -92,17 +83,28 @@ fn told(rt: &impl Print, fault: Fault) -> Fault
     }
 }
 
-/// Serves, and tells a fault. The answer is what the process ends with.
-fn end_of(rt: &(impl Env + Input + Print + Alloc<A = Global>)) -> ExitCode
+/// Serves the words, or tells why there are none. The answer is what the process ends with.
+fn end_of(
+    rt: &(impl Input + Print + Alloc<A = Global>),
+    words: Result<Items<Text>, Fault>,
+) -> ExitCode
     ensures { EndsServed ⟦<Recorder<OpenSession> as Tells>⟧.told
-        ⟦<Recorder<AcceptingListener<PlainSession>> as Tells>⟧.told (exit_status result) }
+        ⟦<Recorder<AcceptingListener<PlainSession>> as Tells>⟧.told words (exit_status result) }
 {
-    match serve(rt) {
+    let served = match words {
+        Ok(words) => {
+            let served = serve(rt, words.as_slice());
+            drop(words);
+            served
+        }
+        Err(fault) => Err(fault),
+    };
+    match served {
         Ok(status) => exit_of(Ok(status)),
         Err(fault) => exit_of(Err(told(rt, fault))),
     }
 }
 
 fn main(rt: HostRuntime) -> ExitCode {
-    end_of(&rt)
+    end_of(&rt, words(&rt))
 }

@@ -8,5 +8,5 @@ pub serve_over-requires-in-Listener-clause-fresh : goal.serve_over-requires-in-L
 serve_over-requires-in-Listener-clause-fresh g c κs lives = listener-fresh _ _ _ c.in-Listener.below c.in-Listener.ensures
 
 -- and a run over it
-pub returns-in-Listener : goal.returns-in-Listener
-returns-in-Listener g c = served-words _ _ _ c.in_ok-command.ensures.command.0 (belows.Listener c.in-Listener.below) _ c.in_ok-command.ensures.command.1 c.in-Listener.ensures c.serve_over-in-Listener.ensures
+pub returns-in-Listener-clause-served : goal.returns-in-Listener-clause-served
+returns-in-Listener-clause-served g c = served-words _ _ _ _ (belows.Listener c.in-Listener.below) _ c.in_ok-command.ensures.command c.in-Listener.ensures c.serve_over-in-Listener.ensures
