@@ -1,5 +1,6 @@
--- What a step answers and leaves, from the view before it to the view after it: those of a session
--- that hasn't stopped, also where it stands for no record, and those of a record.
+-- What a step answers and leaves, by the view before it and the view after it. Clauses take the
+-- views of a session that hasn't stopped, whether it stands for a record or not; proofs also that
+-- of a record.
 use Rattle.std.specs.Prelude.{ℕ, Bool, true, false, ◌==◌, ◌≡◌, ◌≤◌, ◌+◌, cond, Option, Some, None, Result, Ok, Err, List, [], map, MatchBool}
 use Rattle.amqp_txn_types.specs.declared.id.TransactionId.{TransactionId}
 use Rattle.amqp_txn_types.specs.declared.performatives.Frame.{Frame}

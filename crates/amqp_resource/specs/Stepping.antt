@@ -22,7 +22,7 @@ use Rattle.amqp_resource.specs.Keeping.{AnswerKeeps}
 use Rattle.amqp_resource.specs.Views.{view_of_record}
 use Rattle.amqp_resource.specs.Session.{FitsTogether, ForEachRecord, SameSession, StopAfter, below_of, held_of, refusals_of, stop_of, told_of, vetoes_of, view_of}
 
--- what a step says by a record that the session stood for, before and after it
+-- what a step answers, leaves and does below, by a record that the session stood for before it
 pub record StepRecords (told now : Told) (ids : ℕ → TransactionId) (new : Held) (r : List Entry)
     (s : Step) (result : Result (DrawnIds × Reply) StepError) : Type 0 where
   -- The reply is an answer of the record to the step with the ids drawn, and the session then

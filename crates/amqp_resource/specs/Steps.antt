@@ -1,4 +1,4 @@
--- What one step is, what it hands and takes by a view, and when each answer may come.
+-- What one step is, what it hands and takes memory for, by a view, and when each answer may come.
 use Rattle.std.specs.Prelude.{ℕ, Bool, true, false, not, cond, ◌&&◌, ◌≡◌, ◌≤◌, ◌⊎◌, ⊤, Option, Some, None, Result, Ok, Err, List, [], ◌∷◌, length, map, take, slice_get, is_some, is_none, MatchBool}
 use Rattle.std.specs.List.{zip}
 use Rattle.amqp_txn_types.specs.declared.id.TransactionId.{TransactionId}
@@ -97,7 +97,7 @@ message_hands v k (Some (messages.Discharge discharge)) =
 message_hands v k _ = []
 
 -- what a step hands: a plain frame itself, a control message what it hands on an open link. By a
--- record's view that is what it hands by the record (`hands`)
+-- record's view that is what it hands by the record (`the_view_of_a_record_looks_back`)
 abbrev pub step_hands : View → Step → List Frame
 step_hands v (steps.Frame frame) = cond (is_plain_frame frame) (frame ∷ []) []
 step_hands v (steps.Control k payload) =
@@ -112,9 +112,9 @@ FrameMayFault v frame (Some t) = (is_live_in v t ≡ true) × (1 ≤ length (ans
 -- a step that hands these frames and that a refusal below may stop: a plain frame, a post that is
 -- answered with a disposition, a commit with at least one frame, which wants memory
 abbrev pub MayFault : View → Step → List Frame → SessionInnerError → Type 0
-MayFault v (steps.Frame frame) hands error = FrameMayFault v frame (txn frame)
-MayFault v (steps.Control k payload) hands error = (1 ≤ length hands) × (error ≡ faults.NoMemory)
-MayFault v _ hands error = ⊥
+MayFault v (steps.Frame frame) frames error = FrameMayFault v frame (txn frame)
+MayFault v (steps.Control k payload) frames error = (1 ≤ length frames) × (error ≡ faults.NoMemory)
+MayFault v _ frames error = ⊥
 
 -- an id, if there is one, is live
 abbrev pub is_live_under : View → Option TransactionId → Bool
@@ -168,9 +168,9 @@ fault_of error = error
 -- what a fault adds to what was refused: the frame at the place of those that the step hands, with
 -- the layer's own error; or nothing, where an outgoing disposition may have been refused
 abbrev pub AddsRefusal : Step → List Frame → ℕ → SessionInnerError → List Refusal → Type 0
-AddsRefusal s handed at error more =
+AddsRefusal s frames at error more =
     (own : SessionInnerError) × (error ≡ fault_of own)
-    × (((f : Frame) × (slice_get handed at ≡ Some f) × (more ≡ refusal_of f own))
+    × (((f : Frame) × (slice_get frames at ≡ Some f) × (more ≡ refusal_of f own))
     ⊎ ((more ≡ []) × (IsPost s ⊎ (1 ≤ at))))
 
 -- ---- what an answer leaves
@@ -183,8 +183,8 @@ TookHands old new r s reply =
 
 -- below took the first of the frames that a step hands
 abbrev pub TookFirst : Told → Told → List Frame → ℕ → Type 0
-TookFirst old new hands handed =
-    (handed ≤ length hands) × TookFrames old.taken new.taken (take handed hands)
+TookFirst old new frames handed =
+    (handed ≤ length frames) × TookFrames old.taken new.taken (take handed frames)
 
 -- below opened what the reply says
 abbrev pub OpenedBy : Told → Told → Step → Reply → Type 0
@@ -201,17 +201,17 @@ VetoedBy old new r s reply =
 
 -- below refused what the fault of a step adds that hands these frames
 abbrev pub RefusedAdds : Told → Told → Step → List Frame → SessionInnerError → ℕ → Type 0
-RefusedAdds old new s hands error handed =
-    (more : List Refusal) × AddsRefusal s hands handed error more
+RefusedAdds old new s frames error handed =
+    (more : List Refusal) × AddsRefusal s frames handed error more
     × (new.refused ≡ grown old.refused more)
 
 -- a refusal below stopped a step that hands these frames: the first of them were taken
-pub record Refused (v : View) (old new : Told) (s : Step) (hands : List Frame)
+pub record Refused (v : View) (old new : Told) (s : Step) (frames : List Frame)
     (error : SessionInnerError) (handed : ℕ) : Type 0 where
-  pub fits : MayFault v s hands error
-  pub took : TookFirst old new hands handed
+  pub fits : MayFault v s frames error
+  pub took : TookFirst old new frames handed
   pub opened : new.opened ≡ old.opened
-  pub refused : RefusedAdds old new s hands error handed
+  pub refused : RefusedAdds old new s frames error handed
   pub vetoed : new.reviews.vetoed ≡ old.reviews.vetoed
 
 -- ---- causes

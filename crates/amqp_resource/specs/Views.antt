@@ -1,4 +1,5 @@
--- A view: which ids are live and which links are open, by a record or as a session keeps it.
+-- A view: which ids are live, on which link and with which frames, which links are open, and how
+-- many were opened: by a record, or as a session keeps it.
 use Rattle.std.specs.Prelude.{ℕ, Bool, ◌≡◌, Option, List, is_some}
 use Rattle.amqp_txn_types.specs.declared.id.TransactionId.{TransactionId}
 use Rattle.amqp_txn_types.specs.declared.performatives.Frame.{Frame}

@@ -41,6 +41,7 @@ mod ending;
 mod frame_steps;
 mod hearing;
 mod held;
+mod laws;
 mod link_steps;
 mod outcomes;
 mod session;
@@ -58,4 +59,5 @@ pub use amqp_record::{
 };
 pub use as_session::HandleControlLink;
 pub use driving::{drive, drive_counted};
+pub use laws::the_view_of_a_record_looks_back;
 pub use session::TxnSession;
