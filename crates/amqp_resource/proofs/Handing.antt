@@ -36,7 +36,7 @@ use Rattle.amqp_arrivals.specs.Live.{frames_kept, kept}
 use Rattle.amqp_resource.specs.declared.held.Held.{Held}
 use Rattle.amqp_resource.specs.Draws.{is_kept}
 use Rattle.amqp_resource.specs.Transacting.{CommittedIn, CommittedWith, Ended}
-use Rattle.amqp_resource.specs.Committing.{HandCause, HandedAll, HandedSome, HandedPart, HandsAll, given_of, vetoed_of}
+use Rattle.amqp_resource.specs.Committing.{HandCause, HandedAll, HandedSome, HandedPart, HandsAll, OnNoEchoes, OnVetoed, given_of, vetoed_of}
 
 -- an Err of a call below adds its refusal
 pub refused_after-err : (before : Option (List Refusal)) (frame : Frame) (error : SessionInnerError) → refused_after {T = List Frame} before frame (Err error) ≡ grown before (refusal_of frame error)
@@ -232,6 +232,18 @@ handed-nothing told = record {
   counted = omega arith;
   cause = tt;
 }
+
+-- ---- what is called beside
+
+pub vetoed-weaker : (result : Result (Result (List Answers) TransactionError) CommitFault) (P Q : Type 0) → (P → Q) → OnVetoed result P → OnVetoed result Q
+vetoed-weaker (Ok (Err conditions.Rollback)) P Q f x = f x
+vetoed-weaker _ P Q f x = tt
+
+-- frames that were handed have an answer each
+pub some-echoes : (old new : Told) (kept : List Frame) (result : Result (Result (List Answers) TransactionError) CommitFault) (P : Type 0) → HandsAll old new (map stripped kept) result → 1 ≤ length kept → OnNoEchoes result P
+some-echoes old new [] result P h some = absurd (omega (arith, some))
+some-echoes old new (f ∷ kept) (Ok (Ok [])) P h some = let x : AllWindowsFit (stripped f ∷ map stripped kept) [] = h.handed.fits in absurd x
+some-echoes old new (f ∷ kept) _ P h some = tt
 
 -- ---- an id that ends by a commit
 

@@ -1,5 +1,5 @@
 -- What a step leaves, from what the calls that it makes leave.
-use Rattle.std.proofs.Common.{◌≡◌, ℕ, zero, suc, ◌+◌, ◌≤◌, Bool, true, false, cond, not, ◌&&◌, Option, Some, None, Ok, Err, List, [], ◌∷◌, length, map, take, refl, sym, ◌∙◌, ap, arith, subst, inl, inr}
+use Rattle.std.proofs.Common.{◌≡◌, ℕ, zero, suc, ◌+◌, ◌≤◌, Bool, true, false, cond, not, ◌&&◌, Option, Some, None, Result, Ok, Err, List, [], ◌∷◌, length, map, take, refl, sym, ◌∙◌, ap, arith, subst, inl, inr}
 use Rattle.std.specs.Prelude.{◌==◌, is_some, MatchBool}
 use Rattle.std.proofs.lemmas.Bool.{eqb-true}
 use Rattle.amqp_txn_types.specs.declared.id.TransactionId.{TransactionId}
@@ -14,7 +14,9 @@ use Rattle.amqp_txn_codec.specs.declared.message.Discharge.{Discharge}
 use Rattle.amqp_txn_codec.specs.declared.message.ControlMessageBody.{ControlMessageBody}
 use Rattle.amqp_txn_codec.specs.declared.message.ControlMessageBody.TheVariants as messages
 use Rattle.amqp_txn_codec.specs.Reading.{message_of}
+use Rattle.amqp_txn_types.specs.declared.items.NoMemory.{NoMemory}
 use Rattle.amqp_layer.specs.declared.answers.Answers.{Answers}
+use Rattle.amqp_layer.specs.declared.verdict.Verdict.{Verdict}
 use Rattle.amqp_layer.specs.declared.inner_error.SessionInnerError.{SessionInnerError}
 use Rattle.amqp_layer.specs.declared.inner_error.SessionInnerError.TheVariants as faults
 use Rattle.amqp_sessions.specs.declared.transacting.CommitFault.{CommitFault}
@@ -373,6 +375,12 @@ commit_stopped v told now k payload hands error handed x =
       vetoed = x.vetoed ∙ grown-nil told.reviews.vetoed;
     })
 
+-- what a commit of an id that the link declared hands
+pub commit-hands : (h : Held) (k : ℕ) (payload : List ℕ) (discharge : Discharge) → message_of payload ≡ discharge_of discharge → is_rollback discharge.fail ≡ false → is_in h.links.entries k ≡ true → is_kept_on k (kept h.work discharge.txn_id) ≡ true → map stripped (frames_kept (kept h.work discharge.txn_id)) ≡ step_hands (view_of_held h) (steps.Control k payload)
+commit-hands h k payload discharge e rb o on =
+    let v = view_of_held h in
+    sym (ap (λ b. cond b (message_hands v k (message_of payload)) []) o ∙ ap (message_hands v k) e ∙ commit_hands v k discharge rb on)
+
 -- a fault of a commit
 pub keeps-fault : (h g : Held) (told now : Told) (k : ℕ) (payload : List ℕ) (discharge : Discharge) (U : Type 0) (fault : CommitFault) → message_of payload ≡ discharge_of discharge → is_rollback discharge.fail ≡ false → is_in h.links.entries k ≡ true → is_kept_on k (kept h.work discharge.txn_id) ≡ true → CommittedWith h g told now discharge.txn_id (frames_kept (kept h.work discharge.txn_id)) U (Err fault) → Fits h → Keeps h g told now (steps.Control k payload) (Err (step_error_of fault))
 keeps-fault h g told now k payload discharge U commit_faults.NoMemory e rb o on x f = record {
@@ -381,26 +389,25 @@ keeps-fault h g told now k payload discharge U commit_faults.NoMemory e rb o on 
 }
 keeps-fault h g told now k payload discharge U (commit_faults.Refused error handed) e rb o on x f =
     let v = view_of_held h in
-    let gives : map stripped (frames_kept (kept h.work discharge.txn_id)) ≡ step_hands v (steps.Control k payload) =
-    sym (ap (λ b. cond b (message_hands v k (message_of payload)) []) o ∙ ap (message_hands v k) e ∙ commit_hands v k discharge rb on) in
     record {
       fits = fits-ended h g discharge.txn_id x.0 f;
-      answer = subst (λ (fs : List Frame). MatchBool (is_unknown error) (UnderDead v (steps.Control k payload) × (handed ≡ 0)) (Refused v told now (steps.Control k payload) fs error handed)) gives (commit_stopped v told now k payload _ error handed x.1);
+      answer = subst (λ (fs : List Frame). MatchBool (is_unknown error) (UnderDead v (steps.Control k payload) × (handed ≡ 0)) (Refused v told now (steps.Control k payload) fs error handed)) (commit-hands h k payload discharge e rb o on) (commit_stopped v told now k payload _ error handed x.1);
     }
 
-pub leaves-fault : {S : Type 0} (tells : S → Told) (sure : Bool) (h g : Held) (below now : S) (k : ℕ) (payload : List ℕ) (discharge : Discharge) (fault : CommitFault) → message_of payload ≡ discharge_of discharge → is_rollback discharge.fail ≡ false → is_in h.links.entries k ≡ true → is_kept_on k (kept h.work discharge.txn_id) ≡ true → CommittedWith h g (tells below) (tells now) discharge.txn_id (frames_kept (kept h.work discharge.txn_id)) (now ≡ below) (Err fault) → HandsSurely sure (Err fault) → (tells now).fixed ≡ (tells below).fixed → (tells below).refusals ≤ (tells now).refusals → (tells below).reviews.vetoes ≤ (tells now).reviews.vetoes → StepLeaves tells sure h g below now (steps.Control k payload) (Err (step_error_of fault))
-leaves-fault tells sure h g below now k payload discharge commit_faults.NoMemory e rb o on x surely fixed later counted = record {
+pub leaves-fault : {S : Type 0} (tells : S → Told) (sure : Bool) (reviews : S → S → List Frame → Result Verdict NoMemory → Type 0) (h g : Held) (below now : S) (k : ℕ) (payload : List ℕ) (discharge : Discharge) (fault : CommitFault) → message_of payload ≡ discharge_of discharge → is_rollback discharge.fail ≡ false → is_in h.links.entries k ≡ true → is_kept_on k (kept h.work discharge.txn_id) ≡ true → CommittedWith h g (tells below) (tells now) discharge.txn_id (frames_kept (kept h.work discharge.txn_id)) (now ≡ below) (Err fault) → HandsSurely sure (Err fault) → (tells now).fixed ≡ (tells below).fixed → (tells below).refusals ≤ (tells now).refusals → (tells below).reviews.vetoes ≤ (tells now).reviews.vetoes → StepLeaves tells sure reviews h g below now (steps.Control k payload) (Err (step_error_of fault))
+leaves-fault tells sure reviews h g below now k payload discharge commit_faults.NoMemory e rb o on x surely fixed later counted = record {
   keeps = keeps-fault h g (tells below) (tells now) k payload discharge (now ≡ below) commit_faults.NoMemory e rb o on x;
   cause = tt;
   surely = tt;
   ended = tt;
   same = x.0;
   untouched = x.1;
+  reviewed = tt;
   fixed = fixed;
   later = later;
   counted = counted;
 }
-leaves-fault tells sure h g below now k payload discharge (commit_faults.Refused error handed) e rb o on x surely fixed later counted =
+leaves-fault tells sure reviews h g below now k payload discharge (commit_faults.Refused error handed) e rb o on x surely fixed later counted =
     let is : error ≡ faults.NoMemory = x.1.handed.0 in
     record {
       keeps = keeps-fault h g (tells below) (tells now) k payload discharge (now ≡ below) (commit_faults.Refused error handed) e rb o on x;
@@ -409,6 +416,7 @@ leaves-fault tells sure h g below now k payload discharge (commit_faults.Refused
       ended = tt;
       same = tt;
       untouched = when_known (is_unknown error) _ _ (ap is_unknown is) tt;
+      reviewed = tt;
       fixed = fixed;
       later = later;
       counted = counted;

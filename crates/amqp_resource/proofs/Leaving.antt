@@ -1,8 +1,10 @@
 -- What a step leaves, by whether it makes a call below.
-use Rattle.std.proofs.Common.{◌≡◌, ◌≤◌, ℕ, Bool, true, false, Option, Some, None, Result, Ok, Err, List, refl, sym, ◌∙◌, ap, arith, subst}
+use Rattle.std.proofs.Common.{◌≡◌, ◌≤◌, ℕ, Bool, true, false, Option, Some, None, Result, Ok, Err, List, [], ◌∷◌, refl, sym, ◌∙◌, ap, arith, subst}
 use Rattle.std.specs.Prelude.{⊤, is_some, MatchBool, IfOk}
 use Rattle.amqp_txn_types.specs.declared.id.TransactionId.{TransactionId}
 use Rattle.amqp_txn_types.specs.declared.delivery.Error.{Error}
+use Rattle.amqp_txn_types.specs.declared.items.NoMemory.{NoMemory}
+use Rattle.amqp_txn_types.specs.declared.small.TransactionError.TheVariants as conditions
 use Rattle.amqp_txn_types.specs.declared.performatives.Frame.{Frame}
 use Rattle.amqp_txn_types.specs.Counts.{Rose}
 use Rattle.amqp_txn_codec.specs.declared.message.ControlMessageBody.TheVariants as messages
@@ -11,6 +13,8 @@ use Rattle.amqp_txn_codec.specs.Discharges.{is_rollback}
 use Rattle.amqp_txn_codec.specs.Reading.{message_of}
 use Rattle.amqp_layer.specs.declared.answers.Answers.{Answers}
 use Rattle.amqp_layer.specs.declared.inner_error.SessionInnerError.{SessionInnerError}
+use Rattle.amqp_layer.specs.declared.verdict.Verdict.{Verdict}
+use Rattle.amqp_layer.specs.declared.verdict.Verdict.TheVariants as verdicts
 use Rattle.amqp_layer.specs.Told.{Told, open_told}
 use Rattle.amqp_ids.specs.Drawn.{DrawnIds}
 use Rattle.amqp_ids.specs.Ids.{Drew}
@@ -25,11 +29,12 @@ use Rattle.amqp_sessions.specs.declared.transacting.CommitFault.{CommitFault}
 use Rattle.amqp_sessions.specs.declared.transacting.CommitFault.TheVariants as commit_faults
 use Rattle.amqp_resource.specs.declared.held.Held.{Held}
 use Rattle.amqp_resource.specs.Held.{SameHeld}
-use Rattle.amqp_resource.specs.Committing.{HandsSurely}
+use Rattle.amqp_resource.specs.Committing.{HandsSurely, OnNoEchoes}
 use Rattle.amqp_resource.specs.Transacting.{step_error_of}
 use Rattle.amqp_resource.specs.Keeping.{Fits, Keeps}
 use Rattle.amqp_resource.specs.Leaving.{LeavesHere, StepDraws, StepLeaves}
-use Rattle.amqp_resource.specs.Steps.{IfRefused, IsPost, OnNoCall, OnNoMemory, StepCause, StopsSurely, calls_nothing, has_error, is_unknown, local_end, nothing_drawn, remote_end, rolls_back_by}
+use Rattle.amqp_resource.specs.Steps.{IfRefused, IfVeto, IsPost, OnNoCall, OnNoMemory, OnVeto, StepCause, StopsSurely, calls_nothing, has_error, is_unknown, local_end, nothing_drawn, remote_end, rolls_back_by, step_hands}
+use Rattle.amqp_resource.specs.Views.{view_of_held}
 use Rattle.amqp_resource.proofs.Moved.{keeps_moved, same_moved}
 use Rattle.amqp_resource.proofs.Parts.{on_false}
 
@@ -46,9 +51,21 @@ no_call_holds s (Err (errors.Ended reason)) P x = x
 no_call_holds s (Err (errors.Stopped code)) P x = x
 no_call_holds s (Err errors.NoMemory) P x = x
 
--- an accepted commit may have called
-pub commit_calls : (k : ℕ) (payload : List ℕ) (discharge : Discharge) (d : DrawnIds) (echoes : List Answers) (P : Type 0) → message_of payload ≡ Some (messages.Discharge discharge) → is_rollback discharge.fail ≡ false → OnNoCall (steps.Control k payload) (Ok (d, replies.Accepted echoes)) P
-commit_calls k payload discharge d echoes P m b = subst (λ (c : Bool). MatchBool c P ⊤) (sym (ap rolls_back_by m ∙ b)) tt
+-- an accepted commit may have called, but for one without an answer
+pub commit_calls : (k : ℕ) (payload : List ℕ) (discharge : Discharge) (d : DrawnIds) (echoes : List Answers) (P : Type 0) → message_of payload ≡ Some (messages.Discharge discharge) → is_rollback discharge.fail ≡ false → OnNoEchoes (Ok (Ok echoes)) P → OnNoCall (steps.Control k payload) (Ok (d, replies.Accepted echoes)) P
+commit_calls k payload discharge d [] P m b idle = idle
+commit_calls k payload discharge d (echo ∷ echoes) P m b idle = subst (λ (c : Bool). MatchBool c P ⊤) (sym (ap rolls_back_by m ∙ b)) tt
+
+-- ---- vetoes
+
+if_veto : (P Q : Type 0) (reply : Reply) → (P → Q) → IfVeto reply P → IfVeto reply Q
+if_veto P Q (replies.Rejected conditions.Rollback text) f x = f x
+if_veto P Q _ f x = tt
+
+-- what makes no call below is no veto
+no_veto : (s : Step) (result : Result (DrawnIds × Reply) StepError) (P : Type 0) → StepCause open_told open_told s result → OnVeto result P
+no_veto s (Ok out) P c = if_veto (Rose 0 0) P out.1 (λ x. absurd (omega (arith, x))) c.1
+no_veto s (Err error) P c = tt
 
 -- ---- ends
 
@@ -109,42 +126,45 @@ surely_commit sure k payload (commit_faults.Refused error handed) f = by_known (
 -- ---- all clauses
 
 -- no call was made below
-pub leaves-here : {S : Type 0} (tells : S → Told) (sure : Bool) (h g : Held) (below : S) (s : Step) (result : Result (DrawnIds × Reply) StepError) → LeavesHere h g s result → StepLeaves tells sure h g below below s result
-leaves-here tells sure h g below s result x = record {
+pub leaves-here : {S : Type 0} (tells : S → Told) (sure : Bool) (reviews : S → S → List Frame → Result Verdict NoMemory → Type 0) (h g : Held) (below : S) (s : Step) (result : Result (DrawnIds × Reply) StepError) → LeavesHere h g s result → StepLeaves tells sure reviews h g below below s result
+leaves-here tells sure reviews h g below s result x = record {
   keeps = λ f. x.keeps (tells below) f;
   cause = x.cause (tells below);
   surely = surely_here sure s result x.cause;
   ended = x.ended;
   same = x.same;
   untouched = no_call_holds s result (below ≡ below) refl;
+  reviewed = no_veto s result _ (x.cause open_told);
   fixed = refl;
   later = omega arith;
   counted = omega arith;
 }
 
 -- a frame for which calls were made below
-pub leaves-frame : {S : Type 0} (tells : S → Told) (sure : Bool) (h g : Held) (below now : S) (frame : Frame) (result : Result (DrawnIds × Reply) StepError) → (Fits h → Keeps h g (tells below) (tells now) (steps.Frame frame) result) → StepCause (tells below) (tells now) (steps.Frame frame) result → OnNoMemory result (SameHeld h g) → OnNoCall (steps.Frame frame) result (now ≡ below) → (tells now).fixed ≡ (tells below).fixed → (tells below).refusals ≤ (tells now).refusals → (tells now).reviews ≡ (tells below).reviews → StepLeaves tells sure h g below now (steps.Frame frame) result
-leaves-frame tells sure h g below now frame result keeps cause same untouched fixed later reviews = record {
+pub leaves-frame : {S : Type 0} (tells : S → Told) (sure : Bool) (reviews : S → S → List Frame → Result Verdict NoMemory → Type 0) (h g : Held) (below now : S) (frame : Frame) (result : Result (DrawnIds × Reply) StepError) → (Fits h → Keeps h g (tells below) (tells now) (steps.Frame frame) result) → StepCause (tells below) (tells now) (steps.Frame frame) result → OnNoMemory result (SameHeld h g) → OnNoCall (steps.Frame frame) result (now ≡ below) → OnVeto result (reviews below now (step_hands (view_of_held h) (steps.Frame frame)) (Ok verdicts.Veto)) → (tells now).fixed ≡ (tells below).fixed → (tells below).refusals ≤ (tells now).refusals → (tells now).reviews ≡ (tells below).reviews → StepLeaves tells sure reviews h g below now (steps.Frame frame) result
+leaves-frame tells sure reviews h g below now frame result keeps cause same untouched reviewed fixed later unreviewed = record {
   keeps = keeps;
   cause = cause;
   surely = surely_other result;
   ended = tt;
   same = same;
   untouched = untouched;
+  reviewed = reviewed;
   fixed = fixed;
   later = later;
-  counted = omega (arith, ap (λ x. x.vetoes) reviews);
+  counted = omega (arith, ap (λ x. x.vetoes) unreviewed);
 }
 
 -- what is kept may stand in other memory
-pub leaves-moved : {S : Type 0} (tells : S → Told) (sure : Bool) (h m g : Held) (below now : S) (s : Step) (result : Result (DrawnIds × Reply) StepError) → SameHeld m g → StepLeaves tells sure h m below now s result → StepLeaves tells sure h g below now s result
-leaves-moved tells sure h m g below now s result same x = record {
+pub leaves-moved : {S : Type 0} (tells : S → Told) (sure : Bool) (reviews : S → S → List Frame → Result Verdict NoMemory → Type 0) (h m g : Held) (below now : S) (s : Step) (result : Result (DrawnIds × Reply) StepError) → SameHeld m g → StepLeaves tells sure reviews h m below now s result → StepLeaves tells sure reviews h g below now s result
+leaves-moved tells sure reviews h m g below now s result same x = record {
   keeps = λ f. keeps_moved h m g (tells below) (tells now) s result same (x.keeps f);
   cause = x.cause;
   surely = x.surely;
   ended = x.ended;
   same = same_moved h m g result same x.same;
   untouched = x.untouched;
+  reviewed = x.reviewed;
   fixed = x.fixed;
   later = x.later;
   counted = x.counted;

@@ -4,6 +4,9 @@ use Rattle.std.specs.Prelude.{IfOk}
 use Rattle.amqp_txn_types.specs.declared.id.TransactionId.{TransactionId}
 use Rattle.amqp_ids.specs.Drawn.{DrawnIds}
 use Rattle.amqp_ids.specs.Ids.{AreNext}
+use Rattle.amqp_txn_types.specs.declared.items.NoMemory.{NoMemory}
+use Rattle.amqp_txn_types.specs.declared.performatives.Frame.{Frame}
+use Rattle.amqp_layer.specs.declared.verdict.Verdict.{Verdict}
 use Rattle.amqp_layer.specs.Told.{Told}
 use Rattle.amqp_record.specs.declared.entry.Entry.{Entry}
 use Rattle.amqp_record.specs.declared.step.Step.{Step}
@@ -20,8 +23,8 @@ use Rattle.amqp_resource.proofs.Fitting.{fits-stands}
 use Rattle.amqp_resource.proofs.Parts.{no_call_weaker, on_answered, on_error, on_refused, step_attach, step_memory, step_unknown, step_unknown_only}
 use Rattle.amqp_resource.proofs.Recorded.{StepGave, gave, keeps-record}
 
-pub step_records : {S : Type 0} (tells : S → Told) (sure : Bool) (h g : Held) (below now : S) (r : List Entry) (s : Step) (ids : ℕ → TransactionId) (result : Result (DrawnIds × Reply) StepError) → Stands h r → StepLeaves tells sure h g below now s result → IfOk result (λ out. AreNext ids 0 out.0.ids) → StepRecords (tells below) (tells now) ids g r s result
-step_records tells sure h g below now r s ids result st x drawn =
+pub step_records : {S : Type 0} (tells : S → Told) (sure : Bool) (reviews : S → S → List Frame → Result Verdict NoMemory → Type 0) (h g : Held) (below now : S) (r : List Entry) (s : Step) (ids : ℕ → TransactionId) (result : Result (DrawnIds × Reply) StepError) → Stands h r → StepLeaves tells sure reviews h g below now s result → IfOk result (λ out. AreNext ids 0 out.0.ids) → StepRecords (tells below) (tells now) ids g r s result
+step_records tells sure reviews h g below now r s ids result st x drawn =
     let old = tells below in
     let new = tells now in
     let kept = x.keeps (fits-stands h r st) in

@@ -1,6 +1,6 @@
 -- What a commit does below: its frames are reviewed together, and where they are accepted they are
 -- handed one after another.
-use Rattle.std.specs.Prelude.{ℕ, ◌≡◌, ◌≤◌, Bool, true, Result, Ok, Err, List, [], ◌∷◌, length, take, map}
+use Rattle.std.specs.Prelude.{ℕ, ◌≡◌, ◌≤◌, ⊤, Bool, true, Result, Ok, Err, List, [], ◌∷◌, length, take, map}
 use Rattle.std.specs.List.{zip}
 use Rattle.amqp_txn_types.specs.declared.performatives.Frame.{Frame}
 use Rattle.amqp_txn_types.specs.declared.small.TransactionError.{TransactionError}
@@ -69,6 +69,17 @@ pub record HandsAll (old new : Told) (frames : List Frame)
   pub later : old.refusals ≤ new.refusals
   pub counted : old.reviews.vetoes ≤ new.reviews.vetoes
   pub cause : HandCause old new result
+
+-- a commit that was vetoed, with a fact
+abbrev pub OnVetoed : Result (Result (List Answers) TransactionError) CommitFault → Type 0 → Type 0
+OnVetoed (Ok (Err conditions.Rollback)) P = P
+OnVetoed _ P = ⊤
+
+-- a commit that was accepted without an answer, as one of no frames, with a fact
+abbrev pub OnNoEchoes : Result (Result (List Answers) TransactionError) CommitFault → Type 0
+    → Type 0
+OnNoEchoes (Ok (Ok [])) P = P
+OnNoEchoes _ P = ⊤
 
 -- over a sure layer memory lacks in the review alone
 abbrev pub HandsSurely : Bool → Result (Result (List Answers) TransactionError) CommitFault → Type 0

@@ -1,20 +1,26 @@
 -- What a step leaves, as each function of a step says it in one clause.
-use Rattle.std.specs.Prelude.{ℕ, Bool, ◌≡◌, ◌≤◌, Option, Result, IfOk, OnErr}
+use Rattle.std.specs.Prelude.{ℕ, Bool, ◌≡◌, ◌≤◌, Option, Result, Ok, List, IfOk, OnErr}
 use Rattle.amqp_txn_types.specs.declared.id.TransactionId.{TransactionId}
+use Rattle.amqp_txn_types.specs.declared.items.NoMemory.{NoMemory}
+use Rattle.amqp_txn_types.specs.declared.performatives.Frame.{Frame}
 use Rattle.amqp_ids.specs.Drawn.{DrawnIds}
 use Rattle.amqp_ids.specs.Ids.{Drew}
 use Rattle.amqp_layer.specs.Told.{Told}
+use Rattle.amqp_layer.specs.declared.verdict.Verdict.{Verdict}
+use Rattle.amqp_layer.specs.declared.verdict.Verdict.TheVariants as verdicts
 use Rattle.amqp_record.specs.declared.step.Step.{Step}
 use Rattle.amqp_record.specs.declared.reply.Reply.{Reply}
 use Rattle.amqp_record.specs.declared.stop.StepError.{StepError}
 use Rattle.amqp_resource.specs.declared.held.Held.{Held}
 use Rattle.amqp_resource.specs.Held.{SameHeld}
 use Rattle.amqp_resource.specs.Keeping.{Fits, Keeps}
-use Rattle.amqp_resource.specs.Steps.{AnswersEnd, IfRefused, OnNoCall, OnNoMemory, StepCause, StopsSurely, ended_by}
+use Rattle.amqp_resource.specs.Steps.{AnswersEnd, IfRefused, OnNoCall, OnNoMemory, OnVeto, StepCause, StopsSurely, ended_by, step_hands}
+use Rattle.amqp_resource.specs.Views.{view_of_held}
 
--- a step over a layer that tells this, and is sure or not
-pub record StepLeaves {S : Type 0} (told : S → Told) (sure : Bool) (old new : Held) (below now : S)
-    (s : Step) (result : Result (DrawnIds × Reply) StepError) : Type 0 where
+-- a step over a layer that tells this, is sure or not, and reviews so
+pub record StepLeaves {S : Type 0} (told : S → Told) (sure : Bool)
+    (reviews : S → S → List Frame → Result Verdict NoMemory → Type 0) (old new : Held)
+    (below now : S) (s : Step) (result : Result (DrawnIds × Reply) StepError) : Type 0 where
   -- What is kept, and the answer by it; when each answer may come; and an end is answered with its
   -- own value.
   pub keeps : Fits old → Keeps old new (told below) (told now) s result
@@ -24,6 +30,9 @@ pub record StepLeaves {S : Type 0} (told : S → Told) (sure : Bool) (old new : 
   -- Want of memory changes nothing, and such an answer makes no call below.
   pub same : OnNoMemory result (SameHeld old new)
   pub untouched : OnNoCall s result (now ≡ below)
+  -- A vetoed commit leaves below what the review left: no call comes after it.
+  pub reviewed : OnVeto result
+      (reviews below now (step_hands (view_of_held old) s) (Ok verdicts.Veto))
   -- What no step changes below, and the counts that never fall.
   pub fixed : (told now).fixed ≡ (told below).fixed
   pub later : (told below).refusals ≤ (told now).refusals

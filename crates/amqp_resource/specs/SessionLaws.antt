@@ -151,7 +151,8 @@ module _ {S : Type 0} (told : S → Told) (kept : S → Kept) (names : S → Nam
       coordinator-leaves : (old new : TxnSession S) (attach : Attach)
           (result : Result (List Frame) SessionInnerError)
           → is_coordinator_attach (frames.Attach attach) ≡ true
-          → HearsAttach told opens old new attach result → Left old new (frames.Attach attach) result
+          → HearsAttach told opens old new attach result
+          → Left old new (frames.Attach attach) result
       coordinator-leaves old new attach result is hears =
           let Answered : Result (List Frame) SessionInnerError → Type 0 =
           Left old new (frames.Attach attach) in
@@ -182,7 +183,8 @@ module _ {S : Type 0} (told : S → Told) (kept : S → Kept) (names : S → Nam
         unbound-leaves old new (frames.Attach attach) true result is hears =
             coordinator-leaves old new attach result is hears
         unbound-leaves old new (frames.Flow flow) true result is hears = absurd hears
-        unbound-leaves old new (frames.Transfer transfer payload) true result is hears = absurd hears
+        unbound-leaves old new (frames.Transfer transfer payload) true result is hears =
+            absurd hears
         unbound-leaves old new (frames.Disposition disposition) true result is hears = absurd hears
         unbound-leaves old new (frames.Detach detach) true result is hears = absurd hears
 
@@ -200,7 +202,8 @@ module _ {S : Type 0} (told : S → Told) (kept : S → Kept) (names : S → Nam
         -- a frame by its kind
         kind-leaves : (old new : TxnSession S) (frame : Frame)
             (result : Result (List Frame) SessionInnerError)
-            → HearsKind told gives opens old new frame (txn frame) result → Left old new frame result
+            → HearsKind told gives opens old new frame (txn frame) result
+            → Left old new frame result
         unfolding txn
         kind-leaves old new (frames.Attach attach) result hears =
             unbound-leaves old new (frames.Attach attach)
@@ -222,7 +225,8 @@ module _ {S : Type 0} (told : S → Told) (kept : S → Kept) (names : S → Nam
         any-leaves : (old new : TxnSession S) (frame : Frame) (stop : Option StopCode)
             (result : Result (List Frame) SessionInnerError)
             → by_stop stop (RefusesWith old new faults.IllegalState result)
-            (HearsKind told gives opens old new frame (txn frame) result) → Left old new frame result
+            (HearsKind told gives opens old new frame (txn frame) result)
+            → Left old new frame result
         any-leaves old new frame (Some code) result hears =
             stopped-leaves old new frame result hears
         any-leaves old new frame None result hears = kind-leaves old new frame result hears

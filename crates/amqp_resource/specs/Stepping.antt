@@ -1,8 +1,12 @@
 -- What a step leaves of a session, by its answer.
-use Rattle.std.specs.Prelude.{ℕ, ◌≡◌, ◌≤◌, Bool, Option, Some, None, Result, Err, List, [], ◌∷◌, ◌++◌, true, IfSome, IfOk, IfErr, OnErr}
+use Rattle.std.specs.Prelude.{ℕ, ◌≡◌, ◌≤◌, Bool, Option, Some, None, Result, Ok, Err, List, [], ◌∷◌, ◌++◌, true, IfSome, IfOk, IfErr, OnErr}
 use Rattle.amqp_txn_types.specs.declared.id.TransactionId.{TransactionId}
+use Rattle.amqp_txn_types.specs.declared.items.NoMemory.{NoMemory}
+use Rattle.amqp_txn_types.specs.declared.performatives.Frame.{Frame}
 use Rattle.amqp_txn_types.specs.Counts.{Rose}
 use Rattle.amqp_layer.specs.declared.inner_error.SessionInnerError.TheVariants as faults
+use Rattle.amqp_layer.specs.declared.verdict.Verdict.{Verdict}
+use Rattle.amqp_layer.specs.declared.verdict.Verdict.TheVariants as verdicts
 use Rattle.amqp_layer.specs.Told.{Told}
 use Rattle.amqp_ids.specs.Drawn.{DrawnIds}
 use Rattle.amqp_ids.specs.Ids.{Drew}
@@ -16,7 +20,7 @@ use Rattle.amqp_record.specs.Hands.{hands}
 use Rattle.amqp_resource.specs.declared.held.Held.{Held}
 use Rattle.amqp_resource.specs.declared.session.TxnSession.{TxnSession}
 use Rattle.amqp_resource.specs.Held.{Stands}
-use Rattle.amqp_resource.specs.Steps.{entry_of, ended_by, takes_memory, AnswersEnd, IfEnded, IfRefused, IfUnknown, IsControlAttach, IsFirstStop, MayFault, OnAttachRefused, OnNoMemory, OnNoCall, OnVeto, OpenedBy, RefusedAdds, RefusedBy, StopsSurely, TookFirst, TookHands, UnderDead, VetoedBy}
+use Rattle.amqp_resource.specs.Steps.{entry_of, ended_by, takes_memory, AnswersEnd, IfEnded, IfRefused, IfUnknown, IsControlAttach, IsFirstStop, MayFault, OnAttachRefused, OnNoMemory, OnNoCall, OnVeto, OpenedBy, RefusedAdds, RefusedBy, StopsSurely, TookFirst, TookHands, UnderDead, VetoedBy, step_hands}
 use Rattle.amqp_resource.specs.Complete.{InOrder, Completed}
 use Rattle.amqp_resource.specs.Keeping.{AnswerKeeps}
 use Rattle.amqp_resource.specs.Views.{view_of_record}
@@ -56,10 +60,12 @@ pub record StepRecords (told now : Told) (ids : ℕ → TransactionId) (new : He
   -- wants memory.
   pub complete : (n : List TransactionId) → InOrder told now ids r s n → Completed result
 
--- the clauses of a step, each by its name: on a session over a layer that tells this, and is sure or
--- not, with a source that gives these ids
-pub record StepSays {S G : Type 0} (told : S → Told) (sure : Bool) (next : G → ℕ → TransactionId)
-    (starts : G → Option (ℕ → TransactionId)) (old new : TxnSession S) (before after : G) (s : Step)
+-- the clauses of a step, each by its name: on a session over a layer that tells this, is sure or
+-- not, and reviews so, with a source that gives these ids
+pub record StepSays {S G : Type 0} (told : S → Told) (sure : Bool)
+    (reviews : S → S → List Frame → Result Verdict NoMemory → Type 0)
+    (next : G → ℕ → TransactionId) (starts : G → Option (ℕ → TransactionId))
+    (old new : TxnSession S) (before after : G) (s : Step)
     (result : Result (DrawnIds × Reply) StepError) : Type 0 where
   -- A stopped session answers with the code of its first stop, and nothing changes.
   pub stopped : IfSome (stop_of old) (λ code.
@@ -77,6 +83,10 @@ pub record StepSays {S G : Type 0} (told : S → Told) (sure : Bool) (next : G �
   pub veto_rose : OnVeto result
       (Rose (told_of told old).reviews.vetoes (told_of told new).reviews.vetoes)
   pub counted : (told_of told old).reviews.vetoes ≤ (told_of told new).reviews.vetoes
+  -- A vetoed commit leaves below what the review of what the step hands left: no call comes after
+  -- it.
+  pub reviewed : OnVeto result
+      (reviews (below_of old) (below_of new) (step_hands (view_of old) s) (Ok verdicts.Veto))
   -- An end is answered with its own value; a copy of its error may want memory.
   pub ended : stop_of old ≡ None → AnswersEnd (ended_by s) result
   pub ended_only : IfEnded result (λ reason. ended_by s ≡ Some reason)

@@ -249,14 +249,16 @@ asks_rollback _ = false
 
 -- the replies that come without a call below: to the end of a link, to a message or an end on a
 -- link that isn't open, to a payload that closes its link, to a declare, to a message that is
--- rejected other than by a veto, and to a rollback that is accepted
+-- rejected other than by a veto, to a rollback that is accepted, and to a commit that is accepted
+-- without an answer, as one of no frames
 abbrev pub calls_nothing : Step → Reply → Bool
 calls_nothing s replies.LinkEnded = true
 calls_nothing s replies.NoLink = true
 calls_nothing s (replies.LinkClosed error) = true
 calls_nothing s (replies.Declared id) = true
 calls_nothing s (replies.Rejected error text) = not (is_veto (replies.Rejected error text))
-calls_nothing s (replies.Accepted echoes) = asks_rollback s
+calls_nothing s (replies.Accepted []) = true
+calls_nothing s (replies.Accepted (echo ∷ echoes)) = asks_rollback s
 calls_nothing s _ = false
 
 -- an answer without a call below: such a reply, an id that isn't live, an end, a stop before, or

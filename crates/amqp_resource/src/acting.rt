@@ -31,7 +31,7 @@ fn control_step<S: LayerBelow, G: IdSource, L: Ledger>(
     ids: &mut G,
     looks: &mut Looks<L>,
 ) -> Result<(Drawn, Reply), StepError>
-    ensures leaves { StepLeaves S.told S.sure held.old held.new below.old below.new
+    ensures leaves { StepLeaves S.told S.sure S.review_gives held.old held.new below.old below.new
         (steps.Control link payload.now) result }
     ensures draws { StepDraws G.next G.start ids.old ids.new result }
     ensures pays { Pays held.old.work held.new.work looks.old looks.new
@@ -68,7 +68,7 @@ fn act<S: LayerBelow, G: IdSource, L: Ledger>(
     looks: &mut Looks<L>,
 ) -> Result<(Drawn, Reply), StepError>
     requires room { held.old.opened < 2 ^ 64 - 1 }
-    ensures leaves { StepLeaves S.told S.sure held.old held.new below.old below.new
+    ensures leaves { StepLeaves S.told S.sure S.review_gives held.old held.new below.old below.new
         step.now result }
     ensures draws { StepDraws G.next G.start ids.old ids.new result }
     ensures pays { Pays held.old.work held.new.work looks.old looks.new
@@ -96,7 +96,7 @@ pub fn take_step<S: LayerBelow, G: IdSource, L: Ledger>(
     looks: &mut Looks<L>,
 ) -> Result<(Drawn, Reply), StepError>
     requires room { held.old.opened < 2 ^ 64 - 1 }
-    ensures leaves { StepLeaves S.told S.sure held.old held.new below.old below.new
+    ensures leaves { StepLeaves S.told S.sure S.review_gives held.old held.new below.old below.new
         step.now result }
     ensures draws { StepDraws G.next G.start ids.old ids.new result }
     ensures pays { Pays held.old.work held.new.work looks.old looks.new

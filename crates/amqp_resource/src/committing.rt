@@ -1,6 +1,6 @@
 //! A commit asks the layer below about its frames, and then hands them one after another.
 
-ghost use Rattle.std.specs.Prelude.{◌≡◌, ◌≤◌, ◌+◌, [], false, true, length, map, vec_capacity};
+ghost use Rattle.std.specs.Prelude.{◌≡◌, ◌≤◌, ◌+◌, [], false, true, Ok, length, map, vec_capacity};
 ghost use Rattle.std.specs.List.{list_all};
 ghost use Rattle.std.specs.Option.{option_map};
 ghost use Rattle.amqp_txn_types.specs.declared.id.TransactionId.{TransactionId as Id};
@@ -8,7 +8,8 @@ ghost use Rattle.amqp_txn_types.specs.Frames.{stripped};
 ghost use Rattle.amqp_txn_types.specs.Ids.{same_id};
 ghost use Rattle.amqp_arrivals.specs.Live.{frame_count, frames_kept, home_of, kept, owed};
 ghost use Rattle.amqp_layer.specs.Reviewing.{is_bare};
-ghost use Rattle.amqp_resource.specs.Committing.{HandsAll, HandsSurely};
+ghost use Rattle.amqp_layer.specs.declared.verdict.Verdict.TheVariants as verdicts;
+ghost use Rattle.amqp_resource.specs.Committing.{HandsAll, HandsSurely, OnVetoed};
 
 use crate::outcomes::refused_after;
 use amqp_arrivals::{LiveWork, Looks};
@@ -57,6 +58,7 @@ fn hand_all<S: LayerBelow>(
     requires room { length frames ≤ vec_capacity echoes }
     ensures hands { HandsAll (S.told below.old) (S.told below.new) frames result }
     ensures sure { HandsSurely S.sure result }
+    ensures unvetoed { OnVetoed result ⊥ }
 {
     let mut left = frames.into_vec().into_iter();
     while let Some(frame) = left.next() {
@@ -81,6 +83,8 @@ pub fn hand_reviewed<S: LayerBelow>(
     requires room { length frames ≤ vec_capacity echoes }
     ensures hands { HandsAll (S.told below.old) (S.told below.new) frames result }
     ensures sure { HandsSurely S.sure result }
+    ensures vetoed { OnVetoed result
+        (S.review_gives below.old below.new frames (Ok verdicts.Veto)) }
 {
     match below.review(&frames) {
         Ok(Verdict::Accept) => hand_all(below, frames, echoes),

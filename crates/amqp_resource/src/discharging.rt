@@ -10,6 +10,7 @@ ghost use Rattle.amqp_record.specs.declared.reply.Reply.TheVariants as replies;
 ghost use Rattle.amqp_record.specs.declared.reply.RejectText.TheVariants as texts;
 ghost use Rattle.amqp_resource.specs.Held.{is_in};
 ghost use Rattle.amqp_arrivals.specs.Live.{frame_count, frames_kept, home_of, kept, owed};
+ghost use Rattle.amqp_resource.specs.Calls.{CommitCalls};
 ghost use Rattle.amqp_resource.specs.Committing.{HandsAll, HandsSurely};
 ghost use Rattle.amqp_resource.specs.Transacting.{CommittedIn, CommittedWith, Ended, RolledBackIn, step_error_of};
 ghost use Rattle.amqp_resource.specs.Keeping.{Fits};
@@ -61,6 +62,8 @@ fn commit_frames<S: LayerBelow, L: Ledger>(
     ensures hands { HandsAll (S.told below.old) (S.told below.new)
         (map stripped (frames_kept (kept held.old.work id))) result }
     ensures surely { HandsSurely S.sure result }
+    ensures calls { CommitCalls S.review_gives below.old below.new
+        (frames_kept (kept held.old.work id)) result }
     ensures pays { Pays held.old.work held.new.work looks.old looks.new
         (length (frames_kept (kept held.old.work id))) 0 }
 {
@@ -83,6 +86,8 @@ fn commit_live<S: LayerBelow, L: Ledger>(
     ensures answer { CommittedWith held.old held.new (S.told below.old) (S.told below.new) id
         (frames_kept (kept held.old.work id)) (below.new ≡ below.old) result }
     ensures surely { HandsSurely S.sure result }
+    ensures calls { CommitCalls S.review_gives below.old below.new
+        (frames_kept (kept held.old.work id)) result }
     ensures fixed { (S.told below.new).fixed ≡ (S.told below.old).fixed }
     ensures later { (S.told below.old).refusals ≤ (S.told below.new).refusals }
     ensures counted { (S.told below.old).reviews.vetoes ≤ (S.told below.new).reviews.vetoes }
@@ -125,7 +130,7 @@ pub fn discharge_step<S: LayerBelow, L: Ledger>(
 ) -> Result<(Drawn, Reply), StepError>
     requires message { message_of payload.now ≡ Some (messages.Discharge discharge) }
     requires opened { is_in held.old.links.entries link ≡ true }
-    ensures leaves { StepLeaves S.told S.sure held.old held.new below.old below.new
+    ensures leaves { StepLeaves S.told S.sure S.review_gives held.old held.new below.old below.new
         (steps.Control link payload.now) result }
     ensures draws { IfOk result (λ out. out.0 ≡ nothing_drawn) }
     ensures pays { Pays held.old.work held.new.work looks.old looks.new
@@ -156,6 +161,8 @@ fn commit_id<S: LayerBelow, L: Ledger>(
     ensures answer { CommittedIn held.old held.new (S.told below.old) (S.told below.new) id
         (below.new ≡ below.old) result }
     ensures surely { HandsSurely S.sure result }
+    ensures calls { CommitCalls S.review_gives below.old below.new
+        (frames_kept (kept held.old.work id)) result }
     ensures fixed { (S.told below.new).fixed ≡ (S.told below.old).fixed }
 {
     let Some(home) = held.work.home(&id) else {
@@ -179,6 +186,8 @@ pub fn commit_kept<S: LayerBelow, L: Ledger>(
     ensures answer { CommittedIn held.old held.new (S.told below.old) (S.told below.new) id
         (below.new ≡ below.old) result }
     ensures surely { HandsSurely S.sure result }
+    ensures calls { CommitCalls S.review_gives below.old below.new
+        (frames_kept (kept held.old.work id)) result }
     ensures fits { Fits held.old → Fits held.new }
     ensures fixed { (S.told below.new).fixed ≡ (S.told below.old).fixed }
     ensures few { owed held.new.work ≤ frame_count held.new.work }

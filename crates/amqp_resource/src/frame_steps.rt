@@ -34,7 +34,7 @@ fn plain_step<S: LayerBelow>(
     frame: &Frame,
 ) -> Result<(Drawn, Reply), StepError>
     requires { is_plain_frame frame.now ≡ true }
-    ensures leaves { StepLeaves S.told S.sure held.now held.now below.old below.new
+    ensures leaves { StepLeaves S.told S.sure S.review_gives held.now held.now below.old below.new
         (steps.Frame frame.now) result }
     ensures draws { IfOk result (λ out. out.0 ≡ nothing_drawn) }
 {
@@ -141,7 +141,7 @@ fn post_step<S: LayerBelow>(
     id: TransactionId,
 ) -> Result<(Drawn, Reply), StepError>
     requires { txn frame.now ≡ Some id }
-    ensures leaves { StepLeaves S.told S.sure held.old held.new below.old below.new
+    ensures leaves { StepLeaves S.told S.sure S.review_gives held.old held.new below.old below.new
         (steps.Frame frame.now) result }
     ensures draws { IfOk result (λ out. out.0 ≡ nothing_drawn) }
     ensures counts { Adds held.old.work held.new.work 1 }
@@ -206,7 +206,7 @@ fn attach_step<S: LayerBelow>(
 ) -> Result<(Drawn, Reply), StepError>
     requires coordinator { attaches_coordinator attach.now ≡ true }
     requires room { held.old.opened < 2 ^ 64 - 1 }
-    ensures leaves { StepLeaves S.told S.sure held.old held.new below.old below.new
+    ensures leaves { StepLeaves S.told S.sure S.review_gives held.old held.new below.old below.new
         (steps.Frame (frames.Attach attach.now)) result }
     ensures draws { IfOk result (λ out. out.0 ≡ nothing_drawn) }
     ensures counts { Adds held.old.work held.new.work 0 }
@@ -247,7 +247,7 @@ pub fn frame_step<S: LayerBelow>(
     frame: &Frame,
 ) -> Result<(Drawn, Reply), StepError>
     requires room { held.old.opened < 2 ^ 64 - 1 }
-    ensures leaves { StepLeaves S.told S.sure held.old held.new below.old below.new
+    ensures leaves { StepLeaves S.told S.sure S.review_gives held.old held.new below.old below.new
         (steps.Frame frame.now) result }
     ensures draws { IfOk result (λ out. out.0 ≡ nothing_drawn) }
     ensures counts { Adds held.old.work held.new.work (frames_added (steps.Frame frame.now)) }

@@ -4,8 +4,8 @@
 //! A [`TxnSession`] takes steps: frames, control messages, ends. A frame under a live transaction
 //! is kept until the transaction is discharged: a rollback lets it go, and a commit hands it to the
 //! layer below, in order and without its transactional state. Before that the layer is asked to
-//! review the frames of the commit: where it vetoes them they are let go, and the commit is answered
-//! with `Rollback`. A plain frame goes below at once.
+//! review the frames of the commit: where it vetoes them they are let go, and the commit is
+//! answered with `Rollback`. A plain frame goes below at once.
 //!
 //! ```text
 //! let mut ids = ListIds::new(alloc, &[id])?;

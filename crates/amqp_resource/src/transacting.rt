@@ -70,7 +70,7 @@ impl<S: LayerBelow> HandleDeclare for TxnSession<S> {
 impl<S: LayerBelow> HandleDischarge for TxnSession<S> {
     ghost use Rattle.amqp_resource.specs.Calls.{CommitGives, RollbackGives};
 
-    ghost commit_gives = { CommitGives S.told S.sure };
+    ghost commit_gives = { CommitGives S.told S.sure S.review_gives };
 
     ghost rollback_gives = { RollbackGives };
 

@@ -1,16 +1,19 @@
-//! The calls of a transactional session over a listener, without an engine: each succeeds where
-//! there is memory.
+//! The calls of a transactional session over a listener, without an engine, and over one that
+//! accepts links at once: each succeeds where there is memory.
 
 use crate::test_values::{Listening, transfer};
-use amqp_acceptors::ControlLinkAcceptor;
+use amqp_accepting::AcceptingListener;
+use amqp_acceptors::{ControlLinkAcceptor, LinkAcceptor};
 use amqp_ids::CountIds;
 use amqp_layer::{LayerBelow, SessionInnerError, on_incoming_frame};
 use amqp_listener::ListenerSession;
 use amqp_resource::{HandleControlLink, TxnSession, numbered_id};
 use amqp_session_builder::Builder;
 use amqp_session_test_values::relay;
-use amqp_sessions::{HandleDeclare, NameState, Session};
-use amqp_test_values::{control_attach, detach, disposition, flow, is_done, sender_attach, under};
+use amqp_sessions::{HandleDeclare, NameState, PlainSession, Session};
+use amqp_test_values::{
+    begin, control_attach, detach, disposition, flow, is_done, sender_attach, under,
+};
 use amqp_txn_types::{
     ConnectionStopReason, End, Frame, Frames, Handle, IncomingChannel, InputHandle, LinkFlow,
     OutgoingChannel, OutputHandle, Role, SessionState, SessionStopReason, Text,
@@ -22,6 +25,14 @@ fn mapped(alloc: Global) -> Listening {
     let session = Builder::new().into_session(alloc, OutgoingChannel(4), SessionState::Mapped);
     let control = ControlLinkAcceptor::default();
     TxnSession::new(alloc, ListenerSession::new(alloc, session, control))
+}
+
+/// A session in this state over a listener that accepts links at once.
+fn at_once(alloc: Global, state: SessionState) -> TxnSession<AcceptingListener<PlainSession>> {
+    let session = Builder::new().into_session(alloc, OutgoingChannel(4), state);
+    let listener = ListenerSession::new(alloc, session, ControlLinkAcceptor::default());
+    let accepting = AcceptingListener::new(alloc, listener, LinkAcceptor::new());
+    TxnSession::new(alloc, accepting)
 }
 
 /// Whether the session allocates an id.
@@ -130,7 +141,7 @@ fn allocates<S: Session>(alloc: Global, session: &mut S) -> bool {
 #[test]
 fn links_are_allocated_and_freed(rt: HostRuntime) {
     let alloc = rt.alloc();
-    let mut session = mapped(alloc);
+    let mut session = at_once(alloc, SessionState::Mapped);
     let found = allocates(alloc, &mut session);
     drop(session);
     assert!(rt; found);
@@ -201,7 +212,7 @@ fn sends<S: Session>(alloc: Global, session: &mut S) -> bool {
 #[test]
 fn frames_of_a_link_are_sent(rt: HostRuntime) {
     let alloc = rt.alloc();
-    let mut session = mapped(alloc);
+    let mut session = at_once(alloc, SessionState::Mapped);
     let sent = sends(alloc, &mut session);
     drop(session);
     assert!(rt; sent);
@@ -232,8 +243,36 @@ fn stops<S: Session>(session: &mut S) -> bool {
 
 #[test]
 fn a_session_ends(rt: HostRuntime) {
-    let mut session = mapped(rt.alloc());
+    let mut session = at_once(rt.alloc(), SessionState::Mapped);
     let stopped = stops(&mut session);
     drop(session);
     assert!(rt; stopped);
+}
+
+/// Whether the session begins, and takes the peer's begin.
+fn begins<S: Session>(session: &mut S) -> bool {
+    let sent = is_done(session.send_begin());
+    let taken = is_done(session.on_incoming_begin(IncomingChannel(3), begin(7)));
+    sent && taken && session.local_state() == SessionState::Mapped
+}
+
+#[test]
+fn a_session_begins(rt: HostRuntime) {
+    let mut session = at_once(rt.alloc(), SessionState::Unmapped);
+    let begun = begins(&mut session);
+    drop(session);
+    assert!(rt; begun);
+}
+
+#[test]
+fn a_control_link_is_attached_below(rt: HostRuntime) {
+    let alloc = rt.alloc();
+    let mut session = at_once(alloc, SessionState::Mapped);
+    let attach = control_attach(Text::new(alloc), 0);
+    let given = count_given(session.on_control_attach(&attach));
+    drop(attach);
+    let opened = session.links_opened();
+    drop(session);
+    assert_eq!(rt; given, 2);
+    assert_eq!(rt; opened, 0);
 }

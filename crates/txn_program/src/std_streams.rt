@@ -18,6 +18,8 @@ use std::io::{ErrorKind, Read, Write};
 pub struct StdSource<R> {
     reader: R,
     faults: u64,
+    /// Where a read puts its octets first, made once.
+    chunk: [u8; 4096],
 }
 
 impl<R: Read> StdSource<R> {
@@ -26,7 +28,11 @@ impl<R: Read> StdSource<R> {
         ensures reader { reader_of result ≡ reader }
         ensures faults { source_faults_of result ≡ 0 }
     {
-        StdSource { reader, faults: 0 }
+        StdSource {
+            reader,
+            faults: 0,
+            chunk: [0; 4096],
+        }
     }
 }
 
@@ -43,12 +49,11 @@ impl<R: Read> ByteSource for StdSource<R> {
         ensures reader { ReadConsumes (R.remaining (reader_of self.old))
             (R.remaining (reader_of self.new)) result buf.new }
     {
-        let mut chunk = [0; 4096];
-        let room = buf.len().min(chunk.len());
-        let Ok(count) = read_once(&mut self.reader, &mut chunk[..room]) else {
+        let room = buf.len().min(self.chunk.len());
+        let Ok(count) = read_once(&mut self.reader, &mut self.chunk[..room]) else {
             return refuse(&mut self.faults, Failed);
         };
-        buf[..count].copy_from_slice(&chunk[..count]);
+        buf[..count].copy_from_slice(&self.chunk[..count]);
         Ok(count)
     }
 }

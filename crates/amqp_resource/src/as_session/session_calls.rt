@@ -86,7 +86,8 @@ impl<S: Session> Session for TxnSession<S> {
     ghost check_leaves = { λ old new disposition answer gives.
         S.check_leaves (below_of old) (below_of new) disposition answer gives.gave };
 
-    ghost review_leaves = { review-leaves S.told S.kept S.names S.accepts_at_once S.review_gives S.review_leaves };
+    ghost review_leaves = { review-leaves S.told S.kept S.names S.accepts_at_once S.review_gives
+        S.review_leaves };
 
     ghost window_leaves = { λ old new flow gives.
         S.window_leaves (below_of old) (below_of new) flow gives.gave };

@@ -1,10 +1,12 @@
-use Rattle.std.proofs.Common.{arith, refl, subst, ◌∙◌, ◌≡◌, length, map, List, ap}
+use Rattle.std.proofs.Common.{arith, refl, subst, ◌∙◌, ◌≡◌, length, map, List, Ok, ap}
 use Rattle.std.proofs.lemmas.List.{length-map}
 use Rattle.amqp_txn_types.specs.Frames.{stripped}
 use Rattle.amqp_txn_types.specs.declared.performatives.Frame.{Frame}
 use Rattle.amqp_arrivals.specs.Live.{frames_kept, kept}
+use Rattle.amqp_layer.specs.declared.verdict.Verdict.TheVariants as verdicts
 use Rattle.amqp_resource.specs.declared.held.Held.{Held}
-use Rattle.amqp_resource.specs.Committing.{HandsAll}
+use Rattle.amqp_resource.specs.Committing.{HandsAll, OnVetoed}
+use Rattle.amqp_resource.proofs.Handing.{some-echoes}
 use Rattle.amqp_resource.proofs.Kept.{ended_handed}
 use Rattle.amqp_resource.proofs.discharging.commit_frames.Goals as goal
 
@@ -30,6 +32,14 @@ returns-clause-ended g c =
 pub returns-clause-hands : goal.returns-clause-hands
 returns-clause-hands g c =
     subst (λ (fs : List Frame). HandsAll (g.S.Tells.told c.args.below.now) (g.S.Tells.told c.hand_reviewed.new.below) fs c.hand_reviewed.result) c.strip_all-frames.ensures.frames c.hand_reviewed.ensures.hands
+
+pub returns-clause-calls : goal.returns-clause-calls
+returns-clause-calls g c = record {
+  vetoed = subst (λ (fs : List Frame). OnVetoed c.hand_reviewed.result (g.S.LayerBelow.review_gives c.args.below.now c.hand_reviewed.new.below fs (Ok verdicts.Veto))) c.strip_all-frames.ensures.frames c.hand_reviewed.ensures.vetoed;
+  idle = some-echoes (g.S.Tells.told c.args.below.now) (g.S.Tells.told c.hand_reviewed.new.below) (frames_kept (kept c.args.held.now.work c.args.id)) c.hand_reviewed.result _
+      (subst (λ (fs : List Frame). HandsAll (g.S.Tells.told c.args.below.now) (g.S.Tells.told c.hand_reviewed.new.below) fs c.hand_reviewed.result) c.strip_all-frames.ensures.frames c.hand_reviewed.ensures.hands)
+      c.requires.some;
+}
 
 pub returns-clause-pays : goal.returns-clause-pays
 returns-clause-pays g c =

@@ -1,4 +1,4 @@
-use Rattle.std.proofs.Common.{◌≡◌, arith, sym, subst, map, List, [], Ok}
+use Rattle.std.proofs.Common.{◌≡◌, arith, refl, sym, subst, map, List, [], Ok}
 use Rattle.amqp_txn_types.specs.Frames.{stripped}
 use Rattle.amqp_txn_types.specs.declared.performatives.Frame.{Frame}
 use Rattle.amqp_arrivals.specs.Live.{frames_kept, kept}
@@ -14,6 +14,9 @@ returns-then-count-eq0-clause-answer g c =
       record { live = ended.rest; links = ended.links; tied = ended.tied; opened = ended.opened },
       rw c.new.ensures (subst (λ (fs : List Frame). HandsAll told told (map stripped fs) (Ok (Ok []))) (sym none) (handed-nothing told)),
     )
+
+pub returns-then-count-eq0-clause-calls : goal.returns-then-count-eq0-clause-calls
+returns-then-count-eq0-clause-calls g c = rw c.new.ensures (record { vetoed = tt; idle = refl })
 
 pub returns-clause-answer : goal.returns-clause-answer
 returns-clause-answer g c =
