@@ -3,7 +3,7 @@
 # Words: a file of step lines, and the words of the program, as in
 #   scripts/want_of_memory.sh examples/one-commit.steps run 00000000000000000000000000000001
 # With no words, all examples are run so, a line each, and then commits of which each frame in turn is
-# refused or starved below, and an input that is too long.
+# refused or starved below, an input that is too long, and a folder as input.
 # An allocation is a call of malloc or of realloc. A run may end as the one in which none fails; with
 # status 6 and nothing written; with status 8 and the stop below-no-memory; or with a report in which an
 # attach is refused as below-no-memory; make, which writes no report, with its summary and status 8, or
@@ -101,4 +101,6 @@ done
 head -c 1048577 /dev/zero >"$work/long"
 printf '%s: ' "an input that is too long"
 try_all "$work/long" run 00000000000000000000000000000001 || failed=1
+printf '%s: ' "a folder as input"
+try_all "$top" run 00000000000000000000000000000001 || failed=1
 exit "$failed"
