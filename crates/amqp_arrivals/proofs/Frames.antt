@@ -12,7 +12,7 @@ use Rattle.amqp_txn_types.specs.Ids.{same_id}
 use Rattle.amqp_txn_types.specs.Works.{frame_of_work}
 use Rattle.amqp_arrivals.specs.declared.cell.Cell.{Cell}
 use Rattle.amqp_arrivals.specs.declared.cell.Cell.TheVariants as cells
-use Rattle.amqp_arrivals.specs.Cells.{Log, closed_up, dead_count, frame_under, frames_in, frames_of, is_dead_cell, is_live_cell, live_count, places, places_from, without_work, work_at, work_in}
+use Rattle.amqp_arrivals.specs.Cells.{Log, closed_up, frame_under, frames_in, is_dead_cell, is_live_cell, live_count, places, places_from, work_at, work_in}
 use Rattle.amqp_arrivals.proofs.Placed.{dead-taken, work-below}
 use Rattle.amqp_arrivals.proofs.Closing.{live_alone}
 use Rattle.std.proofs.Math.ListN.{length-set}

@@ -10,11 +10,13 @@ use Rattle.amqp_txn_types.specs.Works.{frame_of_work}
 use Rattle.amqp_arrivals.specs.declared.cell.Cell.{Cell}
 use Rattle.amqp_arrivals.specs.declared.cell.Cell.TheVariants as cells
 
--- the log: its cells, in the order in which they came, the ids that are opened, and how many more
--- can be opened without taking memory
+-- the log: its cells, in the order in which they came, the ids that are opened, the same with the
+-- link that each was declared on, if it was on one, and how many more can be opened without taking
+-- memory
 pub record Log : Type 0 where
   pub cells : List Cell
   pub opened : List TransactionId
+  pub homes : List (TransactionId × Option ℕ)
   pub room : ℕ
 
 -- the cells of the log, and how many more fit without taking memory
@@ -98,6 +100,7 @@ dead_count log = count_by is_dead_cell log.cells
 pub record SameLog (old new : Log) : Type 0 where
   pub cells : new.cells ≡ old.cells
   pub opened : new.opened ≡ old.opened
+  pub homes : new.homes ≡ old.homes
 
 -- the log with one more live cell, at its end
 abbrev pub with_arrival : Log → TransactionId → TxnWorkFrame → Log
@@ -136,4 +139,5 @@ after_taken (Some work) frames = frame_of_work work ∷ frames
 pub record OthersStay (id : TransactionId) (old new : Log) : Type 0 where
   pub frames : (t : TransactionId) → same_id t id ≡ false → frames_of new t ≡ frames_of old t
   pub opened : new.opened ≡ old.opened
+  pub homes : new.homes ≡ old.homes
   pub room : new.room ≡ old.room

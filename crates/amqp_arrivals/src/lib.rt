@@ -33,6 +33,7 @@ mod index;
 mod live_work;
 mod log;
 mod looks;
+mod opened;
 
 pub use answering::presumptive;
 pub use cell::Cell;

@@ -11,7 +11,6 @@ ghost use Rattle.amqp_arrivals.specs.Live.{HasPlace, KeepsPlaces, SameKept, Uses
 use crate::log::ArrivalLog;
 use crate::looks::Looks;
 use amqp_txn_types::{NoMemory, TransactionId, TxnWorkFrame};
-use indexmap::IndexMap;
 use std::alloc::Global;
 use std::marker::Model;
 use std::sync::ledger::Ledger;
@@ -21,22 +20,20 @@ use std::sync::ledger::Ledger;
 #[derive(Drop)]
 pub struct LiveWork {
     log: ArrivalLog,
-    homes: IndexMap<TransactionId, Option<u64>>,
 }
 
 impl Model for LiveWork {
-    ghost use Rattle.std.specs.HashMap.{spare};
     ghost use Rattle.amqp_arrivals.specs.Live.{Agrees, Live};
 
     ghost Value = { Live };
 
     ghost view = { λ work. record {
-      homes = work.homes.entries;
+      homes = work.log.homes;
       log = work.log;
-      room = spare work.homes;
+      room = work.log.room;
     } };
 
-    ghost invariant = { λ work. Agrees work.homes.entries work.log };
+    ghost invariant = { λ work. Agrees work.log.homes work.log };
 }
 
 impl LiveWork {
@@ -49,7 +46,6 @@ impl LiveWork {
     {
         LiveWork {
             log: ArrivalLog::new(alloc),
-            homes: IndexMap::new(alloc),
         }
     }
 
@@ -57,14 +53,14 @@ impl LiveWork {
     pub fn len(&self) -> usize
         ensures { result ≡ length (live_ids self.now) }
     {
-        self.homes.len()
+        self.log.len()
     }
 
     /// Whether no id is live.
     pub fn is_empty(&self) -> bool
         ensures { IsTrue result ↔ ((t : Id) → kept self.now t ≡ None) }
     {
-        self.homes.is_empty()
+        self.log.is_empty()
     }
 
     /// How many frames are kept for the live ids, all together.
@@ -86,14 +82,14 @@ impl LiveWork {
     pub fn is_live(&self, txn_id: &TransactionId) -> bool
         ensures { result ≡ is_some (kept self.now txn_id.now) }
     {
-        self.homes.contains_key(txn_id)
+        self.log.is_opened(txn_id)
     }
 
     /// The link that a live id was declared on, if it was on one; `None` where it isn't live.
     pub fn home(&self, txn_id: &TransactionId) -> Option<Option<u64>>
         ensures { result ≡ option_map home_of (kept self.now txn_id.now) }
     {
-        self.homes.get(txn_id).copied()
+        self.log.home(txn_id)
     }
 
     /// How many frames are kept for the id: none where it isn't live.
@@ -111,10 +107,7 @@ impl LiveWork {
         ensures stays { KeepsPlaces self.old self.new }
         ensures room { OnOk result (HasPlace self.new) }
     {
-        match self.homes.reserve(1) {
-            Ok(()) => self.log.make_room(),
-            Err(_) => Err(NoMemory),
-        }
+        self.log.make_room()
     }
 
     /// Adds an id without frames, for which there is room. It takes no memory.
@@ -132,10 +125,7 @@ impl LiveWork {
         ensures frames { frame_count self.new ≡ frame_count self.old }
         ensures room { UsesPlace self.old self.new }
     {
-        let Ok(_) = self.homes.insert(txn_id, home) else {
-            unreachable!()
-        };
-        let Ok(()) = self.log.open_id(txn_id) else {
+        let Ok(()) = self.log.open_on(txn_id, home) else {
             unreachable!()
         };
     }
@@ -146,6 +136,7 @@ impl LiveWork {
     /// # Requires
     ///
     /// The id is live.
+    #[inline(always)]
     pub fn keep(
         &mut self,
         txn_id: &TransactionId,
@@ -202,9 +193,7 @@ impl LiveWork {
         ensures frames { frame_count self.new ≡ frame_count self.old }
         ensures room { KeepsPlaces self.old self.new }
     {
-        if self.homes.swap_remove(txn_id).is_some() {
-            self.log.end(txn_id);
-        }
+        self.log.end(txn_id);
     }
 
     /// Lets all that is kept for the id go, and ends it: one look, and one dead cell more, for each

@@ -64,6 +64,7 @@ returns-in-Some-clause-others g c =
           ∙ others_stay t id took.work c.in-Some.place cs took.at s
           ∙ ap (λ (log : Log). frames_of log t) c.self.view_is;
       opened = c.pop_place.ensures.keys ∙ ap (λ (log : Log). log.opened) c.self.view_is;
+      homes = c.pop_place.ensures.homes ∙ ap (λ (log : Log). log.homes) c.self.view_is;
       room = c.pop_place.ensures.spare ∙ ap (λ (log : Log). log.room) c.self.view_is;
     }
 
@@ -88,6 +89,6 @@ returns-in-None-clause-none g c =
     let cs = c.self.inside.cells.cells in
     let none = ap (λ ns. slice_get ns 0) (sym (c.self.invariant.places id)) ∙ sym c.pop_place.ensures.first ∙ c.in-None.is in (
       sym (ap (λ (log : Log). frames_of log id) c.self.view_is) ∙ none_kept 0 id cs none,
-      (λ i. record { cells = cs; opened = c.pop_place.ensures.keys i; room = c.pop_place.ensures.spare i }) ∙ c.self.view_is,
+      (λ i. record { cells = cs; opened = c.pop_place.ensures.keys i; homes = c.pop_place.ensures.homes i; room = c.pop_place.ensures.spare i }) ∙ c.self.view_is,
       refl,
     )
