@@ -57,7 +57,7 @@ pub record FirstCell (t : TransactionId) (n p : ℕ) (cs : List Cell) : Type 0 w
   pub frames : frames_in cs t ≡ frame_of_work work ∷ frames_in (slice_set cs place cells.Dead) t
 
 -- a frame that isn't the id's
-unless_here : (b : Bool) (f : Frame) (fs : List Frame) → b ≡ false → cons_option (cond b (Some f) None) fs ≡ fs
+pub unless_here : (b : Bool) (f : Frame) (fs : List Frame) → b ≡ false → cons_option (cond b (Some f) None) fs ≡ fs
 unless_here true f fs e = cc
 unless_here false f fs e = refl
 

@@ -1,7 +1,7 @@
 -- The places that are kept for an id, after those of one id were changed.
-use Rattle.std.proofs.Common.{◌≡◌, ℕ, Bool, true, false, cond, Option, Some, None, List, [], ◌∷◌, ◌++◌, length, suc, refl, sym, ap, ◌∙◌}
+use Rattle.std.proofs.Common.{◌≡◌, ℕ, Bool, true, false, cond, Option, Some, None, List, [], ◌∷◌, ◌++◌, length, suc, ◌+◌, refl, sym, ap, subst, ◌∙◌}
 use Rattle.std.specs.Prelude.{is_some, if◌then◌else◌}
-use Rattle.std.specs.List.{list_any}
+use Rattle.std.specs.List.{IsDistinct, list_any}
 use Rattle.std.specs.Map.{lookup, keys_of, set_value}
 use Rattle.std.specs.Option.{option_map}
 use Rattle.std.proofs.lemmas.Map.Made.{is_some-lookup}
@@ -79,11 +79,16 @@ dropped : (b : Bool) (o : Option (Opened)) → places_in (cond b None o) ≡ con
 dropped true o = refl
 dropped false o = refl
 
+-- what is kept for the other ids is as it was, and nothing for this one
+pub kept_gone : (old new : Index) (id : TransactionId) → ((t : TransactionId) → lookup (same_id t) new ≡ cond (same_id id t) None (lookup (same_id t) old)) → (t : TransactionId) → places_kept new t ≡ cond (same_id t id) [] (places_kept old t)
+kept_gone old new id u t =
+    ap places_in (u t ∙ ap (λ b. cond b None (lookup (same_id t) old)) (nat_list_eq_equiv.symm id t))
+    ∙ dropped (same_id t id) (lookup (same_id t) old)
+
 -- an id without places is ended
 pub kept_ended : (old new : Index) (id : TransactionId) → places_kept old id ≡ [] → ((t : TransactionId) → lookup (same_id t) new ≡ cond (same_id id t) None (lookup (same_id t) old)) → (t : TransactionId) → places_kept new t ≡ places_kept old t
 kept_ended old new id none u t =
-    ap places_in (u t ∙ ap (λ b. cond b None (lookup (same_id t) old)) (nat_list_eq_equiv.symm id t))
-    ∙ dropped (same_id t id) (lookup (same_id t) old)
+    kept_gone old new id u t
     ∙ as_it_was (same_id t id) [] (places_kept old t) (λ s. sym (kept_same old t id s ∙ none))
 
 pub found_unless : {X : Type 0} (b : Bool) (o : Option X) → is_some (cond b None o) ≡ cond b false (is_some o)
@@ -150,3 +155,21 @@ homes_opened old new id w u t =
 pub length-keys : (homes : List (TransactionId × Option ℕ)) → length (keys_of homes) ≡ length homes
 length-keys [] = refl
 length-keys (h ∷ hs) = ap suc (length-keys hs)
+
+-- ---- an id out of the index
+
+pub record IndexEnds (id : TransactionId) (old new : Index) : Type 0 where
+  pub opened : (t : TransactionId) → list_any (same_id t) (keys_of new) ≡ cond (same_id id t) false (list_any (same_id t) (keys_of old))
+  pub homes : (t : TransactionId) → lookup (same_id t) (homes_in new) ≡ cond (same_id id t) None (lookup (same_id t) (homes_in old))
+  pub distinct : IsDistinct same_id (keys_of (homes_in new))
+  pub len : length (homes_in new) + (if list_any (same_id id) (keys_of old) then 1 else 0) ≡ length (homes_in old)
+
+pub index_ends : (id : TransactionId) (old new : Index) (value : Option Opened) → ((t : TransactionId) → lookup (same_id t) new ≡ cond (same_id id t) None (lookup (same_id t) old)) → IsDistinct same_id (keys_of new) → value ≡ lookup (same_id id) old → length new + (if is_some value then 1 else 0) ≡ length old → IndexEnds id old new
+index_ends id old new value u unique at len = record {
+  opened = opened_ended old new id u;
+  homes = homes_ended old new id u;
+  distinct = subst (IsDistinct same_id) (sym (keys-homes new)) unique;
+  len =
+      ap (λ n. n + (if list_any (same_id id) (keys_of old) then 1 else 0)) (length-homes new)
+      ∙ ap (λ b. length new + (if b then 1 else 0)) (sym (ap is_some at ∙ among old id)) ∙ len ∙ sym (length-homes old);
+}

@@ -1,6 +1,7 @@
 -- The index of the log: for each opened id, the places of its live cells.
-use Rattle.std.specs.Prelude.{ℕ, ◌≡◌, ◌==◌, cond, Option, Some, None, List, [], ◌∷◌, ◌++◌, count_by}
+use Rattle.std.specs.Prelude.{ℕ, ◌≡◌, ◌==◌, Bool, true, cond, Option, Some, None, Result, Ok, List, [], ◌∷◌, ◌++◌, count_by}
 use Rattle.std.specs.Map.{lookup}
+use Rattle.amqp_txn_types.specs.declared.items.NoMemory.{NoMemory}
 use Rattle.amqp_txn_types.specs.declared.id.TransactionId.{TransactionId}
 use Rattle.amqp_txn_types.specs.Ids.{same_id}
 use Rattle.amqp_arrivals.specs.declared.cell.Cell.{Cell}
@@ -24,6 +25,11 @@ places_kept index t = places_in (lookup (same_id t) index)
 abbrev pub homes_in : Index → List (TransactionId × Option ℕ)
 homes_in [] = []
 homes_in (e ∷ es) = (e.0, e.1.home) ∷ homes_in es
+
+-- with this place after the others, where it was added
+abbrev pub places_added : Result Bool NoMemory → ℕ → List ℕ → List ℕ
+places_added (Ok true) n ms = ms ++ n ∷ []
+places_added _ n ms = ms
 
 -- without the first of some places that is this one
 abbrev pub without_place : ℕ → List ℕ → List ℕ

@@ -1,11 +1,11 @@
 //! The index of the log: the opened ids, each with its link and the places of its live cells.
 
-ghost use Rattle.std.specs.Prelude.{◌≡◌, ◌==◌, ◌++◌, ◌∷◌, [], cond, true, OnOk, OnErr, length, position, slice_get, drop, is_some};
+ghost use Rattle.std.specs.Prelude.{◌≡◌, ◌==◌, ◌++◌, ◌∷◌, [], cond, IfOk, length, position, slice_get, is_some};
 ghost use Rattle.std.specs.Map.{lookup};
 ghost use Rattle.std.specs.HashMap.{keys, spare};
 ghost use Rattle.amqp_txn_types.specs.declared.id.TransactionId.{TransactionId as Id};
 ghost use Rattle.amqp_txn_types.specs.Ids.{same_id};
-ghost use Rattle.amqp_arrivals.specs.Index.{homes_in, moved_to, places_kept, without_place};
+ghost use Rattle.amqp_arrivals.specs.Index.{homes_in, moved_to, places_added, places_kept, without_place};
 
 use crate::opened::Opened;
 use amqp_txn_types::{NoMemory, TransactionId};
@@ -42,39 +42,24 @@ pub fn place_count(index: &Index, id: TransactionId) -> usize
     }
 }
 
-/// Adds a place to those of an opened id. For want of memory all places stay as they were.
+/// Adds a place to those of an id, and says whether the id is opened: for one that isn't, and for
+/// want of memory, all places stay as they were.
 #[inline(always)]
-pub fn add_place(index: &mut Index, id: TransactionId, place: usize) -> Result<(), NoMemory>
-    requires { is_some (lookup (same_id id) index.old.entries) ≡ true }
-    ensures ok { OnOk result ((t : Id) → places_kept index.new.entries t ≡ cond (same_id t id)
-        (places_kept index.old.entries t ++ place ∷ []) (places_kept index.old.entries t)) }
-    ensures err { OnErr result ((t : Id) → places_kept index.new.entries t
-        ≡ places_kept index.old.entries t) }
+pub fn add_place(index: &mut Index, id: TransactionId, place: usize) -> Result<bool, NoMemory>
+    ensures ok { IfOk result (λ opened. opened ≡ is_some (lookup (same_id id) index.old.entries)) }
+    ensures places { (t : Id) → places_kept index.new.entries t ≡ cond (same_id t id)
+        (places_added result place (places_kept index.old.entries t))
+        (places_kept index.old.entries t) }
     ensures keys { keys index.new ≡ keys index.old }
     ensures homes { homes_in index.new.entries ≡ homes_in index.old.entries }
     ensures spare { spare index.new ≡ spare index.old }
 {
     let Some(opened) = index.get_mut(&id) else {
-        unreachable!()
+        return Ok(false);
     };
     match opened.places.push_back(place) {
-        Ok(()) => Ok(()),
+        Ok(()) => Ok(true),
         Err(_) => Err(NoMemory),
-    }
-}
-
-/// Takes the first place of an id out of its places.
-pub fn pop_place(index: &mut Index, id: TransactionId) -> Option<usize>
-    ensures first { result ≡ slice_get (places_kept index.old.entries id) 0 }
-    ensures places { (t : Id) → places_kept index.new.entries t ≡ cond (same_id t id)
-        (drop 1 (places_kept index.old.entries t)) (places_kept index.old.entries t) }
-    ensures keys { keys index.new ≡ keys index.old }
-    ensures homes { homes_in index.new.entries ≡ homes_in index.old.entries }
-    ensures spare { spare index.new ≡ spare index.old }
-{
-    match index.get_mut(&id) {
-        Some(opened) => opened.places.pop_front(),
-        None => None,
     }
 }
 

@@ -1,21 +1,21 @@
 //! The log of the work under live transactions.
 
-ghost use Rattle.std.specs.Prelude.{◌≡◌, ◌≤◌, ◌<◌, ◌↔◌, IsTrue, ◌+◌, ◌++◌, ◌∷◌, [], Some, None, cond, true, false, is_some, length, slice_get, take, filter, count_by, IfErr, IfSome, IsOk, OnSome, MatchOption, OnOk, OnErr, if◌then◌else◌};
+ghost use Rattle.std.specs.Prelude.{◌≡◌, ◌≤◌, ◌<◌, ◌↔◌, IsTrue, ◌+◌, ◌++◌, ◌∷◌, [], Some, None, cond, true, false, is_some, length, slice_get, take, filter, count_by, map, vec_capacity, IfErr, IfOk, IfSome, IsOk, OnOk, OnErr, if◌then◌else◌};
 ghost use Rattle.std.specs.HashMap.{keys, spare};
 ghost use Rattle.std.specs.List.{IsDistinct};
 ghost use Rattle.std.specs.Map.{keys_of, lookup};
 ghost use Rattle.amqp_txn_types.specs.declared.id.TransactionId.{TransactionId as Id};
+ghost use Rattle.amqp_txn_types.specs.Frames.{stripped};
 ghost use Rattle.amqp_txn_types.specs.Ids.{same_id};
-ghost use Rattle.amqp_arrivals.specs.Cells.{SameLog, OthersStay, after_taken, closed_up, dead_count, first_work, frames_of, is_live_cell, is_opened, live_count, places, places_from, settled, with_arrival, without_first, without_work, work_at};
+ghost use Rattle.amqp_arrivals.specs.Cells.{EndsId, SameLog, arrived, closed_up, dead_count, frames_of, is_live_cell, is_opened, live_count, places, places_from, settled, with_arrival, without_work, work_at};
 ghost use Rattle.amqp_arrivals.specs.Index.{homes_in, places_kept};
 
 use crate::cell_list::CellList;
-use crate::index::{
-    Index, add_place, drop_place, first_place, home_of, move_place, place_count, pop_place,
-};
+use crate::index::{Index, add_place, drop_place, first_place, home_of, move_place, place_count};
 use crate::looks::Looks;
 use crate::opened::Opened;
-use amqp_txn_types::{NoMemory, TransactionId, TxnWorkFrame};
+use crate::taking::{drop_places, strip_places};
+use amqp_txn_types::{Frame, NoMemory, TransactionId, TxnWorkFrame};
 use indexmap::IndexMap;
 use std::alloc::Global;
 use std::collections::VecDeque;
@@ -231,7 +231,6 @@ impl ArrivalLog {
     /// # Requires
     ///
     /// The id is opened.
-    #[inline(always)]
     pub fn append(
         &mut self,
         txn_id: &TransactionId,
@@ -240,17 +239,42 @@ impl ArrivalLog {
         requires { is_opened self.old txn_id.now ≡ true }
         ensures ok { OnOk result (self.new ≡ with_arrival self.old txn_id.now work) }
         ensures err { IfErr result (λ unkept. (unkept.0 ≡ work) × (self.new ≡ self.old)) }
-        ensures homes { self.new.homes ≡ self.old.homes }
-        ensures room { self.new.room ≡ self.old.room }
     {
         let Ok(()) = self.cells.reserve() else {
             return Err((work, NoMemory));
         };
-        let Ok(()) = add_place(&mut self.index, *txn_id, self.cells.len()) else {
+        let Ok(true) = add_place(&mut self.index, *txn_id, self.cells.len()) else {
             return Err((work, NoMemory));
         };
         self.cells.push(*txn_id, work);
         Ok(())
+    }
+
+    /// Adds work under an id, as the last of the log, and says whether the id is opened: for one
+    /// that isn't, and for want of memory, nothing changes and the work is let go.
+    #[inline(always)]
+    pub fn keep(&mut self, txn_id: &TransactionId, work: TxnWorkFrame) -> Result<bool, NoMemory>
+        ensures opened { IfOk result (λ opened. opened ≡ is_opened self.old txn_id.now) }
+        ensures log { self.new ≡ arrived result self.old txn_id.now work }
+    {
+        let Ok(()) = self.cells.reserve() else {
+            drop(work);
+            return Err(NoMemory);
+        };
+        match add_place(&mut self.index, *txn_id, self.cells.len()) {
+            Ok(true) => {
+                self.cells.push(*txn_id, work);
+                Ok(true)
+            }
+            Ok(false) => {
+                drop(work);
+                Ok(false)
+            }
+            Err(error) => {
+                drop(work);
+                Err(error)
+            }
+        }
     }
 
     /// Takes the work of a live cell out, which is dead then: one look. It takes no memory.
@@ -270,32 +294,52 @@ impl ArrivalLog {
         work
     }
 
-    /// Takes the first work of an id out: one look. `None` where nothing is kept for it, and then
-    /// nothing changes. It takes no memory.
-    #[inline(always)]
-    pub fn take_first<L: Ledger>(
+    /// Ends an id and takes all its work out, in order, each without its transactional state, into
+    /// a list that has room for it: one look for each. Where the id isn't opened nothing changes. It
+    /// takes no memory.
+    ///
+    /// # Requires
+    ///
+    /// The list has room for the work.
+    pub fn take_all<L: Ledger>(
         &mut self,
         txn_id: &TransactionId,
+        list: Vec<Frame>,
         looks: &mut Looks<L>,
-    ) -> Option<TxnWorkFrame>
-        ensures log { self.new ≡ without_first self.old txn_id.now }
-        ensures work { result ≡ first_work self.old txn_id.now }
-        ensures taken { frames_of self.old txn_id.now
-            ≡ after_taken result (frames_of self.new txn_id.now) }
-        ensures none { MatchOption result
-            ((frames_of self.old txn_id.now ≡ []) × (self.new ≡ self.old) × (looks.new ≡ looks.old))
-            (λ _. looks.new ≡ looks.old + 1) }
-        ensures others { OthersStay txn_id.now self.old self.new }
-        ensures dead { OnSome result (dead_count self.new ≡ dead_count self.old + 1) }
-        ensures live { OnSome result (live_count self.new + 1 ≡ live_count self.old) }
+    ) -> Vec<Frame>
+        requires { length list.items + length (frames_of self.old txn_id.now)
+            ≤ vec_capacity list }
+        ensures list { result.items ≡ list.items ++ map stripped (frames_of self.old txn_id.now) }
+        ensures ended { EndsId txn_id.now self.old self.new }
+        ensures looks { looks.new ≡ looks.old + length (frames_of self.old txn_id.now) }
     {
-        match pop_place(&mut self.index, *txn_id) {
-            Some(place) => {
-                let (_, work) = self.cells.take(place, looks);
-                self.dead += 1;
-                Some(work)
-            }
-            None => None,
+        match self.index.swap_remove(txn_id) {
+            Some(opened) => strip_places(
+                &mut self.cells,
+                &mut self.dead,
+                opened.places,
+                *txn_id,
+                list,
+                looks,
+            ),
+            None => list,
+        }
+    }
+
+    /// Ends an id and lets all its work go: one look for each. Where the id isn't opened nothing
+    /// changes. It takes no memory.
+    pub fn drop_all<L: Ledger>(&mut self, txn_id: &TransactionId, looks: &mut Looks<L>)
+        ensures ended { EndsId txn_id.now self.old self.new }
+        ensures looks { looks.new ≡ looks.old + length (frames_of self.old txn_id.now) }
+    {
+        if let Some(opened) = self.index.swap_remove(txn_id) {
+            drop_places(
+                &mut self.cells,
+                &mut self.dead,
+                opened.places,
+                *txn_id,
+                looks,
+            );
         }
     }
 
