@@ -1,6 +1,6 @@
 -- The live cells of the log are the frames that are kept for the live ids.
-use Rattle.std.proofs.Common.{◌≡◌, ◌+◌, ◌||◌, ℕ, Bool, true, false, cond, Some, None, List, [], ◌∷◌, length, arith, refl, sym, ap, ◌∙◌, zero-add}
-use Rattle.std.specs.Prelude.{count_by, is_some}
+use Rattle.std.proofs.Common.{◌≡◌, ◌+◌, ◌||◌, ℕ, Bool, true, false, cond, Some, None, Result, Ok, Err, List, [], ◌∷◌, length, arith, refl, sym, ap, ◌∙◌, zero-add}
+use Rattle.std.specs.Prelude.{count_by, if◌then◌else◌, is_some, IfOk}
 use Rattle.std.specs.List.{AllByRecursion, IsDistinct, cons_option, list_any, sum_by}
 use Rattle.std.specs.Map.{keys_of, lookup}
 use Rattle.std.specs.Cmp.Lexicographic.{same_text, nat_list_eq_equiv}
@@ -14,10 +14,12 @@ use Rattle.amqp_txn_types.specs.Ids.{same_id}
 use Rattle.amqp_txn_types.specs.Works.{frame_of_work}
 use Rattle.amqp_arrivals.specs.declared.cell.Cell.{Cell}
 use Rattle.amqp_arrivals.specs.declared.cell.Cell.TheVariants as cells
-use Rattle.amqp_arrivals.specs.Cells.{Log, frames_in, frames_of, is_live_cell, live_count, with_arrival}
-use Rattle.amqp_arrivals.specs.Live.{Agrees, Homes}
-use Rattle.amqp_arrivals.proofs.Kept.{none_in}
-use Rattle.amqp_arrivals.proofs.Live.{agrees_more}
+use Rattle.amqp_txn_types.specs.declared.items.NoMemory.{NoMemory}
+use Rattle.amqp_arrivals.specs.Cells.{EndsId, Log, arrived, dead_count, frames_in, frames_of, is_dead_cell, is_live_cell, is_opened, live_count, with_arrival}
+use Rattle.amqp_arrivals.specs.Live.{Agrees, Homes, Keeps, LetsGo, Live, kept}
+use Rattle.amqp_arrivals.proofs.Emptied.{dead_emptied, live_emptied}
+use Rattle.amqp_arrivals.proofs.Kept.{length-keys, none_in}
+use Rattle.amqp_arrivals.proofs.Live.{agrees_ended, agrees_more, frames_are, is_kept, kept_ended, kept_more}
 
 total_none : (ids : List TransactionId) → sum_by (λ t. length (frames_in [] t)) ids ≡ 0
 total_none [] = refl
@@ -94,15 +96,46 @@ live_kept homes log agrees = all_kept log.cells (keys_of homes) agrees.distinct 
 pub same_count : (old new : Homes) (before after : Log) → Agrees old before → Agrees new after → live_count after ≡ live_count before → sum_by (λ t. length (frames_of after t)) (keys_of new) ≡ sum_by (λ t. length (frames_of before t)) (keys_of old)
 same_count old new before after was is same = sym (live_kept new after is) ∙ same ∙ live_kept old before was
 
--- one more, where work was added; one less, where it was taken
+-- one more, where work was added
 live-arrived : (log : Log) (id : TransactionId) (w : TxnWorkFrame) → live_count (with_arrival log id w) ≡ live_count log + 1
 live-arrived log id w = sum_by-append (λ c. cond (is_live_cell c) 1 0) log.cells (cells.Live id w ∷ [])
 
-pub one_kept : (homes : Homes) (log new : Log) (id : TransactionId) (w : TxnWorkFrame) (n : ℕ) → is_some (lookup (same_id id) homes) ≡ true → Agrees homes log → sum_by (λ t. length (frames_of log t)) (keys_of homes) ≡ n → new ≡ with_arrival log id w → sum_by (λ t. length (frames_of new t)) (keys_of homes) ≡ n + 1
-one_kept homes log new id w n live agrees count e =
-    ap (λ (l : Log). sum_by (λ t. length (frames_of l t)) (keys_of homes)) e
-    ∙ sym (live_kept homes (with_arrival log id w) (agrees_more homes log id w live agrees))
-    ∙ live-arrived log id w ∙ ap (λ k. k + 1) (live_kept homes log agrees ∙ count)
+-- ---- what a change makes of the value
 
-pub one_taken : (homes : Homes) (log new : Log) (n : ℕ) → Agrees homes log → Agrees homes new → sum_by (λ t. length (frames_of log t)) (keys_of homes) ≡ n → live_count new + 1 ≡ live_count log → sum_by (λ t. length (frames_of new t)) (keys_of homes) + 1 ≡ n
-one_taken homes log new n was is count e = ap (λ k. k + 1) (sym (live_kept homes new is)) ∙ e ∙ live_kept homes log was ∙ count
+-- the value of a log
+abbrev pub live_of : Log → Live
+live_of log = record { homes = log.homes; log = log; room = log.room }
+
+pub keeps : (old : Log) (id : TransactionId) (w : TxnWorkFrame) (result : Result Bool NoMemory) → Agrees old.homes old → IfOk result (λ opened. opened ≡ is_opened old id) → Keeps (live_of old) (live_of (arrived result old id w)) id (frame_of_work w) result
+keeps old id w (Ok true) agrees opened =
+    let live = sym (opened ∙ agrees.same id) in (
+      sym (is_kept (frames_of old id) (lookup (same_id id) old.homes)) ∙ live,
+      sym (live_kept old.homes (with_arrival old id w) (agrees_more old.homes old id w live agrees))
+          ∙ live-arrived old id w ∙ ap (λ n. n + 1) (live_kept old.homes old agrees),
+      kept_more old.homes old id w,
+    )
+keeps old id w (Ok false) agrees opened = (sym (is_kept (frames_of old id) (lookup (same_id id) old.homes)) ∙ sym (opened ∙ agrees.same id), refl)
+keeps old id w (Err error) agrees opened = refl
+
+pub agrees_arrived : (old : Log) (id : TransactionId) (w : TxnWorkFrame) (result : Result Bool NoMemory) → Agrees old.homes old → IfOk result (λ opened. opened ≡ is_opened old id) → Agrees (arrived result old id w).homes (arrived result old id w)
+agrees_arrived old id w (Ok true) agrees opened = agrees_more old.homes old id w (sym (opened ∙ agrees.same id)) agrees
+agrees_arrived old id w (Ok false) agrees opened = agrees
+agrees_arrived old id w (Err error) agrees opened = agrees
+
+pub lets_go : (id : TransactionId) (old new : Log) (looks now : ℕ) → Agrees old.homes old → EndsId id old new → now ≡ looks + length (frames_of old id) → LetsGo (live_of old) (live_of new) id looks now
+lets_go id old new looks now agrees ends looked =
+    let frames = ap length (frames_are old.homes old agrees id) in
+    let after = live_kept new.homes new (agrees_ended id old new agrees ends) in
+    let before = live_kept old.homes old agrees in
+    let live = ap (λ cs. count_by is_live_cell cs) ends.cells in
+    let opened = agrees.same id ∙ is_kept (frames_of old id) (lookup (same_id id) old.homes) in
+    record {
+      kept = kept_ended id old new ends;
+      ids =
+          ap (λ n. n + (if is_some (kept (live_of old) id) then 1 else 0)) (length-keys new.homes)
+          ∙ ap (λ b. length new.homes + (if b then 1 else 0)) (sym opened) ∙ ends.len ∙ sym (length-keys old.homes);
+      looked = looked ∙ ap (λ n. looks + n) frames;
+      dead = ap (λ cs. count_by is_dead_cell cs) ends.cells ∙ dead_emptied id old.cells ∙ ap (λ n. dead_count old + n) frames;
+      frames = omega (arith, frames, after, before, live, live_emptied id old.cells);
+      room = record { homes = ends.room; log = ends.room };
+    }

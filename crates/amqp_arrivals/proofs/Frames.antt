@@ -12,7 +12,7 @@ use Rattle.amqp_txn_types.specs.Ids.{same_id}
 use Rattle.amqp_txn_types.specs.Works.{frame_of_work}
 use Rattle.amqp_arrivals.specs.declared.cell.Cell.{Cell}
 use Rattle.amqp_arrivals.specs.declared.cell.Cell.TheVariants as cells
-use Rattle.amqp_arrivals.specs.Cells.{Log, closed_up, dead_count, frame_under, frames_in, frames_of, is_dead_cell, is_live_cell, live_count, places, places_from, without_work, work_at, work_in}
+use Rattle.amqp_arrivals.specs.Cells.{Log, closed_up, frame_under, frames_in, is_dead_cell, is_live_cell, live_count, places, places_from, work_at, work_in}
 use Rattle.amqp_arrivals.proofs.Placed.{dead-taken, work-below}
 use Rattle.amqp_arrivals.proofs.Closing.{live_alone}
 use Rattle.std.proofs.Math.ListN.{length-set}
@@ -57,7 +57,7 @@ pub record FirstCell (t : TransactionId) (n p : ℕ) (cs : List Cell) : Type 0 w
   pub frames : frames_in cs t ≡ frame_of_work work ∷ frames_in (slice_set cs place cells.Dead) t
 
 -- a frame that isn't the id's
-unless_here : (b : Bool) (f : Frame) (fs : List Frame) → b ≡ false → cons_option (cond b (Some f) None) fs ≡ fs
+pub unless_here : (b : Bool) (f : Frame) (fs : List Frame) → b ≡ false → cons_option (cond b (Some f) None) fs ≡ fs
 unless_here true f fs e = cc
 unless_here false f fs e = refl
 

@@ -3,6 +3,8 @@ pub mod Kept
 pub mod Placed
 pub mod Closing
 pub mod Frames
+pub mod Emptied
+pub mod Indexing
 pub mod Live
 pub mod Counting
 pub mod Reading

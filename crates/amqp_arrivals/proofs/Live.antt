@@ -1,6 +1,6 @@
 -- What is kept for the live ids, after one change.
-use Rattle.std.proofs.Common.{◌≡◌, ◌||◌, ℕ, Bool, true, false, cond, Option, Some, None, List, [], ◌∷◌, ◌++◌, length, refl, sym, ap, subst, ◌∙◌, append-nil, Result, Ok, Err}
-use Rattle.std.specs.Prelude.{is_some, IfErr, OnOk, OnSome}
+use Rattle.std.proofs.Common.{◌≡◌, ◌||◌, ℕ, Bool, true, false, cond, Option, Some, None, List, [], ◌∷◌, ◌++◌, length, refl, sym, ap, ◌∙◌, append-nil}
+use Rattle.std.specs.Prelude.{is_some}
 use Rattle.std.specs.List.{IsDistinct, cons_option, list_any}
 use Rattle.std.specs.Map.{keys_of, lookup}
 use Rattle.std.specs.Option.{option_map}
@@ -14,8 +14,9 @@ use Rattle.amqp_txn_types.specs.Ids.{same_id}
 use Rattle.amqp_txn_types.specs.Works.{frame_of_work}
 use Rattle.amqp_arrivals.specs.declared.cell.Cell.{Cell}
 use Rattle.amqp_arrivals.specs.declared.cell.Cell.TheVariants as cells
-use Rattle.amqp_arrivals.specs.Cells.{Log, OthersStay, after_taken, frame_under, frames_in, frames_of, is_opened, with_arrival}
-use Rattle.amqp_arrivals.specs.Live.{Agrees, Homes, Kept, Live, before_taken, frames_kept, home_of, kept, with_frame}
+use Rattle.amqp_arrivals.specs.Cells.{EndsId, Log, frame_under, frames_in, frames_of, with_arrival}
+use Rattle.amqp_arrivals.specs.Live.{Agrees, Homes, Kept, frames_kept, home_of, with_frame}
+use Rattle.amqp_arrivals.proofs.Emptied.{frames_emptied}
 use Rattle.amqp_arrivals.proofs.Kept.{found_unless}
 
 -- what is kept for an id with these frames, where it has a link
@@ -141,79 +142,37 @@ agrees_more homes log id w live agrees = record {
   distinct = agrees.distinct;
 }
 
--- it was added, or nothing changed
-pub agrees_kept : {T E : Type 0} (homes : Homes) (log new : Log) (id : TransactionId) (w : TxnWorkFrame) (P : E → Type 0) (result : Result T E) → is_some (lookup (same_id id) homes) ≡ true → Agrees homes log → OnOk result (new ≡ with_arrival log id w) → IfErr result (λ e. P e × (new ≡ log)) → Agrees homes new
-agrees_kept homes log new id w P (Ok x) live agrees ok err = subst (Agrees homes) (sym ok) (agrees_more homes log id w live agrees)
-agrees_kept homes log new id w P (Err e) live agrees ok err = subst (Agrees homes) (sym err.1) agrees
-
-pub kept_if : (homes : Homes) (log new : Log) (id : TransactionId) (w : TxnWorkFrame) (live : Live) → ((t : TransactionId) → paired (lookup (same_id t) homes) (frames_of log t) ≡ kept live t) → new ≡ with_arrival log id w → (t : TransactionId) → paired (lookup (same_id t) homes) (frames_of new t) ≡ cond (same_id t id) (with_frame (kept live t) (frame_of_work w)) (kept live t)
-kept_if homes log new id w live view e t =
-    ap (λ (l : Log). paired (lookup (same_id t) homes) (frames_of l t)) e
-    ∙ kept_more homes log id w t ∙ ap (λ k. cond (same_id t id) (with_frame k (frame_of_work w)) k) (view t)
-
-pub on_ok : {T E P Q : Type 0} (result : Result T E) → (P → Q) → OnOk result P → OnOk result Q
-on_ok (Ok x) f p = f p
-on_ok (Err e) f p = tt
-
-pub on_some : {T P Q : Type 0} (o : Option T) → (P → Q) → OnSome o P → OnSome o Q
-on_some (Some x) f p = f p
-on_some None f p = tt
-
--- ---- the first work of an id taken
-
-put_back : (r : Option TxnWorkFrame) (o : Option (Option ℕ)) (fs gs : List Frame) → fs ≡ after_taken r gs → paired o fs ≡ before_taken r (paired o gs)
-put_back r None fs gs e = refl
-put_back r (Some home) fs gs e = ap (λ (hs : List Frame). Some (home, hs)) e
-
-taken_at : (old new : Log) (id t : TransactionId) (r : Option TxnWorkFrame) → frames_of old id ≡ after_taken r (frames_of new id) → same_id t id ≡ true → frames_of old t ≡ after_taken r (frames_of new t)
-taken_at old new id t r taken s = subst (λ v. frames_of old v ≡ after_taken r (frames_of new v)) (sym (same_text t id (sym s))) taken
-
-pub kept_taken : (homes : Homes) (old new : Log) (id : TransactionId) (r : Option TxnWorkFrame) → frames_of old id ≡ after_taken r (frames_of new id) → OthersStay id old new → (t : TransactionId) → paired (lookup (same_id t) homes) (frames_of old t) ≡ cond (same_id t id) (before_taken r (paired (lookup (same_id t) homes) (frames_of new t))) (paired (lookup (same_id t) homes) (frames_of new t))
-kept_taken homes old new id r taken others t = by_case (same_id t id) refl
-  where
-    by_case : (b : Bool) → same_id t id ≡ b → paired (lookup (same_id t) homes) (frames_of old t) ≡ cond b (before_taken r (paired (lookup (same_id t) homes) (frames_of new t))) (paired (lookup (same_id t) homes) (frames_of new t))
-    by_case true s = put_back r (lookup (same_id t) homes) (frames_of old t) (frames_of new t) (taken_at old new id t r taken s)
-    by_case false s = ap (paired (lookup (same_id t) homes)) (sym (others.frames t s))
-
-nothing_left : (r : Option TxnWorkFrame) (fs : List Frame) → after_taken r fs ≡ [] → fs ≡ []
-nothing_left None fs e = e
-nothing_left (Some w) fs e = cc
-
-pub agrees_taken : (homes : Homes) (old new : Log) (id : TransactionId) (r : Option TxnWorkFrame) → frames_of old id ≡ after_taken r (frames_of new id) → OthersStay id old new → Agrees homes old → Agrees homes new
-agrees_taken homes old new id r taken others agrees = record {
-  same = λ t. ap (list_any (same_id t)) others.opened ∙ agrees.same t;
-  none = λ t gone. by_case t gone (same_id t id) refl;
-  distinct = agrees.distinct;
-}
-  where
-    by_case : (t : TransactionId) → lookup (same_id t) homes ≡ None → (b : Bool) → same_id t id ≡ b → frames_of new t ≡ []
-    by_case t gone true s = nothing_left r (frames_of new t) (sym (taken_at old new id t r taken s) ∙ agrees.none t gone)
-    by_case t gone false s = others.frames t s ∙ agrees.none t gone
-
 -- ---- an id ended
 
-dropped : (b : Bool) (o : Option (Option ℕ)) (fs : List Frame) → paired (cond b None o) fs ≡ cond b None (paired o fs)
-dropped true o fs = refl
-dropped false o fs = refl
+gone : (b : Bool) (o : Option (Option ℕ)) (fs gs : List Frame) → (b ≡ false → gs ≡ fs) → paired (cond b None o) gs ≡ cond b None (paired o fs)
+gone true o fs gs e = refl
+gone false o fs gs e = ap (paired o) (e refl)
 
-pub kept_ended : (old new : Homes) (before after : Log) (id : TransactionId) → ((t : TransactionId) → lookup (same_id t) new ≡ cond (same_id id t) None (lookup (same_id t) old)) → after.cells ≡ before.cells → (t : TransactionId) → paired (lookup (same_id t) new) (frames_of after t) ≡ cond (same_id t id) None (paired (lookup (same_id t) old) (frames_of before t))
-kept_ended old new before after id u cells t =
-    ap (λ o. paired o (frames_of after t)) (u t ∙ ap (λ b. cond b None (lookup (same_id t) old)) (nat_list_eq_equiv.symm id t))
-    ∙ dropped (same_id t id) (lookup (same_id t) old) (frames_of after t)
-    ∙ ap (λ cs. cond (same_id t id) None (paired (lookup (same_id t) old) (frames_in cs t))) cells
+rest : (b : Bool) (o : Option (Option ℕ)) (fs : List Frame) → cond b None o ≡ None → (o ≡ None → fs ≡ []) → cond b [] fs ≡ []
+rest true o fs e none = refl
+rest false o fs e none = none e
 
-pub agrees_ended : (old new : Homes) (before after : Log) (id : TransactionId) → Agrees old before → ((t : TransactionId) → lookup (same_id t) new ≡ cond (same_id id t) None (lookup (same_id t) old)) → after.cells ≡ before.cells → ((t : TransactionId) → is_opened after t ≡ cond (same_id id t) false (is_opened before t)) → frames_of before id ≡ [] → IsDistinct same_id (keys_of new) → Agrees new after
-agrees_ended old new before after id agrees u cells opened empty distinct = record {
+kept_others : (b : Bool) (fs gs : List Frame) → gs ≡ cond b [] fs → b ≡ false → gs ≡ fs
+kept_others true fs gs h e = cc
+kept_others false fs gs h e = h
+
+pub agrees_ended : (id : TransactionId) (old new : Log) → Agrees old.homes old → EndsId id old new → Agrees new.homes new
+agrees_ended id old new agrees ends = record {
   same = λ t.
-      opened t ∙ ap (cond (same_id id t) false) (agrees.same t)
-      ∙ sym (found_unless (same_id id t) (lookup (same_id t) old)) ∙ sym (ap is_some (u t));
-  none = λ t gone. ap (λ cs. frames_in cs t) cells ∙ by_case t (same_id id t) refl (sym (u t) ∙ gone);
-  distinct = distinct;
+      ends.opened t ∙ ap (cond (same_id id t) false) (agrees.same t)
+      ∙ sym (found_unless (same_id id t) (lookup (same_id t) old.homes)) ∙ sym (ap is_some (ends.homes t));
+  none = λ t none.
+      ap (λ cs. frames_in cs t) ends.cells ∙ frames_emptied id t old.cells
+      ∙ ap (λ b. cond b [] (frames_of old t)) (nat_list_eq_equiv.symm t id)
+      ∙ rest (same_id id t) (lookup (same_id t) old.homes) (frames_of old t) (sym (ends.homes t) ∙ none) (agrees.none t);
+  distinct = ends.distinct;
 }
-  where
-    by_case : (t : TransactionId) (b : Bool) → same_id id t ≡ b → cond b None (lookup (same_id t) old) ≡ None → frames_of before t ≡ []
-    by_case t true s e = ap (frames_of before) (sym (same_text id t (sym s))) ∙ empty
-    by_case t false s e = agrees.none t e
+
+pub kept_ended : (id : TransactionId) (old new : Log) → EndsId id old new → (t : TransactionId) → paired (lookup (same_id t) new.homes) (frames_of new t) ≡ cond (same_id t id) None (paired (lookup (same_id t) old.homes) (frames_of old t))
+kept_ended id old new ends t =
+    ap (λ o. paired o (frames_of new t)) (ends.homes t ∙ ap (λ b. cond b None (lookup (same_id t) old.homes)) (nat_list_eq_equiv.symm id t))
+    ∙ gone (same_id t id) (lookup (same_id t) old.homes) (frames_of old t) (frames_of new t)
+    (kept_others (same_id t id) (frames_of old t) (frames_of new t) (ap (λ cs. frames_in cs t) ends.cells ∙ frames_emptied id t old.cells))
 
 -- ---- the log closed up
 

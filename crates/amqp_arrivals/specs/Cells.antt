@@ -1,7 +1,8 @@
 -- The log of the work under live ids: what came, in the order in which it came.
-use Rattle.std.specs.Prelude.{ℕ, ◌≡◌, ◌+◌, Bool, true, false, not, cond, Option, Some, None, List, [], ◌∷◌, ◌++◌, filter, count_by, nat_lt, option_and_then, slice_get, slice_set}
-use Rattle.std.specs.List.{list_any, filter_map}
-use Rattle.std.specs.Option.{option_map_or}
+use Rattle.std.specs.Prelude.{ℕ, ◌≡◌, ◌≤◌, ◌+◌, Bool, true, false, not, cond, if◌then◌else◌, Option, Some, None, Result, Ok, List, [], ◌∷◌, ◌++◌, filter, count_by, length, map, nat_lt, slice_get, slice_set}
+use Rattle.std.specs.List.{IsDistinct, list_any, filter_map}
+use Rattle.std.specs.Map.{keys_of, lookup}
+use Rattle.amqp_txn_types.specs.declared.items.NoMemory.{NoMemory}
 use Rattle.amqp_txn_types.specs.declared.id.TransactionId.{TransactionId}
 use Rattle.amqp_txn_types.specs.declared.frames.TxnWorkFrame.{TxnWorkFrame}
 use Rattle.amqp_txn_types.specs.declared.performatives.Frame.{Frame}
@@ -10,11 +11,13 @@ use Rattle.amqp_txn_types.specs.Works.{frame_of_work}
 use Rattle.amqp_arrivals.specs.declared.cell.Cell.{Cell}
 use Rattle.amqp_arrivals.specs.declared.cell.Cell.TheVariants as cells
 
--- the log: its cells, in the order in which they came, the ids that are opened, and how many more
--- can be opened without taking memory
+-- the log: its cells, in the order in which they came, the ids that are opened, the same with the
+-- link that each was declared on, if it was on one, and how many more can be opened without taking
+-- memory
 pub record Log : Type 0 where
   pub cells : List Cell
   pub opened : List TransactionId
+  pub homes : List (TransactionId × Option ℕ)
   pub room : ℕ
 
 -- the cells of the log, and how many more fit without taking memory
@@ -98,10 +101,16 @@ dead_count log = count_by is_dead_cell log.cells
 pub record SameLog (old new : Log) : Type 0 where
   pub cells : new.cells ≡ old.cells
   pub opened : new.opened ≡ old.opened
+  pub homes : new.homes ≡ old.homes
 
 -- the log with one more live cell, at its end
 abbrev pub with_arrival : Log → TransactionId → TxnWorkFrame → Log
 with_arrival log t work = record log { cells = log.cells ++ cells.Live t work ∷ [] }
+
+-- the log once work came, by whether its id is opened and memory was there
+abbrev pub arrived : Result Bool NoMemory → Log → TransactionId → TxnWorkFrame → Log
+arrived (Ok true) log t work = with_arrival log t work
+arrived _ log t work = log
 
 -- the log with a dead cell at this place
 abbrev pub without_work : Log → ℕ → Log
@@ -115,16 +124,6 @@ closed_up log = record log { cells = filter is_live_cell log.cells }
 abbrev pub settled : Log → Log
 settled log = cond (nat_lt (live_count log) (dead_count log)) (closed_up log) log
 
--- ---- the first work of an id
-
--- the work at the id's first place, if it has one
-abbrev pub first_work : Log → TransactionId → Option TxnWorkFrame
-first_work log t = option_and_then (work_at log.cells) (slice_get (places log t) 0)
-
--- the log with a dead cell at the id's first place, if it has one
-abbrev pub without_first : Log → TransactionId → Log
-without_first log t = option_map_or (without_work log) (slice_get (places log t) 0) log
-
 -- ---- work taken out of the log
 
 -- some frames, after the one of the work that was taken, if any
@@ -132,8 +131,16 @@ abbrev pub after_taken : Option TxnWorkFrame → List Frame → List Frame
 after_taken None frames = frames
 after_taken (Some work) frames = frame_of_work work ∷ frames
 
--- what is kept for the other ids is as it was, and so are the opened ids
-pub record OthersStay (id : TransactionId) (old new : Log) : Type 0 where
-  pub frames : (t : TransactionId) → same_id t id ≡ false → frames_of new t ≡ frames_of old t
-  pub opened : new.opened ≡ old.opened
-  pub room : new.room ≡ old.room
+-- the cells, with a dead one in place of each that is live with this id
+abbrev pub emptied : TransactionId → List Cell → List Cell
+emptied t cs = map (λ c. cond (is_under t c) cells.Dead c) cs
+
+-- an id ended, and all its work was taken; all else is as it was
+pub record EndsId (id : TransactionId) (old new : Log) : Type 0 where
+  pub cells : new.cells ≡ emptied id old.cells
+  pub opened : (t : TransactionId) → is_opened new t ≡ cond (same_id id t) false (is_opened old t)
+  pub homes : (t : TransactionId) → lookup (same_id t) new.homes
+      ≡ cond (same_id id t) None (lookup (same_id t) old.homes)
+  pub distinct : IsDistinct same_id (keys_of new.homes)
+  pub len : length new.homes + (if is_opened old id then 1 else 0) ≡ length old.homes
+  pub room : old.room ≤ new.room

@@ -1,24 +1,35 @@
 -- The index of the log: for each opened id, the places of its live cells.
-use Rattle.std.specs.Prelude.{ℕ, ◌≡◌, ◌==◌, cond, Option, Some, None, List, [], ◌∷◌, ◌++◌, count_by}
+use Rattle.std.specs.Prelude.{ℕ, ◌≡◌, ◌==◌, Bool, true, cond, Option, Some, None, Result, Ok, List, [], ◌∷◌, ◌++◌, count_by}
 use Rattle.std.specs.Map.{lookup}
-use Rattle.std.specs.declared.collections.VecDeque.{VecDeque}
+use Rattle.amqp_txn_types.specs.declared.items.NoMemory.{NoMemory}
 use Rattle.amqp_txn_types.specs.declared.id.TransactionId.{TransactionId}
 use Rattle.amqp_txn_types.specs.Ids.{same_id}
 use Rattle.amqp_arrivals.specs.declared.cell.Cell.{Cell}
+use Rattle.amqp_arrivals.specs.declared.opened.Opened.{Opened}
 use Rattle.amqp_arrivals.specs.Cells.{is_dead_cell, places_from}
 
--- the opened ids, each with its places
-abbrev pub Index : Type 0 → Type 0
-Index S = List (TransactionId × VecDeque ℕ S)
+-- the opened ids, each with its link and its places
+abbrev pub Index : Type 0
+Index = List (TransactionId × Opened)
 
 -- the places that a look-up found
-abbrev pub places_in : {S : Type 0} → Option (VecDeque ℕ S) → List ℕ
+abbrev pub places_in : Option Opened → List ℕ
 places_in None = []
-places_in (Some found) = found.items
+places_in (Some found) = found.places.items
 
 -- the places that are kept for an id
-abbrev pub places_kept : {S : Type 0} → Index S → TransactionId → List ℕ
+abbrev pub places_kept : Index → TransactionId → List ℕ
 places_kept index t = places_in (lookup (same_id t) index)
+
+-- the opened ids, each with its link
+abbrev pub homes_in : Index → List (TransactionId × Option ℕ)
+homes_in [] = []
+homes_in (e ∷ es) = (e.0, e.1.home) ∷ homes_in es
+
+-- with this place after the others, where it was added
+abbrev pub places_added : Result Bool NoMemory → ℕ → List ℕ → List ℕ
+places_added (Ok true) n ms = ms ++ n ∷ []
+places_added _ n ms = ms
 
 -- without the first of some places that is this one
 abbrev pub without_place : ℕ → List ℕ → List ℕ
@@ -32,6 +43,6 @@ moved_to n (m ∷ ms) = ms ++ n ∷ []
 
 -- the index gives, for each opened id, the places of its live cells, and no cell is live with
 -- another id; so many cells are dead
-pub record Indexed {S : Type 0} (cs : List Cell) (index : Index S) (dead : ℕ) : Type 0 where
+pub record Indexed (cs : List Cell) (index : Index) (dead : ℕ) : Type 0 where
   pub places : (t : TransactionId) → places_kept index t ≡ places_from 0 t cs
   pub gone : dead ≡ count_by is_dead_cell cs

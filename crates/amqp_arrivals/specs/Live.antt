@@ -1,13 +1,13 @@
 -- What is kept for the live ids: for each the link that declared it, if one did, and its frames.
-use Rattle.std.specs.Prelude.{ℕ, ◌≡◌, ◌+◌, ◌<◌, ◌≤◌, ◌∷◌, ◌++◌, Option, Some, None, List, [], length, is_some}
+use Rattle.std.specs.Prelude.{ℕ, ◌≡◌, ◌+◌, ◌<◌, ◌≤◌, ◌∷◌, ◌++◌, Bool, true, false, cond, if◌then◌else◌, Option, Some, None, Result, Ok, Err, List, [], length, is_some}
 use Rattle.std.specs.List.{IsDistinct, sum_by}
 use Rattle.std.specs.Map.{keys_of, lookup}
 use Rattle.std.specs.Option.{option_map}
 use Rattle.amqp_txn_types.specs.declared.id.TransactionId.{TransactionId}
-use Rattle.amqp_txn_types.specs.declared.frames.TxnWorkFrame.{TxnWorkFrame}
+use Rattle.amqp_txn_types.specs.declared.items.NoMemory.{NoMemory}
 use Rattle.amqp_txn_types.specs.declared.performatives.Frame.{Frame}
 use Rattle.amqp_txn_types.specs.Ids.{same_id}
-use Rattle.amqp_arrivals.specs.Cells.{Log, after_taken, dead_count, frames_of, is_opened}
+use Rattle.amqp_arrivals.specs.Cells.{Log, dead_count, frames_of, is_opened}
 
 -- the live ids, each with the link that it was declared on
 abbrev pub Homes : Type 0
@@ -44,11 +44,6 @@ abbrev pub with_frame : Option Kept → Frame → Option Kept
 with_frame None frame = None
 with_frame (Some one) frame = Some (one.0, one.1 ++ frame ∷ [])
 
--- what was kept before the work was taken, if any was
-abbrev pub before_taken : Option TxnWorkFrame → Option Kept → Option Kept
-before_taken taken None = None
-before_taken taken (Some one) = Some (one.0, after_taken taken one.1)
-
 -- ---- all ids
 
 -- the live ids
@@ -82,6 +77,26 @@ pub record UsesPlace (old new : Live) : Type 0 where
 pub record SameKept (old new : Live) : Type 0 where
   pub kept : (t : TransactionId) → kept new t ≡ kept old t
   pub frames : frame_count new ≡ frame_count old
+
+-- a frame came under an id: it is the last that is kept for it, where that is live; nothing changes
+-- where it isn't, and for want of memory
+abbrev pub Keeps : Live → Live → TransactionId → Frame → Result Bool NoMemory → Type 0
+Keeps old new id frame (Ok true) =
+    (is_some (kept old id) ≡ true) × (frame_count new ≡ frame_count old + 1)
+    × ((t : TransactionId) → kept new t ≡ cond (same_id t id) (with_frame (kept old t) frame)
+    (kept old t))
+Keeps old new id frame (Ok false) = (is_some (kept old id) ≡ false) × (new ≡ old)
+Keeps old new id frame (Err error) = new ≡ old
+
+-- an id ended, with all that was kept for it: one look, and one dead cell more, for each frame
+pub record LetsGo (old new : Live) (id : TransactionId) (looks now : ℕ) : Type 0 where
+  pub ids : length (live_ids new) + (if is_some (kept old id) then 1 else 0)
+      ≡ length (live_ids old)
+  pub looked : now ≡ looks + length (frames_kept (kept old id))
+  pub dead : owed new ≡ owed old + length (frames_kept (kept old id))
+  pub frames : frame_count new + length (frames_kept (kept old id)) ≡ frame_count old
+  pub room : KeepsPlaces old new
+  pub kept : (t : TransactionId) → kept new t ≡ cond (same_id t id) None (kept old t)
 
 -- the live ids are those that are opened in the log, each once, and nothing is kept for any other
 pub record Agrees (homes : Homes) (log : Log) : Type 0 where

@@ -50,6 +50,7 @@ impl CellList {
     }
 
     /// Makes room for one more cell. The only error is want of memory.
+    #[inline(always)]
     pub fn reserve(&mut self) -> Result<(), NoMemory>
         ensures cells { self.new.cells ≡ self.old.cells }
         ensures room { OnOk result (0 < self.new.room) }
@@ -61,6 +62,7 @@ impl CellList {
     }
 
     /// Adds a live cell at the end, for which there is room.
+    #[inline(always)]
     pub fn push(&mut self, txn_id: TransactionId, work: TxnWorkFrame)
         requires { 0 < self.old.room }
         ensures { self.new.cells ≡ self.old.cells ++ Cell.Live txn_id work ∷ [] }

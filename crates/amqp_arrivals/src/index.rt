@@ -1,24 +1,35 @@
-//! The index of the log: the places of the live cells of each opened id.
+//! The index of the log: the opened ids, each with its link and the places of its live cells.
 
-ghost use Rattle.std.specs.Prelude.{◌≡◌, ◌==◌, ◌++◌, ◌∷◌, [], cond, true, OnOk, OnErr, length, position, slice_get, drop, is_some};
+ghost use Rattle.std.specs.Prelude.{◌≡◌, ◌==◌, ◌++◌, ◌∷◌, [], cond, IfOk, length, position, slice_get, is_some};
 ghost use Rattle.std.specs.Map.{lookup};
 ghost use Rattle.std.specs.HashMap.{keys, spare};
 ghost use Rattle.amqp_txn_types.specs.declared.id.TransactionId.{TransactionId as Id};
 ghost use Rattle.amqp_txn_types.specs.Ids.{same_id};
-ghost use Rattle.amqp_arrivals.specs.Index.{moved_to, places_kept, without_place};
+ghost use Rattle.amqp_arrivals.specs.Index.{homes_in, moved_to, places_added, places_kept, without_place};
 
+use crate::opened::Opened;
 use amqp_txn_types::{NoMemory, TransactionId};
 use indexmap::IndexMap;
 use std::collections::VecDeque;
 
-/// The opened ids, each with the places of its live cells, rising.
-pub type Index = IndexMap<TransactionId, VecDeque<usize>>;
+/// The opened ids.
+pub type Index = IndexMap<TransactionId, Opened>;
+
+/// The link of an opened id, if it was declared on one; `None` where it isn't opened.
+pub fn home_of(index: &Index, id: TransactionId) -> Option<Option<u64>>
+    ensures { result ≡ lookup (same_id id) (homes_in index.now.entries) }
+{
+    match index.get(&id) {
+        Some(opened) => Some(opened.home),
+        None => None,
+    }
+}
 
 /// The first place of an id.
 pub fn first_place(index: &Index, id: TransactionId) -> Option<usize>
     ensures { result ≡ slice_get (places_kept index.now.entries id) 0 }
 {
-    index.get(&id)?.front().copied()
+    index.get(&id)?.places.front().copied()
 }
 
 /// How many places an id has.
@@ -26,41 +37,29 @@ pub fn place_count(index: &Index, id: TransactionId) -> usize
     ensures { result ≡ length (places_kept index.now.entries id) }
 {
     match index.get(&id) {
-        Some(places) => places.len(),
+        Some(opened) => opened.places.len(),
         None => 0,
     }
 }
 
-/// Adds a place to those of an opened id. For want of memory all places stay as they were.
-pub fn add_place(index: &mut Index, id: TransactionId, place: usize) -> Result<(), NoMemory>
-    requires { is_some (lookup (same_id id) index.old.entries) ≡ true }
-    ensures ok { OnOk result ((t : Id) → places_kept index.new.entries t ≡ cond (same_id t id)
-        (places_kept index.old.entries t ++ place ∷ []) (places_kept index.old.entries t)) }
-    ensures err { OnErr result ((t : Id) → places_kept index.new.entries t
-        ≡ places_kept index.old.entries t) }
-    ensures keys { keys index.new ≡ keys index.old }
-    ensures spare { spare index.new ≡ spare index.old }
-{
-    let Some(places) = index.get_mut(&id) else {
-        unreachable!()
-    };
-    match places.push_back(place) {
-        Ok(()) => Ok(()),
-        Err(_) => Err(NoMemory),
-    }
-}
-
-/// Takes the first place of an id out of its places.
-pub fn pop_place(index: &mut Index, id: TransactionId) -> Option<usize>
-    ensures first { result ≡ slice_get (places_kept index.old.entries id) 0 }
+/// Adds a place to those of an id, and says whether the id is opened: for one that isn't, and for
+/// want of memory, all places stay as they were.
+#[inline(always)]
+pub fn add_place(index: &mut Index, id: TransactionId, place: usize) -> Result<bool, NoMemory>
+    ensures ok { IfOk result (λ opened. opened ≡ is_some (lookup (same_id id) index.old.entries)) }
     ensures places { (t : Id) → places_kept index.new.entries t ≡ cond (same_id t id)
-        (drop 1 (places_kept index.old.entries t)) (places_kept index.old.entries t) }
+        (places_added result place (places_kept index.old.entries t))
+        (places_kept index.old.entries t) }
     ensures keys { keys index.new ≡ keys index.old }
+    ensures homes { homes_in index.new.entries ≡ homes_in index.old.entries }
     ensures spare { spare index.new ≡ spare index.old }
 {
-    match index.get_mut(&id) {
-        Some(places) => places.pop_front(),
-        None => None,
+    let Some(opened) = index.get_mut(&id) else {
+        return Ok(false);
+    };
+    match opened.places.push_back(place) {
+        Ok(()) => Ok(true),
+        Err(_) => Err(NoMemory),
     }
 }
 
@@ -92,10 +91,11 @@ pub fn drop_place(index: &mut Index, id: TransactionId, place: usize)
         (without_place place (places_kept index.old.entries t))
         (places_kept index.old.entries t) }
     ensures keys { keys index.new ≡ keys index.old }
+    ensures homes { homes_in index.new.entries ≡ homes_in index.old.entries }
     ensures spare { spare index.new ≡ spare index.old }
 {
-    if let Some(places) = index.get_mut(&id) {
-        drop_from(places, place);
+    if let Some(opened) = index.get_mut(&id) {
+        drop_from(&mut opened.places, place);
     }
 }
 
@@ -116,9 +116,10 @@ pub fn move_place(index: &mut Index, id: TransactionId, to: usize)
         (moved_to to (places_kept index.old.entries t))
         (places_kept index.old.entries t) }
     ensures keys { keys index.new ≡ keys index.old }
+    ensures homes { homes_in index.new.entries ≡ homes_in index.old.entries }
     ensures spare { spare index.new ≡ spare index.old }
 {
-    if let Some(places) = index.get_mut(&id) {
-        move_in(places, to);
+    if let Some(opened) = index.get_mut(&id) {
+        move_in(&mut opened.places, to);
     }
 }

@@ -11,8 +11,8 @@
 //! log.make_room()?;
 //! log.open_id(id)?;
 //! log.append(&id, work)?;
-//! while let Some(work) = log.take_first(&id, &mut looks) {
-//!     hand(work);
+//! while let Some(place) = log.first(&id) {
+//!     hand(log.take(place, &mut looks));
 //! }
 //! log.end(&id);
 //! log.settle(&mut looks);
@@ -33,6 +33,8 @@ mod index;
 mod live_work;
 mod log;
 mod looks;
+mod opened;
+mod taking;
 
 pub use answering::presumptive;
 pub use cell::Cell;

@@ -1,17 +1,16 @@
 //! What is kept for the live ids, as one value.
 
-ghost use Rattle.std.specs.Prelude.{◌≡◌, ◌≤◌, ◌+◌, ◌++◌, ◌∷◌, ◌↔◌, [], IsTrue, Some, None, cond, length, is_some, true, IfErr, IfNone, OnErr, OnOk, OnSome, if◌then◌else◌};
+ghost use Rattle.std.specs.Prelude.{◌≡◌, ◌≤◌, ◌+◌, ◌++◌, ◌∷◌, ◌↔◌, [], IsTrue, Some, None, cond, length, map, is_some, vec_capacity, OnOk};
 ghost use Rattle.std.specs.Option.{option_map};
 ghost use Rattle.amqp_txn_types.specs.declared.id.TransactionId.{TransactionId as Id};
+ghost use Rattle.amqp_txn_types.specs.Frames.{stripped};
 ghost use Rattle.amqp_txn_types.specs.Ids.{same_id};
 ghost use Rattle.amqp_txn_types.specs.Works.{frame_of_work};
-ghost use Rattle.amqp_arrivals.specs.Cells.{after_taken};
-ghost use Rattle.amqp_arrivals.specs.Live.{HasPlace, KeepsPlaces, SameKept, UsesPlace, before_taken, frame_count, frames_kept, home_of, kept, live_ids, owed, with_frame};
+ghost use Rattle.amqp_arrivals.specs.Live.{HasPlace, Keeps, KeepsPlaces, LetsGo, SameKept, UsesPlace, frame_count, frames_kept, home_of, kept, live_ids, owed};
 
 use crate::log::ArrivalLog;
 use crate::looks::Looks;
-use amqp_txn_types::{NoMemory, TransactionId, TxnWorkFrame};
-use indexmap::IndexMap;
+use amqp_txn_types::{Frame, NoMemory, TransactionId, TxnWorkFrame};
 use std::alloc::Global;
 use std::marker::Model;
 use std::sync::ledger::Ledger;
@@ -21,22 +20,20 @@ use std::sync::ledger::Ledger;
 #[derive(Drop)]
 pub struct LiveWork {
     log: ArrivalLog,
-    homes: IndexMap<TransactionId, Option<u64>>,
 }
 
 impl Model for LiveWork {
-    ghost use Rattle.std.specs.HashMap.{spare};
     ghost use Rattle.amqp_arrivals.specs.Live.{Agrees, Live};
 
     ghost Value = { Live };
 
     ghost view = { λ work. record {
-      homes = work.homes.entries;
+      homes = work.log.homes;
       log = work.log;
-      room = spare work.homes;
+      room = work.log.room;
     } };
 
-    ghost invariant = { λ work. Agrees work.homes.entries work.log };
+    ghost invariant = { λ work. Agrees work.log.homes work.log };
 }
 
 impl LiveWork {
@@ -49,7 +46,6 @@ impl LiveWork {
     {
         LiveWork {
             log: ArrivalLog::new(alloc),
-            homes: IndexMap::new(alloc),
         }
     }
 
@@ -57,14 +53,14 @@ impl LiveWork {
     pub fn len(&self) -> usize
         ensures { result ≡ length (live_ids self.now) }
     {
-        self.homes.len()
+        self.log.len()
     }
 
     /// Whether no id is live.
     pub fn is_empty(&self) -> bool
         ensures { IsTrue result ↔ ((t : Id) → kept self.now t ≡ None) }
     {
-        self.homes.is_empty()
+        self.log.is_empty()
     }
 
     /// How many frames are kept for the live ids, all together.
@@ -86,14 +82,14 @@ impl LiveWork {
     pub fn is_live(&self, txn_id: &TransactionId) -> bool
         ensures { result ≡ is_some (kept self.now txn_id.now) }
     {
-        self.homes.contains_key(txn_id)
+        self.log.is_opened(txn_id)
     }
 
     /// The link that a live id was declared on, if it was on one; `None` where it isn't live.
     pub fn home(&self, txn_id: &TransactionId) -> Option<Option<u64>>
         ensures { result ≡ option_map home_of (kept self.now txn_id.now) }
     {
-        self.homes.get(txn_id).copied()
+        self.log.home(txn_id)
     }
 
     /// How many frames are kept for the id: none where it isn't live.
@@ -111,10 +107,7 @@ impl LiveWork {
         ensures stays { KeepsPlaces self.old self.new }
         ensures room { OnOk result (HasPlace self.new) }
     {
-        match self.homes.reserve(1) {
-            Ok(()) => self.log.make_room(),
-            Err(_) => Err(NoMemory),
-        }
+        self.log.make_room()
     }
 
     /// Adds an id without frames, for which there is room. It takes no memory.
@@ -132,100 +125,51 @@ impl LiveWork {
         ensures frames { frame_count self.new ≡ frame_count self.old }
         ensures room { UsesPlace self.old self.new }
     {
-        let Ok(_) = self.homes.insert(txn_id, home) else {
-            unreachable!()
-        };
-        let Ok(()) = self.log.open_id(txn_id) else {
+        let Ok(()) = self.log.open_on(txn_id, home) else {
             unreachable!()
         };
     }
 
-    /// Keeps work for a live id, as its last. For want of memory, the only error, nothing changes
-    /// and the work comes back.
-    ///
-    /// # Requires
-    ///
-    /// The id is live.
-    pub fn keep(
-        &mut self,
-        txn_id: &TransactionId,
-        work: TxnWorkFrame,
-    ) -> Result<(), (TxnWorkFrame, NoMemory)>
-        requires { is_some (kept self.old txn_id.now) ≡ true }
-        ensures ok { OnOk result ((t : Id) → kept self.new t ≡ cond (same_id t txn_id.now)
-            (with_frame (kept self.old t) (frame_of_work work)) (kept self.old t)) }
-        ensures frames { OnOk result (frame_count self.new ≡ frame_count self.old + 1) }
+    /// Keeps work for an id, as its last, and says whether the id is live: for one that isn't, and
+    /// for want of memory, nothing changes and the work is let go.
+    #[inline(always)]
+    pub fn keep(&mut self, txn_id: &TransactionId, work: TxnWorkFrame) -> Result<bool, NoMemory>
+        ensures kept { Keeps self.old self.new txn_id.now (frame_of_work work) result }
         ensures ids { live_ids self.new ≡ live_ids self.old }
         ensures owed { owed self.new ≡ owed self.old }
         ensures room { KeepsPlaces self.old self.new }
-        ensures err { IfErr result (λ unkept. (unkept.0 ≡ work) × (self.new ≡ self.old)) }
     {
-        self.log.append(txn_id, work)
+        self.log.keep(txn_id, work)
     }
 
-    /// Takes the first work of an id out: one look, and one dead cell more. `None` where nothing is
-    /// kept for it, and then nothing changes. It takes no memory.
-    #[inline(always)]
-    pub fn take_first<L: Ledger>(
-        &mut self,
-        txn_id: &TransactionId,
-        looks: &mut Looks<L>,
-    ) -> Option<TxnWorkFrame>
-        ensures kept { (t : Id) → kept self.old t ≡ cond (same_id t txn_id.now)
-            (before_taken result (kept self.new t)) (kept self.new t) }
-        ensures taken { frames_kept (kept self.old txn_id.now)
-            ≡ after_taken result (frames_kept (kept self.new txn_id.now)) }
-        ensures none { IfNone result ((frames_kept (kept self.old txn_id.now) ≡ [])
-            × (self.new ≡ self.old) × (looks.new ≡ looks.old)) }
-        ensures looks { OnSome result (looks.new ≡ looks.old + 1) }
-        ensures owed { OnSome result (owed self.new ≡ owed self.old + 1) }
-        ensures frames { OnSome result (frame_count self.new + 1 ≡ frame_count self.old) }
-        ensures ids { live_ids self.new ≡ live_ids self.old }
-        ensures room { KeepsPlaces self.old self.new }
-    {
-        self.log.take_first(txn_id, looks)
-    }
-
-    /// Ends an id for which no frame is kept; nothing changes where it isn't live. It takes no
+    /// Ends an id and takes all that is kept for it out, in order, each without its transactional
+    /// state, into a list that has room for it. Where the id isn't live nothing changes. It takes no
     /// memory.
     ///
     /// # Requires
     ///
-    /// No frame is kept for the id.
-    pub fn end(&mut self, txn_id: &TransactionId)
-        requires { frames_kept (kept self.old txn_id.now) ≡ [] }
-        ensures kept { (t : Id) → kept self.new t ≡ cond (same_id t txn_id.now) None
-            (kept self.old t) }
-        ensures ids { length (live_ids self.new)
-            + (if is_some (kept self.old txn_id.now) then 1 else 0) ≡ length (live_ids self.old) }
-        ensures owed { owed self.new ≡ owed self.old }
-        ensures frames { frame_count self.new ≡ frame_count self.old }
-        ensures room { KeepsPlaces self.old self.new }
+    /// The list has room for the frames.
+    pub fn take_all<L: Ledger>(
+        &mut self,
+        txn_id: &TransactionId,
+        list: Vec<Frame>,
+        looks: &mut Looks<L>,
+    ) -> Vec<Frame>
+        requires { length list.items + length (frames_kept (kept self.old txn_id.now))
+            ≤ vec_capacity list }
+        ensures list { result.items
+            ≡ list.items ++ map stripped (frames_kept (kept self.old txn_id.now)) }
+        ensures gone { LetsGo self.old self.new txn_id.now looks.old looks.new }
     {
-        if self.homes.swap_remove(txn_id).is_some() {
-            self.log.end(txn_id);
-        }
+        self.log.take_all(txn_id, list, looks)
     }
 
-    /// Lets all that is kept for the id go, and ends it: one look, and one dead cell more, for each
-    /// of its frames. It takes no memory.
+    /// Ends an id and lets all that is kept for it go. Where the id isn't live nothing changes. It
+    /// takes no memory.
     pub fn drop_all<L: Ledger>(&mut self, txn_id: &TransactionId, looks: &mut Looks<L>)
-        ensures kept { (t : Id) → kept self.new t ≡ cond (same_id t txn_id.now) None
-            (kept self.old t) }
-        ensures ids { length (live_ids self.new)
-            + (if is_some (kept self.old txn_id.now) then 1 else 0) ≡ length (live_ids self.old) }
-        ensures looks { looks.new
-            ≡ looks.old + length (frames_kept (kept self.old txn_id.now)) }
-        ensures owed { owed self.new
-            ≡ owed self.old + length (frames_kept (kept self.old txn_id.now)) }
-        ensures frames { frame_count self.new + length (frames_kept (kept self.old txn_id.now))
-            ≡ frame_count self.old }
-        ensures room { KeepsPlaces self.old self.new }
+        ensures { LetsGo self.old self.new txn_id.now looks.old looks.new }
     {
-        while let Some(work) = self.take_first(txn_id, looks) {
-            drop(work);
-        }
-        self.end(txn_id);
+        self.log.drop_all(txn_id, looks);
     }
 
     /// Takes the dead cells out where they are more than the frames that are kept: one look for

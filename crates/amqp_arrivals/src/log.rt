@@ -1,16 +1,21 @@
 //! The log of the work under live transactions.
 
-ghost use Rattle.std.specs.Prelude.{◌≡◌, ◌≤◌, ◌<◌, ◌+◌, ◌++◌, ◌∷◌, [], Some, None, cond, true, false, is_some, length, slice_get, take, filter, count_by, IfErr, IfSome, IsOk, OnSome, MatchOption, OnOk, OnErr};
+ghost use Rattle.std.specs.Prelude.{◌≡◌, ◌≤◌, ◌<◌, ◌↔◌, IsTrue, ◌+◌, ◌++◌, ◌∷◌, [], Some, None, cond, true, false, is_some, length, slice_get, take, filter, count_by, map, vec_capacity, IfErr, IfOk, IfSome, IsOk, OnOk, OnErr, if◌then◌else◌};
 ghost use Rattle.std.specs.HashMap.{keys, spare};
+ghost use Rattle.std.specs.List.{IsDistinct};
+ghost use Rattle.std.specs.Map.{keys_of, lookup};
 ghost use Rattle.amqp_txn_types.specs.declared.id.TransactionId.{TransactionId as Id};
+ghost use Rattle.amqp_txn_types.specs.Frames.{stripped};
 ghost use Rattle.amqp_txn_types.specs.Ids.{same_id};
-ghost use Rattle.amqp_arrivals.specs.Cells.{SameLog, OthersStay, after_taken, closed_up, dead_count, first_work, frames_of, is_live_cell, is_opened, live_count, places, places_from, settled, with_arrival, without_first, without_work, work_at};
-ghost use Rattle.amqp_arrivals.specs.Index.{places_kept};
+ghost use Rattle.amqp_arrivals.specs.Cells.{EndsId, SameLog, arrived, closed_up, dead_count, frames_of, is_live_cell, is_opened, live_count, places, places_from, settled, with_arrival, without_work, work_at};
+ghost use Rattle.amqp_arrivals.specs.Index.{homes_in, places_kept};
 
 use crate::cell_list::CellList;
-use crate::index::{Index, add_place, drop_place, first_place, move_place, place_count, pop_place};
+use crate::index::{Index, add_place, drop_place, first_place, home_of, move_place, place_count};
 use crate::looks::Looks;
-use amqp_txn_types::{NoMemory, TransactionId, TxnWorkFrame};
+use crate::opened::Opened;
+use crate::taking::{drop_places, strip_places};
+use amqp_txn_types::{Frame, NoMemory, TransactionId, TxnWorkFrame};
 use indexmap::IndexMap;
 use std::alloc::Global;
 use std::collections::VecDeque;
@@ -25,6 +30,7 @@ fn move_live<L: Ledger>(cells: &mut CellList, index: &mut Index, looks: &mut Loo
     ensures index { (t : Id) → places_kept index.new.entries t
         ≡ places_from 0 t (filter is_live_cell cells.old.cells) }
     ensures keys { keys index.new ≡ keys index.old }
+    ensures homes { homes_in index.new.entries ≡ homes_in index.old.entries }
     ensures spare { spare index.new ≡ spare index.old }
     ensures looks { looks.new ≡ looks.old + count_by is_live_cell cells.old.cells }
 {
@@ -51,13 +57,14 @@ pub struct ArrivalLog {
 impl Model for ArrivalLog {
     ghost use Rattle.std.specs.HashMap.{keys, spare};
     ghost use Rattle.amqp_arrivals.specs.Cells.{Log};
-    ghost use Rattle.amqp_arrivals.specs.Index.{Indexed};
+    ghost use Rattle.amqp_arrivals.specs.Index.{Indexed, homes_in};
 
     ghost Value = { Log };
 
     ghost view = { λ log. record {
       cells = log.cells.cells;
       opened = keys log.index;
+      homes = homes_in log.index.entries;
       room = spare log.index;
     } };
 
@@ -70,6 +77,7 @@ impl ArrivalLog {
     pub fn new(alloc: Global) -> Self
         ensures cells { result.cells ≡ [] }
         ensures opened { result.opened ≡ [] }
+        ensures homes { result.homes ≡ [] }
     {
         ArrivalLog {
             cells: CellList::new(alloc),
@@ -100,6 +108,27 @@ impl ArrivalLog {
         self.index.contains_key(txn_id)
     }
 
+    /// How many ids are opened.
+    pub fn len(&self) -> usize
+        ensures { result ≡ length self.now.homes }
+    {
+        self.index.len()
+    }
+
+    /// Whether no id is opened.
+    pub fn is_empty(&self) -> bool
+        ensures { IsTrue result ↔ (length self.now.homes ≡ 0) }
+    {
+        self.index.is_empty()
+    }
+
+    /// The link of an opened id, if it was declared on one; `None` where the id isn't opened.
+    pub fn home(&self, txn_id: &TransactionId) -> Option<Option<u64>>
+        ensures { result ≡ lookup (same_id txn_id.now) self.now.homes }
+    {
+        home_of(&self.index, *txn_id)
+    }
+
     /// The place of the id's first live cell; `None` where it has none.
     pub fn first(&self, txn_id: &TransactionId) -> Option<usize>
         ensures first { result ≡ slice_get (places self.now txn_id.now) 0 }
@@ -127,8 +156,7 @@ impl ArrivalLog {
         }
     }
 
-    /// Opens an id, for which there may be room. For want of memory, the only error, nothing
-    /// changes.
+    /// Opens an id, declared on no link, as [`ArrivalLog::open_on`] does.
     ///
     /// # Requires
     ///
@@ -138,27 +166,60 @@ impl ArrivalLog {
         ensures fresh { frames_of self.new txn_id ≡ [] }
         ensures cells { self.new.cells ≡ self.old.cells }
         ensures ok { OnOk result (self.new.opened ≡ self.old.opened ++ txn_id ∷ []) }
-        ensures err { OnErr result (self.new.opened ≡ self.old.opened) }
+        ensures homes { OnOk result (self.new.homes ≡ self.old.homes ++ (txn_id, None) ∷ []) }
+        ensures err { OnErr result ((self.new.opened ≡ self.old.opened)
+            × (self.new.homes ≡ self.old.homes)) }
         ensures room { self.old.room ≤ self.new.room + 1 }
         ensures succeeds { 0 < self.old.room → IsOk result }
     {
-        match self.index.insert(txn_id, VecDeque::new(self.alloc)) {
+        self.open_on(txn_id, None)
+    }
+
+    /// Opens an id that was declared on a link, if it was on one; there may be room for it. For want
+    /// of memory, the only error, nothing changes.
+    ///
+    /// # Requires
+    ///
+    /// The id isn't opened.
+    pub fn open_on(&mut self, txn_id: TransactionId, home: Option<u64>) -> Result<(), NoMemory>
+        requires { is_opened self.old txn_id ≡ false }
+        ensures fresh { frames_of self.new txn_id ≡ [] }
+        ensures cells { self.new.cells ≡ self.old.cells }
+        ensures ok { OnOk result (self.new.opened ≡ self.old.opened ++ txn_id ∷ []) }
+        ensures homes { OnOk result (self.new.homes ≡ self.old.homes ++ (txn_id, home) ∷ []) }
+        ensures found { OnOk result ((t : Id) → lookup (same_id t) self.new.homes
+            ≡ cond (same_id txn_id t) (Some home) (lookup (same_id t) self.old.homes)) }
+        ensures distinct { IsDistinct same_id (keys_of self.new.homes) }
+        ensures err { OnErr result ((self.new.opened ≡ self.old.opened)
+            × (self.new.homes ≡ self.old.homes)) }
+        ensures room { self.old.room ≤ self.new.room + 1 }
+        ensures succeeds { 0 < self.old.room → IsOk result }
+    {
+        let opened = Opened {
+            home,
+            places: VecDeque::new(self.alloc),
+        };
+        match self.index.insert(txn_id, opened) {
             Ok(_) => Ok(()),
             Err(_) => Err(NoMemory),
         }
     }
 
-    /// Ends an opened id that has no live cell. It takes no memory.
+    /// Ends an id that has no live cell; nothing changes where it isn't opened. It takes no memory.
     ///
     /// # Requires
     ///
-    /// The id is opened and has no live cell.
+    /// The id has no live cell.
     pub fn end(&mut self, txn_id: &TransactionId)
-        requires opened { is_opened self.old txn_id.now ≡ true }
-        requires empty { frames_of self.old txn_id.now ≡ [] }
+        requires { frames_of self.old txn_id.now ≡ [] }
         ensures cells { self.new.cells ≡ self.old.cells }
         ensures opened { (t : Id) → is_opened self.new t ≡ cond (same_id txn_id.now t) false
             (is_opened self.old t) }
+        ensures homes { (t : Id) → lookup (same_id t) self.new.homes ≡ cond (same_id txn_id.now t)
+            None (lookup (same_id t) self.old.homes) }
+        ensures distinct { IsDistinct same_id (keys_of self.new.homes) }
+        ensures len { length self.new.homes
+            + (if is_opened self.old txn_id.now then 1 else 0) ≡ length self.old.homes }
         ensures room { self.old.room ≤ self.new.room }
     {
         let _places = self.index.swap_remove(txn_id);
@@ -182,11 +243,38 @@ impl ArrivalLog {
         let Ok(()) = self.cells.reserve() else {
             return Err((work, NoMemory));
         };
-        let Ok(()) = add_place(&mut self.index, *txn_id, self.cells.len()) else {
+        let Ok(true) = add_place(&mut self.index, *txn_id, self.cells.len()) else {
             return Err((work, NoMemory));
         };
         self.cells.push(*txn_id, work);
         Ok(())
+    }
+
+    /// Adds work under an id, as the last of the log, and says whether the id is opened: for one
+    /// that isn't, and for want of memory, nothing changes and the work is let go.
+    #[inline(always)]
+    pub fn keep(&mut self, txn_id: &TransactionId, work: TxnWorkFrame) -> Result<bool, NoMemory>
+        ensures opened { IfOk result (λ opened. opened ≡ is_opened self.old txn_id.now) }
+        ensures log { self.new ≡ arrived result self.old txn_id.now work }
+    {
+        let Ok(()) = self.cells.reserve() else {
+            drop(work);
+            return Err(NoMemory);
+        };
+        match add_place(&mut self.index, *txn_id, self.cells.len()) {
+            Ok(true) => {
+                self.cells.push(*txn_id, work);
+                Ok(true)
+            }
+            Ok(false) => {
+                drop(work);
+                Ok(false)
+            }
+            Err(error) => {
+                drop(work);
+                Err(error)
+            }
+        }
     }
 
     /// Takes the work of a live cell out, which is dead then: one look. It takes no memory.
@@ -206,32 +294,52 @@ impl ArrivalLog {
         work
     }
 
-    /// Takes the first work of an id out: one look. `None` where nothing is kept for it, and then
-    /// nothing changes. It takes no memory.
-    #[inline(always)]
-    pub fn take_first<L: Ledger>(
+    /// Ends an id and takes all its work out, in order, each without its transactional state, into
+    /// a list that has room for it: one look for each. Where the id isn't opened nothing changes. It
+    /// takes no memory.
+    ///
+    /// # Requires
+    ///
+    /// The list has room for the work.
+    pub fn take_all<L: Ledger>(
         &mut self,
         txn_id: &TransactionId,
+        list: Vec<Frame>,
         looks: &mut Looks<L>,
-    ) -> Option<TxnWorkFrame>
-        ensures log { self.new ≡ without_first self.old txn_id.now }
-        ensures work { result ≡ first_work self.old txn_id.now }
-        ensures taken { frames_of self.old txn_id.now
-            ≡ after_taken result (frames_of self.new txn_id.now) }
-        ensures none { MatchOption result
-            ((frames_of self.old txn_id.now ≡ []) × (self.new ≡ self.old) × (looks.new ≡ looks.old))
-            (λ _. looks.new ≡ looks.old + 1) }
-        ensures others { OthersStay txn_id.now self.old self.new }
-        ensures dead { OnSome result (dead_count self.new ≡ dead_count self.old + 1) }
-        ensures live { OnSome result (live_count self.new + 1 ≡ live_count self.old) }
+    ) -> Vec<Frame>
+        requires { length list.items + length (frames_of self.old txn_id.now)
+            ≤ vec_capacity list }
+        ensures list { result.items ≡ list.items ++ map stripped (frames_of self.old txn_id.now) }
+        ensures ended { EndsId txn_id.now self.old self.new }
+        ensures looks { looks.new ≡ looks.old + length (frames_of self.old txn_id.now) }
     {
-        match pop_place(&mut self.index, *txn_id) {
-            Some(place) => {
-                let (_, work) = self.cells.take(place, looks);
-                self.dead += 1;
-                Some(work)
-            }
-            None => None,
+        match self.index.swap_remove(txn_id) {
+            Some(opened) => strip_places(
+                &mut self.cells,
+                &mut self.dead,
+                opened.places,
+                *txn_id,
+                list,
+                looks,
+            ),
+            None => list,
+        }
+    }
+
+    /// Ends an id and lets all its work go: one look for each. Where the id isn't opened nothing
+    /// changes. It takes no memory.
+    pub fn drop_all<L: Ledger>(&mut self, txn_id: &TransactionId, looks: &mut Looks<L>)
+        ensures ended { EndsId txn_id.now self.old self.new }
+        ensures looks { looks.new ≡ looks.old + length (frames_of self.old txn_id.now) }
+    {
+        if let Some(opened) = self.index.swap_remove(txn_id) {
+            drop_places(
+                &mut self.cells,
+                &mut self.dead,
+                opened.places,
+                *txn_id,
+                looks,
+            );
         }
     }
 
@@ -251,6 +359,7 @@ impl ArrivalLog {
         ensures log { self.new ≡ settled self.old }
         ensures frames { (t : Id) → frames_of self.new t ≡ frames_of self.old t }
         ensures opened { self.new.opened ≡ self.old.opened }
+        ensures homes { self.new.homes ≡ self.old.homes }
         ensures room { self.new.room ≡ self.old.room }
         ensures live { live_count self.new ≡ live_count self.old }
         ensures few { dead_count self.new ≤ live_count self.new }

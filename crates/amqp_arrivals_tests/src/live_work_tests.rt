@@ -3,8 +3,9 @@
 
 ghost use Rattle.std.specs.Prelude.{◌≡◌, ◌<◌};
 
-use crate::values::{id, number_of, work};
+use crate::values::{id, work};
 use amqp_arrivals::{LiveWork, Looks};
+use amqp_txn_types::{Frame, strip};
 use std::marker::Brand;
 use std::process::Abort;
 use std::sync::ledger::{Blank, Ledger};
@@ -20,7 +21,7 @@ fn add<R: Abort>(rt: &R, live: &mut LiveWork, octet: u8, home: Option<u64>) {
 fn keep<R: Abort>(rt: &R, live: &mut LiveWork, octet: u8, number: u32) {
     let txn_id = id(octet);
     assert!(rt; live.is_live(&txn_id));
-    live.keep(&txn_id, work(number)).expect(rt, "an Ok");
+    assert_eq!(rt; live.keep(&txn_id, work(number)), Ok(true));
 }
 
 /// Works 1 to 3: the odd ones under the id 1, of the link 7, and the even one under the id 2, of no
@@ -62,14 +63,13 @@ fn drops<L: Ledger, R: Abort>(rt: &R, live: &mut LiveWork, blank: Blank)
     requires some { 0 < blank.parts }
 {
     let mut looks = Looks::<L>::new(blank);
-    assert_eq!(rt; number_of(live.take_first(&id(1), &mut looks)), Some(1));
     live.drop_all(&id(1), &mut looks);
     assert!(rt; !live.is_live(&id(1)));
     assert_eq!(rt; live.frame_count(), 1);
     assert_eq!(rt; live.owed(), 2);
     live.settle(&mut looks);
     assert_eq!(rt; live.owed(), 0);
-    assert_eq!(rt; number_of(live.take_first(&id(2), &mut looks)), Some(2));
+    assert_eq!(rt; live.count(&id(2)), 1);
 }
 
 #[test]
@@ -77,5 +77,37 @@ fn dropped_id_leaves_the_other(rt: HostRuntime) {
     let mut live = LiveWork::new(rt.alloc());
     two_ids(&rt, &mut live);
     drops::<Brand, HostRuntime>(&rt, &mut live, Blank::new(1));
+    drop(live);
+}
+
+fn takes<L: Ledger, R: Abort>(rt: &R, live: &mut LiveWork, list: Vec<Frame>, blank: Blank)
+    requires name { blank.name ≡ L.name }
+    requires parts { blank.parts ≡ L.parts }
+    requires some { 0 < blank.parts }
+{
+    let mut looks = Looks::<L>::new(blank);
+    assert!(rt; list.len() + live.count(&id(1)) <= list.capacity());
+    let taken = live.take_all(&id(1), list, &mut looks);
+    let wanted = [strip(work(1)), strip(work(3))];
+    assert!(rt; taken.as_slice() == wanted.as_slice());
+    assert!(rt; !live.is_live(&id(1)));
+    assert_eq!(rt; live.count(&id(2)), 1);
+}
+
+#[test]
+fn taken_work_is_in_order_and_stripped(rt: HostRuntime) {
+    let mut live = LiveWork::new(rt.alloc());
+    two_ids(&rt, &mut live);
+    let list = Vec::with_capacity(rt.alloc(), 2).expect(&rt, "an Ok");
+    takes::<Brand, HostRuntime>(&rt, &mut live, list, Blank::new(1));
+    drop(live);
+}
+
+#[test]
+fn work_of_an_id_that_is_not_live_is_let_go(rt: HostRuntime) {
+    let mut live = LiveWork::new(rt.alloc());
+    two_ids(&rt, &mut live);
+    assert_eq!(rt; live.keep(&id(3), work(4)), Ok(false));
+    assert_eq!(rt; live.frame_count(), 3);
     drop(live);
 }

@@ -5,6 +5,7 @@ ghost use Rattle.std.specs.Prelude.{◌≡◌, ◌<◌};
 
 use crate::values::{id, number_of, work};
 use amqp_arrivals::{ArrivalLog, Looks};
+use amqp_txn_types::{TransactionId, TxnWorkFrame};
 use std::marker::Brand;
 use std::process::Abort;
 use std::sync::ledger::{Blank, Ledger};
@@ -56,13 +57,23 @@ fn ids_interleave(rt: HostRuntime) {
     drop(log);
 }
 
+/// The first work of an id, taken out.
+fn take_first<L: Ledger>(
+    log: &mut ArrivalLog,
+    txn_id: &TransactionId,
+    looks: &mut Looks<L>,
+) -> Option<TxnWorkFrame> {
+    let place = log.first(txn_id)?;
+    Some(log.take(place, looks))
+}
+
 fn takes<L: Ledger, R: Abort>(rt: &R, log: &mut ArrivalLog, blank: Blank)
     requires name { blank.name ≡ L.name }
     requires parts { blank.parts ≡ L.parts }
     requires some { 0 < blank.parts }
 {
     let mut looks = Looks::<L>::new(blank);
-    assert_eq!(rt; number_of(log.take_first(&id(2), &mut looks)), Some(2));
+    assert_eq!(rt; number_of(take_first(log, &id(2), &mut looks)), Some(2));
     assert_eq!(rt; log.first(&id(2)), Some(3));
     if let Some(place) = log.first(&id(1)) {
         assert_eq!(rt; number_of(Some(log.take(place, &mut looks))), Some(1));
@@ -85,14 +96,14 @@ fn closes_up<L: Ledger, R: Abort>(rt: &R, log: &mut ArrivalLog, blank: Blank)
     requires some { 0 < blank.parts }
 {
     let mut looks = Looks::<L>::new(blank);
-    assert_eq!(rt; number_of(log.take_first(&id(1), &mut looks)), Some(1));
+    assert_eq!(rt; number_of(take_first(log, &id(1), &mut looks)), Some(1));
     log.close_up(&mut looks);
     assert_eq!(rt; log.dead(), 0);
     assert_eq!(rt; log.first(&id(2)), Some(0));
     assert_eq!(rt; log.first(&id(1)), Some(1));
-    assert_eq!(rt; number_of(log.take_first(&id(2), &mut looks)), Some(2));
-    assert_eq!(rt; number_of(log.take_first(&id(2), &mut looks)), Some(4));
-    assert_eq!(rt; number_of(log.take_first(&id(2), &mut looks)), None);
+    assert_eq!(rt; number_of(take_first(log, &id(2), &mut looks)), Some(2));
+    assert_eq!(rt; number_of(take_first(log, &id(2), &mut looks)), Some(4));
+    assert_eq!(rt; number_of(take_first(log, &id(2), &mut looks)), None);
 }
 
 #[test]
@@ -109,11 +120,11 @@ fn settles<L: Ledger, R: Abort>(rt: &R, log: &mut ArrivalLog, blank: Blank)
     requires some { 0 < blank.parts }
 {
     let mut looks = Looks::<L>::new(blank);
-    drop(log.take_first(&id(1), &mut looks));
-    drop(log.take_first(&id(1), &mut looks));
+    drop(take_first(log, &id(1), &mut looks));
+    drop(take_first(log, &id(1), &mut looks));
     log.settle(&mut looks);
     assert_eq!(rt; log.dead(), 2);
-    drop(log.take_first(&id(1), &mut looks));
+    drop(take_first(log, &id(1), &mut looks));
     log.settle(&mut looks);
     assert_eq!(rt; log.dead(), 0);
     assert_eq!(rt; log.live(), 2);
@@ -126,13 +137,11 @@ fn ends<L: Ledger, R: Abort>(rt: &R, log: &mut ArrivalLog, blank: Blank)
 {
     let txn_id = id(2);
     let mut looks = Looks::<L>::new(blank);
-    drop(log.take_first(&txn_id, &mut looks));
-    drop(log.take_first(&txn_id, &mut looks));
+    drop(take_first(log, &txn_id, &mut looks));
+    drop(take_first(log, &txn_id, &mut looks));
     assert!(rt; log.is_opened(&txn_id));
-    if let None = log.take_first(&txn_id, &mut looks) {
-        assert!(rt; log.is_opened(&txn_id));
-        log.end(&txn_id);
-    }
+    assert_eq!(rt; log.count(&txn_id), 0);
+    log.end(&txn_id);
     assert!(rt; !log.is_opened(&txn_id));
     assert!(rt; log.is_opened(&id(1)));
     assert_eq!(rt; log.live(), 3);

@@ -1,6 +1,9 @@
 -- Frames handed one after another.
 use Rattle.std.proofs.Common.{◌≡◌, ℕ, zero, suc, ◌+◌, ◌<◌, ◌≤◌, Bool, true, false, not, cond, Option, Some, None, Result, Ok, Err, List, [], ◌∷◌, ◌++◌, length, map, take, drop, refl, sym, ◌∙◌, ap, arith, subst, append-nil, add-one, add-zero}
-use Rattle.std.specs.List.{zip}
+use Rattle.std.specs.Prelude.{◌&&◌}
+use Rattle.std.specs.List.{cons_option, list_all, zip}
+use Rattle.std.specs.Map.{lookup}
+use Rattle.std.specs.Option.{option_map}
 use Rattle.std.proofs.lemmas.List.{length-append, length-map, map-append}
 use Rattle.amqp_txn_types.specs.declared.performatives.Frame.{Frame}
 use Rattle.amqp_txn_types.specs.declared.performatives.Frame.TheVariants as frames
@@ -32,7 +35,11 @@ use Rattle.amqp_layer.specs.Reviewing.{is_bare}
 use Rattle.amqp_sessions.specs.declared.transacting.CommitFault.{CommitFault}
 use Rattle.amqp_sessions.specs.declared.transacting.CommitFault.TheVariants as commit_faults
 use Rattle.amqp_txn_types.specs.declared.id.TransactionId.{TransactionId}
-use Rattle.amqp_arrivals.specs.Live.{frames_kept, kept}
+use Rattle.amqp_txn_types.specs.Ids.{same_id}
+use Rattle.amqp_arrivals.specs.declared.cell.Cell.{Cell}
+use Rattle.amqp_arrivals.specs.declared.cell.Cell.TheVariants as cells
+use Rattle.amqp_arrivals.specs.Cells.{frame_under, frames_in, frames_of}
+use Rattle.amqp_arrivals.specs.Live.{Live, frames_kept, kept}
 use Rattle.amqp_resource.specs.declared.held.Held.{Held}
 use Rattle.amqp_resource.specs.Draws.{is_kept}
 use Rattle.amqp_resource.specs.Transacting.{CommittedIn, CommittedWith, Ended}
@@ -101,6 +108,26 @@ pub work-bare : (work : TxnWorkFrame) → is_bare (stripped (frame_of_work work)
 unfolding stripped
 work-bare (works.Post transfer payload) = ap not (state-bare transfer.state)
 work-bare (works.Retire disposition) = ap not (state-bare disposition.state)
+
+bare_under : (t u : TransactionId) (w : TxnWorkFrame) (fs : List Frame) → list_all is_bare (map stripped fs) ≡ true → list_all is_bare (map stripped (cons_option (frame_under t (cells.Live u w)) fs)) ≡ true
+bare_under t u w fs more = by_case (same_id t u)
+  where
+    by_case : (b : Bool) → list_all is_bare (map stripped (cons_option (cond b (Some (frame_of_work w)) None) fs)) ≡ true
+    by_case true = ap (λ b. b && list_all is_bare (map stripped fs)) (work-bare w) ∙ more
+    by_case false = more
+
+bare_in : (cs : List Cell) (t : TransactionId) → list_all is_bare (map stripped (frames_in cs t)) ≡ true
+bare_in [] t = refl
+bare_in (cells.Live u w ∷ cs) t = bare_under t u w (frames_in cs t) (bare_in cs t)
+bare_in (cells.Dead ∷ cs) t = bare_in cs t
+
+-- the frames that are kept for an id are work
+pub kept-bare : (live : Live) (t : TransactionId) → list_all is_bare (map stripped (frames_kept (kept live t))) ≡ true
+kept-bare live t = by_case (lookup (same_id t) live.homes)
+  where
+    by_case : (o : Option (Option ℕ)) → list_all is_bare (map stripped (frames_kept (option_map (λ home. (home, frames_of live.log t)) o))) ≡ true
+    by_case None = refl
+    by_case (Some home) = bare_in live.log.cells t
 
 -- ---- frames handed one after another
 

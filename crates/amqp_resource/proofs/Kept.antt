@@ -7,14 +7,12 @@ use Rattle.std.specs.Map.{lookup}
 use Rattle.std.specs.HashSet.{HashSet, keys}
 use Rattle.std.proofs.lemmas.Bool.{eqb-true, and_right}
 use Rattle.amqp_txn_types.specs.declared.id.TransactionId.{TransactionId}
-use Rattle.amqp_txn_types.specs.declared.frames.TxnWorkFrame.{TxnWorkFrame}
 use Rattle.amqp_txn_types.specs.Ids.{same_id}
 use Rattle.amqp_record.proofs.Ids.{same_id-eq, same_id-sym}
 use Rattle.amqp_resource.specs.declared.held.Held.{Held}
 use Rattle.amqp_record.specs.Live.{is_link}
-use Rattle.amqp_arrivals.specs.Live.{Kept, Live, before_taken, home_of, kept}
+use Rattle.amqp_arrivals.specs.Live.{Kept, Live, home_of, kept}
 use Rattle.amqp_resource.specs.Held.{OpenLinks, SameHeld, Tied, ids_on, is_among, is_in, is_kept_on, kept_without, unless_on}
-use Rattle.amqp_resource.specs.Transacting.{Ended}
 
 -- ---- one kept-up changed
 
@@ -73,43 +71,6 @@ tied_taken h g id home at lg kg tied k t = kg k t ∙ ap (cond (is_link k home &
     by_case false s =
         apart (is_link k home) (same_id id t) false (same_id-sym id t ∙ s) (is_kept_on k (kept h.work t))
         ∙ sym (ap (λ b. is_kept_on k (cond b None (kept h.work t))) s)
-
--- ---- frames taken out
-
--- what was kept of an id has the home of what is kept of it
-home_taken : (b : Bool) (taken : Option TxnWorkFrame) (o : Option Kept) → option_map home_of (cond b (before_taken taken o) o) ≡ option_map home_of o
-home_taken true taken None = refl
-home_taken true taken (Some one) = refl
-home_taken false taken o = refl
-
-pub homes_taken : (old new : Live) (id : TransactionId) (taken : Option TxnWorkFrame) → ((t : TransactionId) → kept old t ≡ cond (same_id t id) (before_taken taken (kept new t)) (kept new t)) → (t : TransactionId) → option_map home_of (kept new t) ≡ option_map home_of (kept old t)
-homes_taken old new id taken e t = sym (ap (option_map home_of) (e t) ∙ home_taken (same_id t id) taken (kept new t))
-
-pub others_taken : (old new : Live) (id : TransactionId) (taken : Option TxnWorkFrame) → ((t : TransactionId) → kept old t ≡ cond (same_id t id) (before_taken taken (kept new t)) (kept new t)) → (t : TransactionId) → same_id t id ≡ false → kept new t ≡ kept old t
-others_taken old new id taken e t other = sym (e t ∙ ap (λ b. cond b (before_taken taken (kept new t)) (kept new t)) other)
-
--- links are tied to what has the same homes
-pub tied_homes : (h g : Held) → ((t : TransactionId) → option_map home_of (kept g.work t) ≡ option_map home_of (kept h.work t)) → ((k : ℕ) → ids_on g.links.entries k ≡ ids_on h.links.entries k) → Tied h → Tied g
-tied_homes h g homes kg tied k t =
-    ap (is_among t) (kg k) ∙ tied k t ∙ on_home k (kept h.work t)
-    ∙ ap (home_on k) (sym (homes t)) ∙ sym (on_home k (kept g.work t))
-
--- what is left without an id, by the others
-pub without_others : (old mid : Live) (id : TransactionId) → ((t : TransactionId) → same_id t id ≡ false → kept mid t ≡ kept old t) → (t : TransactionId) → kept_without id mid t ≡ kept_without id old t
-without_others old mid id others t = by_case (same_id t id) (others t)
-  where
-    by_case : (b : Bool) → (b ≡ false → kept mid t ≡ kept old t) → cond {A = Option Kept} b None (kept mid t) ≡ cond b None (kept old t)
-    by_case true e = refl
-    by_case false e = e refl
-
--- an id that ends once its frames were taken out
-pub ended_handed : (h mid g : Held) (id : TransactionId) → ((t : TransactionId) → same_id t id ≡ false → kept mid.work t ≡ kept h.work t) → ((t : TransactionId) → option_map home_of (kept mid.work t) ≡ option_map home_of (kept h.work t)) → mid.links ≡ h.links → mid.opened ≡ h.opened → ((t : TransactionId) → kept g.work t ≡ kept_without id mid.work t) → ((k : ℕ) → is_in g.links.entries k ≡ is_in mid.links.entries k) → (Tied mid → Tied g) → g.opened ≡ mid.opened → Ended h g id
-ended_handed h mid g id others homes links opened lg kg tied og = record {
-  live = λ t. lg t ∙ without_others h.work mid.work id others t;
-  links = λ k. kg k ∙ ap (λ ls. is_in ls.entries k) links;
-  tied = λ x. tied (tied_homes h mid homes (λ k. ap (λ ls. ids_on ls.entries k) links) x);
-  opened = og ∙ opened;
-}
 
 -- ---- an id declared
 

@@ -1,10 +1,11 @@
 -- What keeping a frame under a live id leaves.
-use Rattle.std.specs.Prelude.{◌≡◌, cond, Result, Ok, Err, List}
+use Rattle.std.specs.Prelude.{◌≡◌, true, false, cond, Option, Some, None, Result, Ok, Err, List}
 use Rattle.amqp_txn_types.specs.declared.id.TransactionId.{TransactionId}
 use Rattle.amqp_txn_types.specs.declared.items.NoMemory.{NoMemory}
 use Rattle.amqp_txn_types.specs.declared.performatives.Frame.{Frame}
 use Rattle.amqp_txn_types.specs.Ids.{same_id}
 use Rattle.amqp_txn_types.specs.Presumptive.{answered_under}
+use Rattle.amqp_resource.specs.Draws.{is_kept}
 use Rattle.amqp_arrivals.specs.Live.{Live, kept, with_frame}
 
 -- by the answer: the frame is the last that is kept for the id, and this is what it is answered at
@@ -15,3 +16,9 @@ Posted old new frame id (Ok given) =
     (given ≡ answered_under id frame) × ((t : TransactionId)
     → kept new t ≡ cond (same_id t id) (with_frame (kept old t) frame) (kept old t))
 Posted old new frame id (Err error) = (t : TransactionId) → kept new t ≡ kept old t
+
+-- the same, and nothing changes where the id isn't live
+abbrev pub PostedIf : Live → Live → Frame → TransactionId → Option (List Frame) → Type 0
+PostedIf old new frame id (Some given) =
+    (is_kept old id ≡ true) × Posted old new frame id (Ok given)
+PostedIf old new frame id None = (is_kept old id ≡ false) × (new ≡ old)

@@ -1,6 +1,6 @@
 //! A commit asks the layer below about its frames, and then hands them one after another.
 
-ghost use Rattle.std.specs.Prelude.{◌≡◌, ◌≤◌, ◌+◌, [], false, true, Ok, length, map, vec_capacity};
+ghost use Rattle.std.specs.Prelude.{◌≡◌, ◌≤◌, [], true, Ok, length, vec_capacity};
 ghost use Rattle.std.specs.List.{list_all};
 ghost use Rattle.std.specs.Option.{option_map};
 ghost use Rattle.amqp_txn_types.specs.declared.id.TransactionId.{TransactionId as Id};
@@ -12,38 +12,9 @@ ghost use Rattle.amqp_layer.specs.declared.verdict.Verdict.TheVariants as verdic
 ghost use Rattle.amqp_resource.specs.Committing.{HandsAll, HandsSurely, OnVetoed};
 
 use crate::outcomes::refused_after;
-use amqp_arrivals::{LiveWork, Looks};
 use amqp_layer::{Answers, Echoes, LayerBelow, SessionInnerError, Verdict, take_frame};
 use amqp_sessions::CommitFault;
-use amqp_txn_types::{Frame, Frames, TransactionError, TransactionId, strip};
-use std::sync::ledger::Ledger;
-
-/// Takes the frames of an id out, in order, each without its transactional state, into a list that
-/// has room for them.
-pub fn strip_all<L: Ledger>(
-    work: &mut LiveWork,
-    id: TransactionId,
-    mut frames: Vec<Frame>,
-    looks: &mut Looks<L>,
-) -> Frames
-    requires none { frames.items ≡ [] }
-    requires room { length (frames_kept (kept work.old id)) ≤ vec_capacity frames }
-    ensures frames { result ≡ map stripped (frames_kept (kept work.old id)) }
-    ensures bare { list_all is_bare result ≡ true }
-    ensures taken { frames_kept (kept work.new id) ≡ [] }
-    ensures others { (t : Id) → same_id t id ≡ false → kept work.new t ≡ kept work.old t }
-    ensures homes { (t : Id) → option_map home_of (kept work.new t)
-        ≡ option_map home_of (kept work.old t) }
-    ensures looks { looks.new ≡ looks.old + length (frames_kept (kept work.old id)) }
-    ensures owed { owed work.new ≡ owed work.old + length (frames_kept (kept work.old id)) }
-    ensures count { frame_count work.new + length (frames_kept (kept work.old id))
-        ≡ frame_count work.old }
-{
-    while let Some(taken) = work.take_first(&id, looks) {
-        frames.push_reserved(strip(taken));
-    }
-    Frames::from_vec(frames)
-}
+use amqp_txn_types::{Frame, Frames, TransactionError};
 
 /// Hands frames that the layer below accepted, in order, to the first for which it wants memory.
 /// Room for their answers is there.

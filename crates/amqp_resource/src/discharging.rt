@@ -18,8 +18,8 @@ ghost use Rattle.amqp_resource.specs.Leaving.{StepLeaves};
 ghost use Rattle.amqp_resource.specs.Looking.{Pays, frames_ended};
 ghost use Rattle.amqp_resource.specs.Steps.{nothing_drawn};
 
-use crate::committing::{hand_reviewed, strip_all};
-use crate::held::{Held, drop_work, is_declared_on};
+use crate::committing::hand_reviewed;
+use crate::held::{Held, drop_work, is_declared_on, take_work};
 use crate::outcomes::no_draws;
 use amqp_arrivals::Looks;
 use amqp_ids::Drawn;
@@ -67,8 +67,7 @@ fn commit_frames<S: LayerBelow, L: Ledger>(
     ensures pays { Pays held.old.work held.new.work looks.old looks.new
         (length (frames_kept (kept held.old.work id))) 0 }
 {
-    let frames = strip_all(&mut held.work, id, frames, looks);
-    drop_work(held, id, home, looks);
+    let frames = take_work(held, id, home, frames, looks);
     hand_reviewed(below, frames, echoes)
 }
 

@@ -1,6 +1,6 @@
 //! Steps that are frames: plain ones, work under a transaction, and attaches of control links.
 
-ghost use Rattle.std.specs.Prelude.{◌≡◌, ◌<◌, ◌-◌, ◌^◌, true, false, Some, IfOk, MatchOption, is_some};
+ghost use Rattle.std.specs.Prelude.{◌≡◌, ◌<◌, ◌-◌, ◌^◌, true, false, Some, IfOk, MatchOption, OnErr, is_some};
 ghost use Rattle.amqp_txn_types.specs.declared.performatives.Frame.TheVariants as frames;
 ghost use Rattle.amqp_txn_types.specs.Frames.{txn, is_coordinator_attach, is_plain_frame, attaches_coordinator};
 ghost use Rattle.amqp_txn_types.specs.Works.{frame_of_work};
@@ -9,7 +9,7 @@ ghost use Rattle.amqp_txn_types.specs.Presumptive.{answered_under, presumed};
 ghost use Rattle.amqp_resource.specs.Draws.{is_kept};
 ghost use Rattle.amqp_resource.specs.Held.{SameHeld};
 ghost use Rattle.amqp_resource.specs.Opening.{OpensLink};
-ghost use Rattle.amqp_resource.specs.Posting.{Posted};
+ghost use Rattle.amqp_resource.specs.Posting.{Posted, PostedIf};
 ghost use Rattle.amqp_resource.specs.Leaving.{StepLeaves};
 ghost use Rattle.amqp_resource.specs.Looking.{Adds, frames_added};
 ghost use Rattle.amqp_resource.specs.Steps.{nothing_drawn};
@@ -91,24 +91,25 @@ fn copy_work(frame: &Frame) -> Result<TxnWorkFrame, NoMemory>
     }
 }
 
-/// Keeps a copy of a frame under a live id, and gives what it is answered at once. For want of
-/// memory what is kept is as it was.
+/// Keeps a copy of a frame under its id, and gives what it is answered at once; `None` where the
+/// id isn't live. For want of memory what is kept is as it was.
 fn keep_copy(
     work: &mut LiveWork,
     alloc: Global,
     frame: &Frame,
     id: TransactionId,
-) -> Result<Frames, NoMemory>
-    requires live { is_kept work.old id ≡ true }
-    requires under { txn frame.now ≡ Some id }
-    ensures posted { Posted work.old work.new frame.now id result }
+) -> Result<Option<Frames>, NoMemory>
+    requires { txn frame.now ≡ Some id }
+    ensures kept { IfOk result (λ kept. PostedIf work.old work.new frame.now id kept) }
+    ensures err { OnErr result (work.new ≡ work.old) }
     ensures counts { Adds work.old work.new 1 }
 {
     let given = answers_under(alloc, frame, id)?;
     let copy = copy_work(frame)?;
     match work.keep(&id, copy) {
-        Ok(()) => Ok(given),
-        Err((_unkept, error)) => Err(error),
+        Ok(true) => Ok(Some(given)),
+        Ok(false) => Ok(None),
+        Err(error) => Err(error),
     }
 }
 
@@ -126,10 +127,17 @@ pub fn keep_under(
         (Posted work.old work.new frame.now id) }
     ensures counts { Adds work.old work.new 1 }
 {
-    if !work.is_live(&id) {
-        return None;
+    match keep_copy(work, alloc, frame, id) {
+        Ok(Some(given)) => Some(Ok(given)),
+        Ok(None) => None,
+        Err(error) => {
+            if work.is_live(&id) {
+                Some(Err(error))
+            } else {
+                None
+            }
+        }
     }
-    Some(keep_copy(work, alloc, frame, id))
 }
 
 /// A frame under an id is kept.

@@ -2,21 +2,23 @@
 //! An id or a link is found by its hash. But for making room in a full table nothing here walks all
 //! of them.
 
-ghost use Rattle.std.specs.Prelude.{◌≡◌, ◌<◌, ◌↔◌, IsTrue, [], ℕ, true, false, ◌&&◌, ◌==◌, nat_eq, OnOk, IfSome, None, Some, cond, length};
+ghost use Rattle.std.specs.Prelude.{◌≡◌, ◌<◌, ◌↔◌, IsTrue, [], ℕ, true, false, ◌&&◌, ◌==◌, nat_eq, OnOk, IfSome, None, Some, cond, length, map, vec_capacity, ◌≤◌};
 ghost use Rattle.std.specs.List.{list_any};
 ghost use Rattle.std.specs.Map.{lookup};
 ghost use Rattle.std.specs.Option.{option_map};
 ghost use Rattle.std.specs.HashMap.{spare};
 ghost use Rattle.std.specs.HashSet.{spare as spare_ids};
 ghost use Rattle.amqp_txn_types.specs.declared.id.TransactionId.{TransactionId as Id};
+ghost use Rattle.amqp_txn_types.specs.Frames.{stripped};
 ghost use Rattle.amqp_txn_types.specs.Ids.{same_id};
 ghost use Rattle.amqp_arrivals.specs.Live.{frames_kept, home_of, kept};
 ghost use Rattle.amqp_record.specs.Live.{is_link};
-ghost use Rattle.amqp_resource.specs.Held.{HasRoom, SameHeld, Stands, Tied, ids_on, is_among, is_in, is_kept_on, kept_without, unless_on};
+ghost use Rattle.amqp_resource.specs.Held.{HasRoom, SameHeld, Stands, Tied, ids_on, is_among, is_in, is_kept_on, unless_on};
+ghost use Rattle.amqp_resource.specs.Transacting.{Ended};
 ghost use Rattle.amqp_resource.specs.Looking.{Adds, Pays, frames_for, frames_on};
 
 use amqp_arrivals::{LiveWork, Looks};
-use amqp_txn_types::{NoMemory, TransactionId};
+use amqp_txn_types::{Frame, Frames, NoMemory, TransactionId};
 use indexmap::{IndexMap, IndexSet};
 use std::alloc::Global;
 use std::sync::ledger::Ledger;
@@ -182,15 +184,34 @@ pub fn drop_work<L: Ledger>(
     looks: &mut Looks<L>,
 )
     requires { option_map home_of (kept held.old.work id) ≡ Some home }
-    ensures rest { (t : Id) → kept held.new.work t ≡ kept_without id held.old.work t }
-    ensures links { (k : ℕ) → is_in held.new.links.entries k ≡ is_in held.old.links.entries k }
-    ensures tied { Tied held.old → Tied held.new }
-    ensures opened { held.new.opened ≡ held.old.opened }
+    ensures ended { Ended held.old held.new id }
     ensures pays { Pays held.old.work held.new.work looks.old looks.new
         (length (frames_kept (kept held.old.work id))) 0 }
 {
     held.work.drop_all(&id, looks);
     drop_on(&mut held.links, home, id);
+}
+
+/// Ends a live id as [`drop_work`] does, and takes its frames out, in order, each without its
+/// transactional state, into an empty list that has room for them.
+pub fn take_work<L: Ledger>(
+    held: &mut Held,
+    id: TransactionId,
+    home: Option<u64>,
+    list: Vec<Frame>,
+    looks: &mut Looks<L>,
+) -> Frames
+    requires home { option_map home_of (kept held.old.work id) ≡ Some home }
+    requires none { list.items ≡ [] }
+    requires room { length (frames_kept (kept held.old.work id)) ≤ vec_capacity list }
+    ensures frames { result ≡ map stripped (frames_kept (kept held.old.work id)) }
+    ensures ended { Ended held.old held.new id }
+    ensures pays { Pays held.old.work held.new.work looks.old looks.new
+        (length (frames_kept (kept held.old.work id))) 0 }
+{
+    let frames = held.work.take_all(&id, list, looks);
+    drop_on(&mut held.links, home, id);
+    Frames::from_vec(frames)
 }
 
 /// Lets the ids go with what is kept for them.

@@ -26,6 +26,7 @@ loop-place-preserved g c =
                 w.move_place.ensures.places t
                 ∙ looked_at_live t id at.0 (cells.Live id at.0) (places_kept c.loop-place.index.entries t) held below at.1 refl (c.loop-place.invariant.index t);
             keys = w.move_place.ensures.keys ∙ c.loop-place.invariant.keys;
+            homes = w.move_place.ensures.homes ∙ c.loop-place.invariant.homes;
             spare = w.move_place.ensures.spare ∙ c.loop-place.invariant.spare;
             looks = omega (arith, w.in-Some.ensures.looks, c.loop-place.invariant.looks);
           })
@@ -38,6 +39,7 @@ loop-place-preserved g c =
                 (FiltersInPlace-more_no held there refl at);
             index = λ t. looked_at_dead t cells.Dead (places_kept c.loop-place.index.entries t) held below at refl (c.loop-place.invariant.index t);
             keys = c.loop-place.invariant.keys;
+            homes = c.loop-place.invariant.homes;
             spare = c.loop-place.invariant.spare;
             looks = same.1 ∙ c.loop-place.invariant.looks;
           })

@@ -9,9 +9,8 @@ use Rattle.amqp_resource.proofs.discharging.commit_live.Goals as goal
 pub returns-then-count-eq0-clause-answer : goal.returns-then-count-eq0-clause-answer
 returns-then-count-eq0-clause-answer g c =
     let told = g.S.Tells.told c.args.below.now in
-    let ended = c.drop_work.ensures in
     let none : frames_kept (kept c.args.held.now.work c.args.id) ≡ [] = no-frames _ (omega (arith, c.count-count.ensures, c.if-count-eq0.true)) in (
-      record { live = ended.rest; links = ended.links; tied = ended.tied; opened = ended.opened },
+      c.drop_work.ensures.ended,
       rw c.new.ensures (subst (λ (fs : List Frame). HandsAll told told (map stripped fs) (Ok (Ok []))) (sym none) (handed-nothing told)),
     )
 

@@ -27,11 +27,10 @@ returns-then-not-is_declared_on-clause-leaves g c =
 
 pub returns-then-rolls_back-clause-leaves : goal.returns-then-rolls_back-clause-leaves
 returns-then-rolls_back-clause-leaves g c =
-    let ended = c.drop_work.ensures in
     rw c.new.ensures (leaves-here _ _ _ _ _ _ _ _ (here-rolled_back c.args.held.now c.drop_work.new.held c.args.link c.args.payload.now c.args.discharge _ c.no_draws-then-rolls_back.ensures c.requires.message
     (sym c.rolls_back.ensures ∙ c.if-rolls_back.true) c.requires.opened
     (sym c.is_declared_on.ensures ∙ c.if-not-is_declared_on.false)
-    (record { live = ended.rest; links = ended.links; tied = ended.tied; opened = ended.opened })))
+    c.drop_work.ensures.ended))
 
 pub returns-in-Ok-Ok-clause-leaves : goal.returns-in-Ok-Ok-clause-leaves
 returns-in-Ok-Ok-clause-leaves g c =

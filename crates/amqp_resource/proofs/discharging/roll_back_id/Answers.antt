@@ -13,5 +13,4 @@ returns-in_default g c =
 pub returns : goal.returns
 returns g c =
     let live : is_kept c.args.held.now.work c.args.id ≡ true = live_home _ ∙ sym (ap is_some c.in-Some.ensures) in
-    let ended = c.drop_work.ensures in
-    (live, record { live = ended.rest; links = ended.links; tied = ended.tied; opened = ended.opened })
+    (live, c.drop_work.ensures.ended)

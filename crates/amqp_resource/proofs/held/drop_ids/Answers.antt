@@ -23,7 +23,7 @@ loop-id-preserved g c =
           ∙ gone_more (list_any (same_id t) (take i c.args.ids.now)) (same_id t id) (kept c.args.work.now t)
           ∙ sym (ap (λ b. cond b None (kept c.args.work.now t)) (list_any_more (same_id t) c.args.ids.now i id (omega arith) ∙ ap (λ x. list_any (same_id t) (take i c.args.ids.now) || same_id t x) (sym c.id-item.is)));
       pays = record {
-        ended = omega (arith, c.loop-id.invariant.pays.ended, taken.looks, taken.owed, most, more);
-        all = omega (arith, c.loop-id.invariant.pays.all, taken.looks, taken.owed, taken.frames);
+        ended = omega (arith, c.loop-id.invariant.pays.ended, taken.looked, taken.dead, most, more);
+        all = omega (arith, c.loop-id.invariant.pays.all, taken.looked, taken.dead, taken.frames);
       };
     }

@@ -1,4 +1,4 @@
-use Rattle.std.proofs.Common.{arith, ◌≡◌, ◌+◌, ◌^◌, ◌<◌, ap, sym, subst, zero-add, ◌∙◌, cond}
+use Rattle.std.proofs.Common.{arith, ◌+◌, ◌^◌, ◌<◌, ap, sym, subst, zero-add, ◌∙◌, cond}
 use Rattle.std.specs.Prelude.{count_by, is_some}
 use Rattle.amqp_txn_types.specs.Ids.{same_id}
 use Rattle.amqp_arrivals.specs.Cells.{Log, is_dead_cell, places_from, work_at, work_in}

@@ -1,0 +1,25 @@
+use Rattle.std.proofs.Common.{◌+◌, ◌++◌, ◌≤◌, ap, length, map, subst, sym, ◌∙◌}
+use Rattle.std.specs.Prelude.{vec_capacity}
+use Rattle.amqp_txn_types.specs.Frames.{stripped}
+use Rattle.amqp_arrivals.specs.Live.{LetsGo, Live, frames_kept, kept}
+use Rattle.amqp_arrivals.proofs.Counting.{lets_go, live_of}
+use Rattle.amqp_arrivals.proofs.Live.{agrees_ended, frames_are}
+use Rattle.amqp_arrivals.proofs.live_work.LiveWork.take_all.Goals as goal
+
+pub invariant_of-self : goal.invariant_of-self
+invariant_of-self g c = agrees_ended c.args.txn_id.now c.self.inside.log c.take_all.new.self c.self.invariant c.take_all.ensures.ended
+
+pub returns-clause-gone : goal.returns-clause-gone
+returns-clause-gone g c =
+    subst (λ (live : Live). LetsGo live (live_of c.take_all.new.self) c.args.txn_id.now c.args.looks.now c.take_all.new.looks) c.self.view_is
+    (lets_go c.args.txn_id.now c.self.inside.log c.take_all.new.self c.args.looks.now c.take_all.new.looks c.self.invariant c.take_all.ensures.ended c.take_all.ensures.looks)
+
+pub take_all-requires : goal.take_all-requires
+take_all-requires g c =
+    let same = frames_are c.self.inside.log.homes c.self.inside.log c.self.invariant c.args.txn_id.now ∙ ap (λ (live : Live). frames_kept (kept live c.args.txn_id.now)) c.self.view_is in
+    subst (λ fs. length c.args.list.items + length fs ≤ vec_capacity c.args.list) (sym same) c.requires
+
+pub returns-clause-list : goal.returns-clause-list
+returns-clause-list g c =
+    let same = frames_are c.self.inside.log.homes c.self.inside.log c.self.invariant c.args.txn_id.now ∙ ap (λ (live : Live). frames_kept (kept live c.args.txn_id.now)) c.self.view_is in
+    c.take_all.ensures.list ∙ ap (λ fs. c.args.list.items ++ map stripped fs) same

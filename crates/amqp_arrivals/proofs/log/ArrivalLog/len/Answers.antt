@@ -1,0 +1,7 @@
+use Rattle.std.proofs.Common.{ap, length, sym, ◌∙◌}
+use Rattle.amqp_arrivals.specs.Cells.{Log}
+use Rattle.amqp_arrivals.proofs.Kept.{length-homes}
+use Rattle.amqp_arrivals.proofs.log.ArrivalLog.len.Goals as goal
+
+pub returns : goal.returns
+returns c = c.len.ensures.len ∙ sym (length-homes c.self.inside.index.entries) ∙ ap (λ (log : Log). length log.homes) c.self.view_is

@@ -1,0 +1,18 @@
+use Rattle.std.proofs.Common.{◌≡◌, ◌≤◌, ◌+◌, ◌++◌, length, map, vec_capacity}
+use Rattle.std.specs.Prelude.{count_by}
+use Rattle.amqp_txn_types.specs.Frames.{stripped}
+use Rattle.amqp_arrivals.specs.Cells.{emptied, frames_in, is_dead_cell, places_from}
+use Rattle.amqp_arrivals.proofs.taking.strip_places.Given as goal
+
+abbrev pub invariant-loop-work : goal.invariant-loop-work
+invariant-loop-work g l = record {
+  places : l.places.items ≡ places_from 0 l.id l.cells.cells;
+  dead : l.dead ≡ count_by is_dead_cell l.cells.cells;
+  cells : emptied l.id l.cells.cells ≡ emptied l.id l.initial.cells.cells;
+  list : l.list.items ++ map stripped (frames_in l.cells.cells l.id) ≡ l.initial.list.items ++ map stripped (frames_in l.initial.cells.cells l.id);
+  room : length l.list.items + length (frames_in l.cells.cells l.id) ≤ vec_capacity l.list;
+  looks : l.looks + length (frames_in l.cells.cells l.id) ≡ l.initial.looks + length (frames_in l.initial.cells.cells l.id);
+}
+
+abbrev pub decreases-loop-work : goal.decreases-loop-work
+decreases-loop-work g l = length (frames_in l.cells.cells l.id)
