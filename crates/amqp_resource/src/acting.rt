@@ -59,7 +59,7 @@ fn control_step<S: LayerBelow, G: IdSource, L: Ledger>(
 }
 
 /// What a step does, before the log is closed up.
-fn act<S: LayerBelow, G: IdSource, L: Ledger>(
+fn step_by_kind<S: LayerBelow, G: IdSource, L: Ledger>(
     held: &mut Held,
     below: &mut S,
     alloc: Global,
@@ -103,7 +103,7 @@ pub fn take_step<S: LayerBelow, G: IdSource, L: Ledger>(
         (frames_ended held.old step.now) (frames_added step.now) }
     ensures few { owed held.new.work ≤ frame_count held.new.work }
 {
-    let result = act(held, below, alloc, step, ids, looks);
+    let result = step_by_kind(held, below, alloc, step, ids, looks);
     held.work.settle(looks);
     result
 }

@@ -20,7 +20,7 @@ ghost use Rattle.amqp_resource.specs.Steps.{nothing_drawn};
 
 use crate::committing::hand_reviewed;
 use crate::held::{Held, drop_work, is_declared_on, take_work};
-use crate::outcomes::no_draws;
+use crate::outcomes::{faulted, no_draws};
 use amqp_arrivals::Looks;
 use amqp_ids::Drawn;
 use amqp_layer::{Answers, Echoes, LayerBelow};
@@ -113,7 +113,7 @@ fn step_error_of(fault: CommitFault) -> StepError
 {
     match fault {
         CommitFault::NoMemory => StepError::NoMemory,
-        CommitFault::Refused { error, handed } => StepError::Fault { error, handed },
+        CommitFault::Refused { error, handed } => faulted(error, handed),
     }
 }
 

@@ -15,7 +15,7 @@ ghost use Rattle.amqp_resource.specs.Looking.{Adds, frames_added};
 ghost use Rattle.amqp_resource.specs.Steps.{nothing_drawn};
 
 use crate::held::{Held, open_link};
-use crate::outcomes::{fault_of, handed_with, no_draws};
+use crate::outcomes::{fault_of, faulted, handed_with, no_draws};
 use amqp_arrivals::{LiveWork, presumptive};
 use amqp_ids::Drawn;
 use amqp_layer::{Answers, LayerBelow, SessionInnerError, check_given, take_frame};
@@ -45,10 +45,7 @@ fn plain_step<S: LayerBelow>(
         Ok(answers) => Ok((no_draws(alloc), Reply::Frames(answers))),
         Err(refusal) => {
             let refused = handed_with(refusal, 0);
-            Err(StepError::Fault {
-                error: fault_of(refused.error),
-                handed: refused.handed,
-            })
+            Err(faulted(fault_of(refused.error), refused.handed))
         }
     }
 }
@@ -155,10 +152,7 @@ fn post_step<S: LayerBelow>(
     ensures counts { Adds held.old.work held.new.work 1 }
 {
     let Some(kept) = keep_under(&mut held.work, alloc, frame, id) else {
-        return Err(StepError::Fault {
-            error: SessionInnerError::UnknownTxnId,
-            handed: 0,
-        });
+        return Err(faulted(SessionInnerError::UnknownTxnId, 0));
     };
     let Ok(given) = kept else {
         return Err(StepError::NoMemory);
@@ -171,10 +165,7 @@ fn post_step<S: LayerBelow>(
                 window: None,
             }),
         )),
-        Err(error) => Err(StepError::Fault {
-            error: fault_of(error),
-            handed: 0,
-        }),
+        Err(error) => Err(faulted(fault_of(error), 0)),
     }
 }
 

@@ -2,10 +2,12 @@
 
 ghost use Rattle.std.specs.Prelude.{◌≡◌, ◌<◌, ◌+◌, ◌^◌, cond, false};
 ghost use Rattle.amqp_sessions.specs.declared.transacting.CommitFault.TheVariants as commit_faults;
+ghost use Rattle.amqp_record.specs.declared.stop.StepError.TheVariants as errors;
 ghost use Rattle.amqp_resource.specs.Steps.{fault_of, is_unknown, nothing_drawn};
 
 use amqp_ids::Drawn;
 use amqp_layer::{SessionInnerError, TakeError};
+use amqp_record::StepError;
 use amqp_sessions::CommitFault;
 use std::alloc::Global;
 
@@ -39,6 +41,13 @@ pub fn handed_with(refusal: TakeError, before: usize) -> HandError
         error,
         handed: if taken { before + 1 } else { before },
     }
+}
+
+/// The fault that a step is answered with, so many of its frames having been taken.
+pub fn faulted(error: SessionInnerError, handed: usize) -> StepError
+    ensures { result ≡ errors.Fault error handed }
+{
+    StepError::Fault { error, handed }
 }
 
 /// The ids of a step that draws none.

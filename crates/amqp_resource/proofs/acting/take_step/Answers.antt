@@ -5,7 +5,7 @@ use Rattle.amqp_resource.proofs.acting.take_step.Goals as goal
 
 pub returns-clause-leaves : goal.returns-clause-leaves
 returns-clause-leaves g c =
-    leaves-moved _ _ _ c.args.held.now c.act-result.new.held _ _ _ c.args.step.now c.act-result.result (record { live = c.settle.ensures.same.kept; links = λ k. refl; opened = refl }) c.act-result.ensures.leaves
+    leaves-moved _ _ _ c.args.held.now c.step_by_kind-result.new.held _ _ _ c.args.step.now c.step_by_kind-result.result (record { live = c.settle.ensures.same.kept; links = λ k. refl; opened = refl }) c.step_by_kind-result.ensures.leaves
 
 pub returns-clause-pays : goal.returns-clause-pays
-returns-clause-pays g c = pays_settled _ _ _ _ _ _ _ _ c.act-result.ensures.pays c.settle.ensures.same.frames c.settle.ensures.looks
+returns-clause-pays g c = pays_settled _ _ _ _ _ _ _ _ c.step_by_kind-result.ensures.pays c.settle.ensures.same.frames c.settle.ensures.looks

@@ -11,11 +11,11 @@ use Rattle.amqp_resource.proofs.frame_steps.post_step.Goals as goal
 
 pub returns-in_default-clause-leaves : goal.returns-in_default-clause-leaves
 returns-in_default-clause-leaves g c =
-    leaves-here _ _ _ _ _ _ _ _ (here-dead c.args.held.now _ c.args.frame.now c.args.id c.requires (sym c.in_default.ensures.live) (record {
+    rw c.faulted.ensures (leaves-here _ _ _ _ _ _ _ _ (here-dead c.args.held.now _ c.args.frame.now c.args.id c.requires (sym c.in_default.ensures.live) (record {
       live = λ t. ap (λ live. kept live t) c.in_default.ensures.posted;
       links = λ k. refl;
       opened = refl;
-    }))
+    })))
 
 pub returns-in_default-kept-clause-leaves : goal.returns-in_default-kept-clause-leaves
 returns-in_default-kept-clause-leaves g c =
@@ -38,6 +38,6 @@ returns-in-Err-clause-leaves g c =
     let some : 1 ≤ length (answered_under c.args.id c.args.frame.now) = subst (λ (fs : List Frame). 1 ≤ length fs) (c.as_slice.ensures ∙ posted.0) c.in-Err.ensures.some in
     let steady = c.in-Err.ensures.told.steady in
     let known = c.fault_of.ensures.known in
-    leaves-frame _ _ _ _ _ c.args.below.now c.check_given.new.below c.args.frame.now _ (λ f. keeps-post_refused c.args.held.now _ (g.S.Tells.told c.args.below.now) (g.S.Tells.told c.check_given.new.below) c.args.frame.now c.args.id c.fault_of.result c.in-Err.error c.requires (sym c.in-Some.ensures.live)
+    rw c.faulted-in-Err.ensures (leaves-frame _ _ _ _ _ c.args.below.now c.check_given.new.below c.args.frame.now _ (λ f. keeps-post_refused c.args.held.now _ (g.S.Tells.told c.args.below.now) (g.S.Tells.told c.check_given.new.below) c.args.frame.now c.args.id c.fault_of.result c.in-Err.error c.requires (sym c.in-Some.ensures.live)
     some known c.fault_of.ensures.fault steady (fits-posted c.args.held.now _ c.args.id c.args.frame.now posted.1 (λ k. refl) refl f))
-    (when_known _ _ _ known c.in-Err.ensures.told.cause) tt (when_known _ _ _ known tt) tt steady.fixed steady.later steady.reviews
+    (when_known _ _ _ known c.in-Err.ensures.told.cause) tt (when_known _ _ _ known tt) tt steady.fixed steady.later steady.reviews)

@@ -2,7 +2,7 @@ use Rattle.std.proofs.Common.{refl}
 use Rattle.amqp_resource.proofs.Keeping.{here-end}
 use Rattle.amqp_resource.proofs.Leaving.{leaves-here, local_error, remote_error}
 use Rattle.amqp_resource.proofs.Looked.{pays_adds, pays_none}
-use Rattle.amqp_resource.proofs.acting.act.Goals as goal
+use Rattle.amqp_resource.proofs.acting.step_by_kind.Goals as goal
 
 pub returns-in-Frame-clause-leaves : goal.returns-in-Frame-clause-leaves
 returns-in-Frame-clause-leaves g c = rw c.in-Frame.is c.frame_step.ensures.leaves
