@@ -1,7 +1,7 @@
 -- What the transactional calls leave of what a session tells.
 use Rattle.std.proofs.Common.{◌≡◌, ℕ, ◌≤◌, None, Err, refl, arith}
-use Rattle.amqp_layer.specs.Told.{Checks, Fixed, Steady, Told}
-use Rattle.amqp_txn_types.specs.Counts.{one_more}
+use Rattle.amqp_resource.specs.Words.{Fixed, Steady, Told, one_more}
+use Rattle.amqp_layer.specs.Told.{Checks}
 
 -- what is told by a session that tells no list
 abbrev pub listless : ℕ → ℕ → Fixed → Told

@@ -2,24 +2,12 @@
 use Rattle.std.proofs.Common.{◌≡◌, ℕ, ◌+◌, ◌≤◌, Bool, true, false, cond, Option, Some, None, Result, Ok, Err, List, [], refl, sym, ◌∙◌, ap, arith, subst}
 use Rattle.std.specs.Prelude.{◌==◌, is_some}
 use Rattle.std.proofs.lemmas.Bool.{ne_eqb}
-use Rattle.amqp_txn_types.specs.declared.id.TransactionId.{TransactionId}
-use Rattle.amqp_txn_types.specs.declared.small.Accepted.{Accepted}
-use Rattle.amqp_txn_types.specs.declared.small.TransactionError.{TransactionError}
+use Rattle.amqp_resource.specs.Words.{Accepted, AllocTxnIdError, Answers, CommitFault, DrawnIds, Entry, Frame, Held, Told, TransactionError, TransactionId, is_open, kept, same_id, with_frame}
 use Rattle.amqp_txn_types.specs.declared.small.TransactionError.TheVariants as transaction_errors
-use Rattle.amqp_txn_types.specs.declared.performatives.Frame.{Frame}
-use Rattle.amqp_layer.specs.declared.answers.Answers.{Answers}
-use Rattle.amqp_sessions.specs.declared.transacting.AllocTxnIdError.{AllocTxnIdError}
 use Rattle.amqp_sessions.specs.declared.transacting.AllocTxnIdError.TheVariants as allocations
-use Rattle.amqp_sessions.specs.declared.transacting.CommitFault.{CommitFault}
 use Rattle.amqp_sessions.specs.declared.transacting.CommitFault.TheVariants as commit_faults
-use Rattle.amqp_ids.specs.Drawn.{DrawnIds}
-use Rattle.amqp_layer.specs.Told.{Told}
-use Rattle.amqp_txn_types.specs.Ids.{same_id}
-use Rattle.amqp_record.specs.declared.entry.Entry.{Entry}
-use Rattle.amqp_record.specs.Links.{is_open}
 use Rattle.amqp_record.proofs.Whole.{open_below}
-use Rattle.amqp_resource.specs.declared.held.Held.{Held}
-use Rattle.amqp_arrivals.specs.Live.{Kept, kept, with_frame}
+use Rattle.amqp_arrivals.specs.Live.{Kept}
 use Rattle.amqp_resource.specs.Held.{SameHeld, Stands, Tied, ids_on, is_among, is_in, is_kept_on}
 use Rattle.amqp_resource.specs.Transacting.{AllocatedIn, CommittedIn, CommittedWith, Ended, RolledBackIn}
 use Rattle.amqp_resource.specs.Keeping.{Fits}

@@ -5,42 +5,26 @@ use Rattle.std.specs.List.{cons_option, list_all, zip}
 use Rattle.std.specs.Map.{lookup}
 use Rattle.std.specs.Option.{option_map}
 use Rattle.std.proofs.lemmas.List.{length-append, length-map, map-append}
-use Rattle.amqp_txn_types.specs.declared.performatives.Frame.{Frame}
+use Rattle.amqp_resource.specs.Words.{AllWindowsFit, Answers, CommitFault, DeliveryState, Frame, Held, Live, NoMemory, Refusal, Reviews, SessionInnerError, Told, TookFrames, TransactionError, TransactionId, frame_of_work, frames_kept, grown, is_bare, is_no_memory, is_under_txn, kept, refusal_of, same_id, stripped, taken_frames}
 use Rattle.amqp_txn_types.specs.declared.performatives.Frame.TheVariants as frames
-use Rattle.amqp_txn_types.specs.Frames.{is_transfer, stripped}
-use Rattle.amqp_layer.specs.declared.answers.Answers.{Answers}
-use Rattle.amqp_layer.specs.declared.inner_error.SessionInnerError.{SessionInnerError}
-use Rattle.amqp_layer.specs.Faults.{is_no_memory}
-use Rattle.amqp_layer.specs.declared.refusal.Refusal.{Refusal}
-use Rattle.amqp_layer.specs.Told.{Reviews, Told, refused_after, refusal_of}
-use Rattle.amqp_txn_types.specs.Growing.{grown}
+use Rattle.amqp_txn_types.specs.Frames.{is_transfer}
+use Rattle.amqp_layer.specs.Told.{refused_after}
 use Rattle.amqp_txn_types.proofs.Growing.{grown-grown, grown-nil}
-use Rattle.amqp_layer.specs.Windows.{WindowFits, AllWindowsFit}
+use Rattle.amqp_layer.specs.Windows.{WindowFits}
 use Rattle.amqp_record.proofs.Whole.{zip-append, length-AllWindowsFit}
-use Rattle.amqp_layer.specs.Taking.{TookFrames, taken_frames}
-use Rattle.amqp_txn_types.specs.declared.items.NoMemory.{NoMemory}
-use Rattle.amqp_txn_types.specs.declared.small.TransactionError.{TransactionError}
-use Rattle.amqp_txn_types.specs.declared.small.TransactionError.TheVariants as conditions
-use Rattle.amqp_txn_types.specs.Frames.{is_under_txn, state_of_outcomes, stripped_state}
-use Rattle.amqp_txn_types.specs.Works.{frame_of_work}
+use Rattle.amqp_txn_types.specs.declared.small.TransactionError.TheVariants as transaction_errors
+use Rattle.amqp_txn_types.specs.Frames.{state_of_outcomes, stripped_state}
 use Rattle.amqp_txn_types.specs.declared.frames.TxnWorkFrame.{TxnWorkFrame}
 use Rattle.amqp_txn_types.specs.declared.frames.TxnWorkFrame.TheVariants as works
-use Rattle.amqp_txn_types.specs.declared.delivery.DeliveryState.{DeliveryState}
 use Rattle.amqp_txn_types.specs.declared.delivery.DeliveryState.TheVariants as states
 use Rattle.amqp_txn_types.specs.declared.delivery.Outcome.{Outcome}
 use Rattle.amqp_txn_types.specs.declared.delivery.Outcome.TheVariants as outcomes
 use Rattle.amqp_layer.specs.declared.inner_error.SessionInnerError.TheVariants as faults
 use Rattle.amqp_layer.specs.declared.verdict.Verdict.TheVariants as verdicts
-use Rattle.amqp_layer.specs.Reviewing.{is_bare}
-use Rattle.amqp_sessions.specs.declared.transacting.CommitFault.{CommitFault}
 use Rattle.amqp_sessions.specs.declared.transacting.CommitFault.TheVariants as commit_faults
-use Rattle.amqp_txn_types.specs.declared.id.TransactionId.{TransactionId}
-use Rattle.amqp_txn_types.specs.Ids.{same_id}
 use Rattle.amqp_arrivals.specs.declared.cell.Cell.{Cell}
 use Rattle.amqp_arrivals.specs.declared.cell.Cell.TheVariants as cells
 use Rattle.amqp_arrivals.specs.Cells.{frame_under, frames_in, frames_of}
-use Rattle.amqp_arrivals.specs.Live.{Live, frames_kept, kept}
-use Rattle.amqp_resource.specs.declared.held.Held.{Held}
 use Rattle.amqp_resource.specs.Draws.{is_kept}
 use Rattle.amqp_resource.specs.Transacting.{CommittedIn, CommittedWith, Ended}
 use Rattle.amqp_resource.specs.Committing.{HandCause, HandedAll, HandedSome, HandedPart, HandsAll, OnNoEchoes, OnVetoed, given_of, vetoed_of}
@@ -222,7 +206,7 @@ reviewed-handed old mid new list result r h = record {
 }
 
 -- frames that were vetoed
-pub reviewed-vetoed : (old new : Told) (list : List Frame) → 1 ≤ length list → Reviews old new list (Ok verdicts.Veto) → HandsAll old new list (Ok (Err conditions.Rollback))
+pub reviewed-vetoed : (old new : Told) (list : List Frame) → 1 ≤ length list → Reviews old new list (Ok verdicts.Veto) → HandsAll old new list (Ok (Err transaction_errors.Rollback))
 reviewed-vetoed old new list some r = record {
   handed = (refl, record { some = some; taken = r.taken });
   opened = r.opened;
@@ -263,7 +247,7 @@ handed-nothing told = record {
 -- ---- what is called beside
 
 pub vetoed-weaker : (result : Result (Result (List Answers) TransactionError) CommitFault) (P Q : Type 0) → (P → Q) → OnVetoed result P → OnVetoed result Q
-vetoed-weaker (Ok (Err conditions.Rollback)) P Q f x = f x
+vetoed-weaker (Ok (Err transaction_errors.Rollback)) P Q f x = f x
 vetoed-weaker _ P Q f x = tt
 
 -- frames that were handed have an answer each
@@ -287,7 +271,7 @@ committed-with h g told now id kept U (Err (commit_faults.Refused error at)) x h
 -- a live id
 pub committed-in : (h g : Held) (told now : Told) (id : TransactionId) (U : Type 0) (result : Result (Result (List Answers) TransactionError) CommitFault) → is_kept h.work id ≡ true → CommittedWith h g told now id (frames_kept (kept h.work id)) U result → CommittedIn h g told now id U result
 committed-in h g told now id U (Ok (Ok echoes)) live x = (live, x)
-committed-in h g told now id U (Ok (Err conditions.UnknownId)) live x = let is : conditions.UnknownId ≡ conditions.Rollback = x.1.handed.0 in absurd (cc is)
-committed-in h g told now id U (Ok (Err conditions.Rollback)) live x = (live, x)
-committed-in h g told now id U (Ok (Err conditions.Timeout)) live x = (live, x)
+committed-in h g told now id U (Ok (Err transaction_errors.UnknownId)) live x = let is : transaction_errors.UnknownId ≡ transaction_errors.Rollback = x.1.handed.0 in absurd (cc is)
+committed-in h g told now id U (Ok (Err transaction_errors.Rollback)) live x = (live, x)
+committed-in h g told now id U (Ok (Err transaction_errors.Timeout)) live x = (live, x)
 committed-in h g told now id U (Err fault) live x = (live, x)

@@ -2,45 +2,22 @@
 use Rattle.std.proofs.Common.{◌≡◌, ℕ, zero, suc, ◌+◌, ◌≤◌, Bool, true, false, cond, not, ◌&&◌, Option, Some, None, Result, Ok, Err, List, [], ◌∷◌, length, map, take, refl, sym, ◌∙◌, ap, arith, subst, inl, inr}
 use Rattle.std.specs.Prelude.{◌==◌, is_some, MatchBool}
 use Rattle.std.proofs.lemmas.Bool.{eqb-true}
-use Rattle.amqp_txn_types.specs.declared.id.TransactionId.{TransactionId}
+use Rattle.amqp_resource.specs.Words.{Answers, Attach, CommitFault, ControlMessageBody, Discharge, DrawnIds, Frame, Held, NoMemory, Opens, Reply, SessionInnerError, SessionStopReason, Steady, Step, StepError, TakesFrame, Told, TookFrames, TransactionId, Verdict, answered_under, attaches_coordinator, frames_kept, is_coordinator_attach, is_link, is_plain_by, is_plain_frame, is_rollback, kept, message_of, refusal_of, same_id, stripped, taken_frames, txn, with_frame}
 use Rattle.amqp_txn_types.specs.declared.small.TransactionError.TheVariants as transaction_errors
 use Rattle.amqp_txn_types.specs.declared.small.AmqpError.TheVariants as amqp_errors
-use Rattle.amqp_txn_types.specs.declared.delivery.SessionStopReason.{SessionStopReason}
-use Rattle.amqp_txn_types.specs.declared.performatives.Attach.{Attach}
-use Rattle.amqp_txn_types.specs.declared.performatives.Frame.{Frame}
 use Rattle.amqp_txn_types.specs.declared.performatives.Frame.TheVariants as frames
-use Rattle.amqp_txn_types.specs.Frames.{attaches_coordinator, is_coordinator_attach, is_plain_by, is_plain_frame, stripped, txn}
-use Rattle.amqp_txn_codec.specs.declared.message.Discharge.{Discharge}
-use Rattle.amqp_txn_codec.specs.declared.message.ControlMessageBody.{ControlMessageBody}
 use Rattle.amqp_txn_codec.specs.declared.message.ControlMessageBody.TheVariants as messages
-use Rattle.amqp_txn_codec.specs.Reading.{message_of}
-use Rattle.amqp_txn_types.specs.declared.items.NoMemory.{NoMemory}
-use Rattle.amqp_layer.specs.declared.answers.Answers.{Answers}
-use Rattle.amqp_layer.specs.declared.verdict.Verdict.{Verdict}
-use Rattle.amqp_layer.specs.declared.inner_error.SessionInnerError.{SessionInnerError}
 use Rattle.amqp_layer.specs.declared.inner_error.SessionInnerError.TheVariants as faults
-use Rattle.amqp_sessions.specs.declared.transacting.CommitFault.{CommitFault}
 use Rattle.amqp_sessions.specs.declared.transacting.CommitFault.TheVariants as commit_faults
-use Rattle.amqp_ids.specs.Drawn.{DrawnIds}
-use Rattle.amqp_layer.specs.Told.{Opens, Steady, Told, refusal_of}
-use Rattle.amqp_txn_types.specs.Ids.{same_id}
-use Rattle.amqp_record.specs.declared.step.Step.{Step}
 use Rattle.amqp_record.specs.declared.step.Step.TheVariants as steps
-use Rattle.amqp_record.specs.declared.reply.Reply.{Reply}
 use Rattle.amqp_record.specs.declared.reply.Reply.TheVariants as replies
 use Rattle.amqp_record.specs.declared.reply.RejectText.TheVariants as texts
-use Rattle.amqp_record.specs.declared.stop.StepError.{StepError}
 use Rattle.amqp_record.specs.declared.stop.StepError.TheVariants as errors
-use Rattle.amqp_record.specs.Live.{is_link}
-use Rattle.amqp_txn_types.specs.Presumptive.{answered_under}
-use Rattle.amqp_txn_codec.specs.Discharges.{is_rollback}
 use Rattle.amqp_record.proofs.Whole.{plain_none}
-use Rattle.amqp_resource.specs.declared.held.Held.{Held}
 use Rattle.amqp_layer.specs.declared.taking.TakeError.{TakeError}
-use Rattle.amqp_arrivals.specs.Live.{Kept, frames_kept, kept, with_frame}
+use Rattle.amqp_arrivals.specs.Live.{Kept}
 use Rattle.amqp_resource.specs.Held.{SameHeld, Tied, ids_on, is_in, is_kept_on, unless_on}
 use Rattle.amqp_resource.specs.Draws.{DrewLive, DrewUnused, is_kept}
-use Rattle.amqp_layer.specs.Taking.{TakesFrame, TookFrames, taken_frames}
 use Rattle.amqp_resource.specs.Committing.{HandsAll, HandsSurely}
 use Rattle.amqp_resource.specs.Transacting.{CommittedWith, Ended, step_error_of}
 use Rattle.amqp_resource.specs.Steps.{StepCause, AddsRefusal, AnswersEnd, EndGave, FrameMayFault, IsDead, IsPost, IsUnder, Refused, UnderDead, ended_by, fault_of, has_error, is_live_under, is_unknown, message_hands, message_takes_memory, nothing_drawn, step_hands, takes_memory}

@@ -6,12 +6,9 @@ use Rattle.std.specs.Option.{option_map}
 use Rattle.std.specs.Map.{lookup}
 use Rattle.std.specs.HashSet.{HashSet, keys}
 use Rattle.std.proofs.lemmas.Bool.{eqb-true, and_right}
-use Rattle.amqp_txn_types.specs.declared.id.TransactionId.{TransactionId}
-use Rattle.amqp_txn_types.specs.Ids.{same_id}
+use Rattle.amqp_resource.specs.Words.{Held, Live, TransactionId, home_of, is_link, kept, same_id}
 use Rattle.amqp_record.proofs.Ids.{same_id-eq, same_id-sym}
-use Rattle.amqp_resource.specs.declared.held.Held.{Held}
-use Rattle.amqp_record.specs.Live.{is_link}
-use Rattle.amqp_arrivals.specs.Live.{Kept, Live, home_of, kept}
+use Rattle.amqp_arrivals.specs.Live.{Kept}
 use Rattle.amqp_resource.specs.Held.{OpenLinks, SameHeld, Tied, ids_on, is_among, is_in, is_kept_on, kept_without, unless_on}
 
 -- ---- one kept-up changed

@@ -1,33 +1,16 @@
 -- What a step leaves, by whether it makes a call below.
 use Rattle.std.proofs.Common.{◌≡◌, ◌≤◌, ℕ, Bool, true, false, Option, Some, None, Result, Ok, Err, List, [], ◌∷◌, refl, sym, ◌∙◌, ap, arith, subst}
 use Rattle.std.specs.Prelude.{⊤, is_some, MatchBool, IfOk}
-use Rattle.amqp_txn_types.specs.declared.id.TransactionId.{TransactionId}
-use Rattle.amqp_txn_types.specs.declared.delivery.Error.{Error}
-use Rattle.amqp_txn_types.specs.declared.items.NoMemory.{NoMemory}
-use Rattle.amqp_txn_types.specs.declared.small.TransactionError.TheVariants as conditions
-use Rattle.amqp_txn_types.specs.declared.performatives.Frame.{Frame}
-use Rattle.amqp_txn_types.specs.Counts.{Rose}
+use Rattle.amqp_resource.specs.Words.{Answers, CommitFault, Discharge, DrawnIds, Drew, Error, Frame, Held, NoMemory, Reply, Rose, SessionInnerError, Step, StepError, Told, TransactionId, Verdict, is_rollback, message_of}
+use Rattle.amqp_txn_types.specs.declared.small.TransactionError.TheVariants as transaction_errors
 use Rattle.amqp_txn_codec.specs.declared.message.ControlMessageBody.TheVariants as messages
-use Rattle.amqp_txn_codec.specs.declared.message.Discharge.{Discharge}
-use Rattle.amqp_txn_codec.specs.Discharges.{is_rollback}
-use Rattle.amqp_txn_codec.specs.Reading.{message_of}
-use Rattle.amqp_layer.specs.declared.answers.Answers.{Answers}
-use Rattle.amqp_layer.specs.declared.inner_error.SessionInnerError.{SessionInnerError}
-use Rattle.amqp_layer.specs.declared.verdict.Verdict.{Verdict}
 use Rattle.amqp_layer.specs.declared.verdict.Verdict.TheVariants as verdicts
-use Rattle.amqp_layer.specs.Told.{Told, open_told}
-use Rattle.amqp_ids.specs.Drawn.{DrawnIds}
-use Rattle.amqp_ids.specs.Ids.{Drew}
+use Rattle.amqp_layer.specs.Told.{open_told}
 use Rattle.amqp_ids.proofs.Draws.{Drew-none}
-use Rattle.amqp_record.specs.declared.step.Step.{Step}
 use Rattle.amqp_record.specs.declared.step.Step.TheVariants as steps
-use Rattle.amqp_record.specs.declared.reply.Reply.{Reply}
 use Rattle.amqp_record.specs.declared.reply.Reply.TheVariants as replies
-use Rattle.amqp_record.specs.declared.stop.StepError.{StepError}
 use Rattle.amqp_record.specs.declared.stop.StepError.TheVariants as errors
-use Rattle.amqp_sessions.specs.declared.transacting.CommitFault.{CommitFault}
 use Rattle.amqp_sessions.specs.declared.transacting.CommitFault.TheVariants as commit_faults
-use Rattle.amqp_resource.specs.declared.held.Held.{Held}
 use Rattle.amqp_resource.specs.Held.{SameHeld}
 use Rattle.amqp_resource.specs.Committing.{HandsSurely, OnNoEchoes}
 use Rattle.amqp_resource.specs.Transacting.{step_error_of}
@@ -59,7 +42,7 @@ commit_calls k payload discharge d (echo ∷ echoes) P m b idle = subst (λ (c :
 -- ---- vetoes
 
 if_veto : (P Q : Type 0) (reply : Reply) → (P → Q) → IfVeto reply P → IfVeto reply Q
-if_veto P Q (replies.Rejected conditions.Rollback text) f x = f x
+if_veto P Q (replies.Rejected transaction_errors.Rollback text) f x = f x
 if_veto P Q _ f x = tt
 
 -- what makes no call below is no veto

@@ -4,17 +4,10 @@ use Rattle.std.specs.Prelude.{get_or, is_some}
 use Rattle.std.specs.List.{sum_by}
 use Rattle.std.proofs.lemmas.List.{take_more}
 use Rattle.std.proofs.lemmas.List.Sums.{sum_by-append, sum_by-cons}
-use Rattle.amqp_txn_types.specs.declared.id.TransactionId.{TransactionId}
-use Rattle.amqp_txn_types.specs.declared.performatives.Frame.{Frame}
-use Rattle.amqp_txn_types.specs.Frames.{txn}
-use Rattle.amqp_txn_codec.specs.declared.message.Discharge.{Discharge}
+use Rattle.amqp_resource.specs.Words.{Discharge, Entry, Frame, Held, Live, Step, TransactionId, frame_count, frames_kept, kept, message_of, owed, txn}
 use Rattle.amqp_txn_codec.specs.declared.message.ControlMessageBody.TheVariants as messages
-use Rattle.amqp_txn_codec.specs.Reading.{message_of}
-use Rattle.amqp_arrivals.specs.Live.{Kept, Live, frame_count, frames_kept, kept, owed}
-use Rattle.amqp_record.specs.declared.step.Step.{Step}
+use Rattle.amqp_arrivals.specs.Live.{Kept}
 use Rattle.amqp_record.specs.declared.step.Step.TheVariants as steps
-use Rattle.amqp_record.specs.declared.entry.Entry.{Entry}
-use Rattle.amqp_resource.specs.declared.held.Held.{Held}
 use Rattle.amqp_resource.specs.Held.{is_in, is_kept_on}
 use Rattle.amqp_resource.specs.Drive.{work_count}
 use Rattle.amqp_resource.specs.Looking.{Adds, Pays, dues, frames_added, frames_ended, frames_on, message_ends}

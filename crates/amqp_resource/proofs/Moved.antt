@@ -1,21 +1,10 @@
 -- What a step leaves, where what is kept of it then stands in other memory.
 use Rattle.std.proofs.Common.{Result, Ok, Err, List, ◌∙◌, ap, subst, sym}
 use Rattle.std.specs.Prelude.{is_some}
-use Rattle.amqp_txn_types.specs.declared.id.TransactionId.{TransactionId}
-use Rattle.amqp_txn_types.specs.declared.performatives.Frame.{Frame}
-use Rattle.amqp_layer.specs.declared.answers.Answers.{Answers}
-use Rattle.amqp_layer.specs.Told.{Told}
-use Rattle.amqp_txn_types.specs.declared.small.Accepted.{Accepted}
-use Rattle.amqp_txn_types.specs.declared.small.TransactionError.{TransactionError}
-use Rattle.amqp_txn_types.specs.declared.small.TransactionError.TheVariants as conditions
-use Rattle.amqp_sessions.specs.declared.transacting.CommitFault.{CommitFault}
+use Rattle.amqp_resource.specs.Words.{Accepted, Answers, CommitFault, DrawnIds, Frame, Held, Reply, Step, StepError, Told, TransactionError, TransactionId}
+use Rattle.amqp_txn_types.specs.declared.small.TransactionError.TheVariants as transaction_errors
 use Rattle.amqp_sessions.specs.declared.transacting.CommitFault.TheVariants as commit_faults
-use Rattle.amqp_ids.specs.Drawn.{DrawnIds}
-use Rattle.amqp_record.specs.declared.step.Step.{Step}
-use Rattle.amqp_record.specs.declared.reply.Reply.{Reply}
-use Rattle.amqp_record.specs.declared.stop.StepError.{StepError}
 use Rattle.amqp_record.specs.declared.stop.StepError.TheVariants as errors
-use Rattle.amqp_resource.specs.declared.held.Held.{Held}
 use Rattle.amqp_resource.specs.Held.{SameHeld}
 use Rattle.amqp_resource.specs.Steps.{OnNoMemory}
 use Rattle.amqp_resource.specs.Keeping.{AnswerKeeps, Keeps}
@@ -60,7 +49,7 @@ with_moved h m g told now id all U (Err (commit_faults.Refused error handed)) sa
 
 pub committed_moved : (h m g : Held) (told now : Told) (id : TransactionId) (U : Type 0) (result : Result (Result (List Answers) TransactionError) CommitFault) → SameHeld m g → CommittedIn h m told now id U result → CommittedIn h g told now id U result
 committed_moved h m g told now id U (Ok (Ok echoes)) same x = (x.0, with_moved h m g told now id _ U (Ok (Ok echoes)) same x.1)
-committed_moved h m g told now id U (Ok (Err conditions.UnknownId)) same x = (x.0, same_then h m g x.1 same, x.2)
+committed_moved h m g told now id U (Ok (Err transaction_errors.UnknownId)) same x = (x.0, same_then h m g x.1 same, x.2)
 committed_moved h m g told now id U (Ok (Err error)) same x = (x.0, with_moved h m g told now id _ U (Ok (Err error)) same x.1)
 committed_moved h m g told now id U (Err fault) same x = (x.0, with_moved h m g told now id _ U (Err fault) same x.1)
 

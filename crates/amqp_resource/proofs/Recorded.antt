@@ -4,41 +4,21 @@ use Rattle.std.specs.Prelude.{is_some, MatchBool}
 use Rattle.std.specs.List.{zip}
 use Rattle.std.proofs.lemmas.List.{length-map}
 use Rattle.std.proofs.lemmas.Bool.{and_parts}
-use Rattle.amqp_txn_types.specs.declared.id.TransactionId.{TransactionId}
+use Rattle.amqp_resource.specs.Words.{AllWindowsFit, Answer, AnswerControl, AnswerDeclare, AnswerDischarge, AnswerFrame, AnswerLinkEnd, Answers, ControlMessageBody, Discharge, DrawnIds, Entry, Frame, Held, IsLegal, Reply, Step, StepError, Told, TransactionId, declares, discharges, given_by, grown, hands, home, is_coordinator_attach, is_link, is_live, is_open, is_plain_by, is_plain_frame, is_rollback, is_under, is_veto, message_of, opened_by, refused_by, stripped, txn}
 use Rattle.amqp_txn_types.specs.declared.small.AmqpError.TheVariants as amqp_errors
 use Rattle.amqp_txn_types.specs.declared.small.TransactionError.TheVariants as transaction_errors
-use Rattle.amqp_txn_types.specs.declared.performatives.Frame.{Frame}
-use Rattle.amqp_txn_types.specs.Frames.{txn, is_coordinator_attach, is_plain_by, is_plain_frame, stripped}
-use Rattle.amqp_txn_types.specs.Growing.{grown}
 use Rattle.amqp_txn_types.specs.Ids.{is_some_id}
 use Rattle.amqp_txn_types.proofs.Growing.{grown-nil}
-use Rattle.amqp_txn_codec.specs.declared.message.Discharge.{Discharge}
-use Rattle.amqp_txn_codec.specs.declared.message.ControlMessageBody.{ControlMessageBody}
 use Rattle.amqp_txn_codec.specs.declared.message.ControlMessageBody.TheVariants as messages
-use Rattle.amqp_txn_codec.specs.Reading.{message_of}
-use Rattle.amqp_txn_codec.specs.Discharges.{is_rollback}
-use Rattle.amqp_layer.specs.declared.answers.Answers.{Answers}
-use Rattle.amqp_layer.specs.Told.{Told}
-use Rattle.amqp_layer.specs.Windows.{AllWindowsFit}
-use Rattle.amqp_ids.specs.Drawn.{DrawnIds}
-use Rattle.amqp_record.specs.declared.entry.Entry.{Entry}
-use Rattle.amqp_record.specs.declared.step.Step.{Step}
 use Rattle.amqp_record.specs.declared.step.Step.TheVariants as steps
-use Rattle.amqp_record.specs.declared.reply.Reply.{Reply}
 use Rattle.amqp_record.specs.declared.reply.Reply.TheVariants as replies
 use Rattle.amqp_record.specs.declared.reply.RejectText.TheVariants as texts
-use Rattle.amqp_record.specs.declared.stop.StepError.{StepError}
 use Rattle.amqp_record.specs.declared.stop.StepError.TheVariants as errors
-use Rattle.amqp_record.specs.Entries.{declares, discharges, is_under, is_veto, message_discharges}
-use Rattle.amqp_record.specs.Links.{is_open}
-use Rattle.amqp_record.specs.Live.{home, is_link, is_live}
-use Rattle.amqp_record.specs.Hands.{frames_of, hands}
-use Rattle.amqp_record.specs.Work.{given_by, is_rejected}
-use Rattle.amqp_record.specs.Legal.{IsLegal}
-use Rattle.amqp_record.specs.Opened.{opened_by, refused_by}
-use Rattle.amqp_record.specs.Answers.{Answer, AnswerFrame, AnswerControl, AnswerDeclare, AnswerDischarge, AnswerLinkEnd, Echoed}
+use Rattle.amqp_record.specs.Entries.{message_discharges}
+use Rattle.amqp_record.specs.Hands.{frames_of}
+use Rattle.amqp_record.specs.Work.{is_rejected}
+use Rattle.amqp_record.specs.Answers.{Echoed}
 use Rattle.amqp_record.proofs.Whole.{IsLegal-snoc}
-use Rattle.amqp_resource.specs.declared.held.Held.{Held}
 use Rattle.amqp_resource.specs.Held.{SameHeld, Stands}
 use Rattle.amqp_resource.specs.Views.{SameView, View, frames_in, is_held_in, view_of_held, view_of_record}
 use Rattle.amqp_resource.specs.Keeping.{AnswerKeeps, ControlKeeps, DeclareKeeps, DischargeHands, DischargeKeeps, EndKeeps, Ends, Fits, FrameKeeps, Keeps, NothingChanges, PlainKeeps, StepKeeps}

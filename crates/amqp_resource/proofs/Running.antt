@@ -5,37 +5,17 @@ use Rattle.std.specs.List.{zip, flat_map}
 use Rattle.std.proofs.lemmas.List.{map-append, length-append, length-map}
 use Rattle.std.proofs.lemmas.List.Concat.{flat_map-append}
 use Rattle.std.proofs.lemmas.List.Sums.{sum_by-append}
-use Rattle.amqp_txn_types.specs.declared.id.TransactionId.{TransactionId}
-use Rattle.amqp_txn_types.specs.declared.delivery.SessionStopReason.{SessionStopReason}
-use Rattle.amqp_txn_types.specs.declared.performatives.Frame.{Frame}
+use Rattle.amqp_resource.specs.Words.{DrawnIds, Drew, Entry, Frame, Held, Reply, Rose, SessionStopReason, Step, StepError, Stop, StopCode, Told, TookFrames, TransactionId, TxnSession, attach_refused_count, drawn_of, given_by, grown, handed_by, hands, is_veto, opened_by, opens, pairs, refused_by, refuses, steps_of, veto_count, vetoed_by, vetoes}
 use Rattle.amqp_txn_types.specs.declared.small.TransactionError.TheVariants as transaction_errors
 use Rattle.amqp_layer.specs.declared.inner_error.SessionInnerError.TheVariants as faults
-use Rattle.amqp_ids.specs.Drawn.{DrawnIds}
-use Rattle.amqp_layer.specs.Told.{Told}
-use Rattle.amqp_txn_types.specs.Growing.{grown}
-use Rattle.amqp_txn_types.specs.Counts.{Rose}
-use Rattle.amqp_ids.specs.Ids.{Drew}
 use Rattle.amqp_ids.proofs.Draws.{Drew-append, Drew-none}
-use Rattle.amqp_record.specs.declared.entry.Entry.{Entry}
-use Rattle.amqp_record.specs.declared.step.Step.{Step}
-use Rattle.amqp_record.specs.declared.reply.Reply.{Reply}
 use Rattle.amqp_record.specs.declared.reply.Reply.TheVariants as replies
-use Rattle.amqp_record.specs.declared.stop.Stop.{Stop}
 use Rattle.amqp_record.specs.declared.stop.Stop.TheVariants as stops
-use Rattle.amqp_record.specs.declared.stop.StopCode.{StopCode}
-use Rattle.amqp_record.specs.declared.stop.StepError.{StepError}
 use Rattle.amqp_record.specs.declared.stop.StepError.TheVariants as errors
-use Rattle.amqp_record.specs.Entries.{drawn_of, steps_of}
-use Rattle.amqp_record.specs.Hands.{hands}
-use Rattle.amqp_record.specs.Work.{handed_by, pairs, work, given_back, given_by}
-use Rattle.amqp_record.specs.Opened.{attach_refused_count, is_attach_refused, opened_by, opens, refused_by, refuses}
-use Rattle.amqp_record.specs.Vetoed.{veto_count, vetoed_by, vetoes}
-use Rattle.amqp_record.specs.Entries.{is_veto}
+use Rattle.amqp_record.specs.Work.{work, given_back}
+use Rattle.amqp_record.specs.Opened.{is_attach_refused}
 use Rattle.amqp_record.proofs.Whole.{joined_after-snoc, pairs-snoc}
-use Rattle.amqp_resource.specs.declared.held.Held.{Held}
-use Rattle.amqp_resource.specs.declared.session.TxnSession.{TxnSession}
 use Rattle.amqp_resource.specs.Held.{Stands}
-use Rattle.amqp_layer.specs.Taking.{TookFrames}
 use Rattle.amqp_resource.specs.Steps.{IfAttachRefused, IfEnded, IfRefused, IfVeto, IsControlAttach, IsFirstStop, MayFault, OnNoCall, RefusedAdds, StopsSurely, TookFirst, UnderDead, ended_by, entry_of, is_unknown}
 use Rattle.amqp_resource.specs.Stepping.{StepRecords}
 use Rattle.amqp_resource.specs.Views.{view_of_record}

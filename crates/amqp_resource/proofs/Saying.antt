@@ -1,18 +1,7 @@
 -- What a step says by a record that the session stood for.
 use Rattle.std.proofs.Common.{◌≡◌, ℕ, Bool, Result, List, ap}
 use Rattle.std.specs.Prelude.{IfOk}
-use Rattle.amqp_txn_types.specs.declared.id.TransactionId.{TransactionId}
-use Rattle.amqp_ids.specs.Drawn.{DrawnIds}
-use Rattle.amqp_ids.specs.Ids.{AreNext}
-use Rattle.amqp_txn_types.specs.declared.items.NoMemory.{NoMemory}
-use Rattle.amqp_txn_types.specs.declared.performatives.Frame.{Frame}
-use Rattle.amqp_layer.specs.declared.verdict.Verdict.{Verdict}
-use Rattle.amqp_layer.specs.Told.{Told}
-use Rattle.amqp_record.specs.declared.entry.Entry.{Entry}
-use Rattle.amqp_record.specs.declared.step.Step.{Step}
-use Rattle.amqp_record.specs.declared.reply.Reply.{Reply}
-use Rattle.amqp_record.specs.declared.stop.StepError.{StepError}
-use Rattle.amqp_resource.specs.declared.held.Held.{Held}
+use Rattle.amqp_resource.specs.Words.{AreNext, DrawnIds, Entry, Frame, Held, NoMemory, Reply, Step, StepError, Told, TransactionId, Verdict}
 use Rattle.amqp_resource.specs.Held.{Stands}
 use Rattle.amqp_resource.specs.Leaving.{StepLeaves}
 use Rattle.amqp_resource.specs.Stepping.{StepRecords}

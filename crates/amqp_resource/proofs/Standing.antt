@@ -2,16 +2,11 @@
 use Rattle.std.proofs.Common.{◌≡◌, ℕ, ◌+◌, Bool, true, false, cond, not, ◌&&◌, Option, Some, None, List, [], ◌∷◌, ◌++◌, length, refl, sym, ◌∙◌, ap, subst, arith, append-nil, add-zero}
 use Rattle.std.specs.Prelude.{◌==◌, is_some, nat_eq}
 use Rattle.std.proofs.lemmas.Bool.{ne_eqb, eqb-true, eq-eqb, and_right}
-use Rattle.amqp_txn_types.specs.declared.id.TransactionId.{TransactionId}
-use Rattle.amqp_txn_types.specs.declared.performatives.Frame.{Frame}
-use Rattle.amqp_txn_types.specs.Ids.{same_id}
-use Rattle.amqp_record.specs.declared.entry.Entry.{Entry}
-use Rattle.amqp_record.specs.declared.step.Step.{Step}
+use Rattle.amqp_resource.specs.Words.{Entry, Frame, Held, IsLegal, Live, Step, Told, TransactionId, attached_count, declares, discharges, home, is_link, is_live, is_open, is_under, kept, same_id, with_frame}
 use Rattle.amqp_record.specs.declared.step.Step.TheVariants as steps
 use Rattle.amqp_record.specs.declared.reply.Reply.TheVariants as replies
-use Rattle.amqp_record.specs.Entries.{declares, discharges, is_under, attaches, closes, is_attached, step_link, reply_attaches}
-use Rattle.amqp_record.specs.Links.{is_open, attached_count}
-use Rattle.amqp_record.specs.Live.{is_link, is_live, is_open_at, undischarged, since, home}
+use Rattle.amqp_record.specs.Entries.{attaches, closes, is_attached, step_link, reply_attaches}
+use Rattle.amqp_record.specs.Live.{is_open_at, undischarged, since}
 use Rattle.amqp_record.specs.Hands.{frames_of, frame_of_step}
 use Rattle.amqp_record.proofs.Living.{live-at, live_undischarged, live-other, live-same}
 use Rattle.amqp_record.proofs.Looking.{is_open-other, is_open_at-other, is_open-closed, home-declared, home-other, undischarged-declared, frames_of-declared, frames_of-other}
@@ -21,14 +16,11 @@ use Rattle.std.specs.Map.{lookup}
 use Rattle.std.specs.Option.{option_map}
 use Rattle.amqp_resource.proofs.Views.{live-record, stands-view, view-moved, view-stands}
 use Rattle.amqp_resource.proofs.Kept.{tied_same}
-use Rattle.amqp_record.specs.Legal.{IsLegal}
-use Rattle.amqp_resource.specs.declared.held.Held.{Held}
-use Rattle.amqp_arrivals.specs.Live.{Kept, Live, kept, with_frame}
+use Rattle.amqp_arrivals.specs.Live.{Kept}
 use Rattle.amqp_resource.specs.Held.{OpenLinks, SameHeld, Stands, ids_on, is_among, is_in, is_kept_on, kept_by, unless_on}
 use Rattle.amqp_resource.specs.Draws.{is_kept}
 use Rattle.amqp_resource.specs.Views.{SameLinks, SameView, View, view_of_held, view_of_record}
 use Rattle.amqp_resource.specs.Keeping.{Attaches, Closes, Declares}
-use Rattle.amqp_layer.specs.Told.{Told}
 
 abbrev pub more_frames : Bool → Step → Option Kept → Option Kept
 more_frames b s None = None

@@ -3,24 +3,12 @@ use Rattle.std.proofs.Common.{◌≡◌, ℕ, Bool, true, false, cond, not, ◌&
 use Rattle.std.specs.Prelude.{is_some}
 use Rattle.std.specs.List.{list_all}
 use Rattle.std.proofs.lemmas.Bool.{and_parts}
-use Rattle.amqp_txn_types.specs.declared.id.TransactionId.{TransactionId}
-use Rattle.amqp_txn_types.specs.declared.performatives.Frame.{Frame}
-use Rattle.amqp_txn_types.specs.Frames.{is_plain_frame, stripped}
-use Rattle.amqp_txn_codec.specs.declared.message.Discharge.{Discharge}
-use Rattle.amqp_txn_codec.specs.declared.message.ControlMessageBody.{ControlMessageBody}
+use Rattle.amqp_resource.specs.Words.{ControlMessageBody, Discharge, Entry, Frame, Held, IsLegal, Step, TransactionId, frames_kept, hands, home, is_held_on, is_link, is_live, is_open, is_plain_frame, is_rollback, message_of, stripped}
 use Rattle.amqp_txn_codec.specs.declared.message.ControlMessageBody.TheVariants as messages
-use Rattle.amqp_txn_codec.specs.Reading.{message_of}
-use Rattle.amqp_txn_codec.specs.Discharges.{is_rollback}
-use Rattle.amqp_record.specs.declared.entry.Entry.{Entry}
-use Rattle.amqp_record.specs.declared.step.Step.{Step}
 use Rattle.amqp_record.specs.declared.step.Step.TheVariants as steps
-use Rattle.amqp_record.specs.Links.{is_open}
-use Rattle.amqp_record.specs.Live.{is_link, is_live, home, is_held_on}
-use Rattle.amqp_record.specs.Hands.{commits, commits_message, frames_of, hands, if_open}
-use Rattle.amqp_record.specs.Legal.{IsLegal}
+use Rattle.amqp_record.specs.Hands.{commits, commits_message, frames_of, if_open}
 use Rattle.amqp_record.proofs.Whole.{hands-plain, hands-other_frame, hands-commit, hands-no_commit}
-use Rattle.amqp_resource.specs.declared.held.Held.{Held}
-use Rattle.amqp_arrivals.specs.Live.{Kept, frames_kept}
+use Rattle.amqp_arrivals.specs.Live.{Kept}
 use Rattle.amqp_resource.specs.Draws.{all_live}
 use Rattle.amqp_resource.specs.Held.{SameHeld, Stands, Tied, is_kept_on, kept_by}
 use Rattle.amqp_resource.specs.Views.{SameView, View, frames_in, is_held_in, is_live_in, view_of_held, view_of_record}

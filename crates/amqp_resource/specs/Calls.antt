@@ -1,25 +1,10 @@
 -- What the transactional calls give on a session, by whether it has stopped.
 use Rattle.std.specs.Prelude.{ℕ, ◌≡◌, ◌≤◌, Bool, Option, Some, None, Result, Ok, Err, List, map}
-use Rattle.amqp_txn_types.specs.declared.id.TransactionId.{TransactionId}
-use Rattle.amqp_txn_types.specs.declared.items.NoMemory.{NoMemory}
-use Rattle.amqp_txn_types.specs.declared.performatives.Frame.{Frame}
-use Rattle.amqp_txn_types.specs.declared.small.Accepted.{Accepted}
-use Rattle.amqp_txn_types.specs.declared.small.TransactionError.{TransactionError}
-use Rattle.amqp_txn_types.specs.declared.small.TransactionError.TheVariants as conditions
-use Rattle.amqp_txn_types.specs.Counts.{one_more}
-use Rattle.amqp_txn_types.specs.Frames.{stripped}
-use Rattle.amqp_layer.specs.declared.answers.Answers.{Answers}
-use Rattle.amqp_layer.specs.declared.verdict.Verdict.{Verdict}
+use Rattle.amqp_resource.specs.Words.{Accepted, AllocTxnIdError, Answers, CommitFault, DrawnIds, Frame, NoMemory, StopCode, Told, TransactionError, TransactionId, TxnSession, Verdict, fault_code, one_more, stripped}
+use Rattle.amqp_txn_types.specs.declared.small.TransactionError.TheVariants as transaction_errors
 use Rattle.amqp_layer.specs.declared.verdict.Verdict.TheVariants as verdicts
-use Rattle.amqp_sessions.specs.declared.transacting.AllocTxnIdError.{AllocTxnIdError}
 use Rattle.amqp_sessions.specs.declared.transacting.AllocTxnIdError.TheVariants as allocations
-use Rattle.amqp_sessions.specs.declared.transacting.CommitFault.{CommitFault}
 use Rattle.amqp_sessions.specs.declared.transacting.CommitFault.TheVariants as commit_faults
-use Rattle.amqp_ids.specs.Drawn.{DrawnIds}
-use Rattle.amqp_layer.specs.Told.{Told}
-use Rattle.amqp_record.specs.declared.stop.StopCode.{StopCode}
-use Rattle.amqp_record.specs.Stops.{fault_code}
-use Rattle.amqp_resource.specs.declared.session.TxnSession.{TxnSession}
 use Rattle.amqp_resource.specs.Session.{FitsTogether, SameSession, below_of, frame_count_of, held_of, owed_of, refusals_of, stop_of, told_of, view_of}
 use Rattle.amqp_resource.specs.Committing.{HandsSurely, OnNoEchoes, OnVetoed}
 use Rattle.amqp_resource.specs.Passing.{counted}
@@ -74,7 +59,7 @@ abbrev pub CommitGives : {S : Type 0} → (S → Told) → Bool
 CommitGives told sure reviews old new id result =
     (FitsTogether old → FitsTogether new)
     × by_stop (stop_of old)
-    ((result ≡ Ok (Err conditions.UnknownId)) × SameSession old new)
+    ((result ≡ Ok (Err transaction_errors.UnknownId)) × SameSession old new)
     (CommittedIn (held_of old) (held_of new) (told_of told old) (told_of told new) id
     (below_of new ≡ below_of old) result × HandsSurely sure result
     × StopAfterCommit result (stop_of new) × (owed_of new ≤ frame_count_of new)
@@ -88,7 +73,7 @@ abbrev pub RollbackGives : {S : Type 0} → TxnSession S → TxnSession S → Tr
 RollbackGives old new id result =
     (FitsTogether old → FitsTogether new)
     × by_stop (stop_of old)
-    ((result ≡ Err conditions.UnknownId) × SameSession old new)
+    ((result ≡ Err transaction_errors.UnknownId) × SameSession old new)
     (RolledBackIn (held_of old) (held_of new) id result × GoesOn old new
     × (owed_of new ≤ frame_count_of new))
     × (refusals_of new ≡ counted result (refusals_of old))

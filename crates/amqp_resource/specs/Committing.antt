@@ -2,17 +2,9 @@
 -- handed one after another.
 use Rattle.std.specs.Prelude.{ℕ, ◌≡◌, ◌≤◌, ⊤, Bool, true, Result, Ok, Err, List, [], ◌∷◌, length, take, map}
 use Rattle.std.specs.List.{zip}
-use Rattle.amqp_txn_types.specs.declared.performatives.Frame.{Frame}
-use Rattle.amqp_txn_types.specs.declared.small.TransactionError.{TransactionError}
-use Rattle.amqp_txn_types.specs.declared.small.TransactionError.TheVariants as conditions
-use Rattle.amqp_layer.specs.declared.answers.Answers.{Answers}
+use Rattle.amqp_resource.specs.Words.{AllWindowsFit, Answers, CommitFault, Frame, Rose, Told, TookFrames, TransactionError, grown}
+use Rattle.amqp_txn_types.specs.declared.small.TransactionError.TheVariants as transaction_errors
 use Rattle.amqp_layer.specs.declared.inner_error.SessionInnerError.TheVariants as faults
-use Rattle.amqp_layer.specs.Told.{Told}
-use Rattle.amqp_txn_types.specs.Growing.{grown}
-use Rattle.amqp_txn_types.specs.Counts.{Rose}
-use Rattle.amqp_layer.specs.Windows.{AllWindowsFit}
-use Rattle.amqp_layer.specs.Taking.{TookFrames}
-use Rattle.amqp_sessions.specs.declared.transacting.CommitFault.{CommitFault}
 use Rattle.amqp_sessions.specs.declared.transacting.CommitFault.TheVariants as commit_faults
 
 -- what was given back
@@ -40,7 +32,7 @@ abbrev pub HandedAll : Told → Told → List Frame
     → Result (Result (List Answers) TransactionError) CommitFault → Type 0
 HandedAll old new handed (Ok (Ok echoes)) = HandedSome old new handed echoes
 HandedAll old new handed (Ok (Err error)) =
-    (error ≡ conditions.Rollback) × HandedNone old new handed
+    (error ≡ transaction_errors.Rollback) × HandedNone old new handed
 HandedAll old new handed (Err (commit_faults.Refused error at)) =
     (error ≡ faults.NoMemory) × HandedPart old new handed at
 HandedAll old new handed (Err commit_faults.NoMemory) = ⊥
@@ -72,7 +64,7 @@ pub record HandsAll (old new : Told) (frames : List Frame)
 
 -- a commit that was vetoed, with a fact
 abbrev pub OnVetoed : Result (Result (List Answers) TransactionError) CommitFault → Type 0 → Type 0
-OnVetoed (Ok (Err conditions.Rollback)) P = P
+OnVetoed (Ok (Err transaction_errors.Rollback)) P = P
 OnVetoed _ P = ⊤
 
 -- a commit that was accepted without an answer, as one of no frames, with a fact

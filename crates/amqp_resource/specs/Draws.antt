@@ -1,8 +1,8 @@
 -- Ids drawn for a declare.
 use Rattle.std.specs.Prelude.{◌≡◌, ◌≤◌, Bool, true, List, [], ◌∷◌, ◌++◌, length, Option, is_some, None}
 use Rattle.std.specs.List.{list_all}
-use Rattle.amqp_txn_types.specs.declared.id.TransactionId.{TransactionId}
-use Rattle.amqp_arrivals.specs.Live.{Kept, Live, kept}
+use Rattle.amqp_resource.specs.Words.{Live, TransactionId, kept}
+use Rattle.amqp_arrivals.specs.Live.{Kept}
 
 -- something is kept for the id
 abbrev pub is_kept : Live → TransactionId → Bool

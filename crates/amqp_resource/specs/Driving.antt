@@ -1,19 +1,9 @@
 -- What driving a list of steps gives.
 use Rattle.std.specs.Prelude.{ℕ, ◌≡◌, ◌≤◌, ◌↔◌, Bool, Option, Some, List, length, take}
-use Rattle.amqp_txn_types.specs.declared.id.TransactionId.{TransactionId}
-use Rattle.amqp_txn_types.specs.declared.delivery.SessionStopReason.{SessionStopReason}
-use Rattle.amqp_txn_types.specs.Growing.{grown}
+use Rattle.amqp_resource.specs.Words.{Drew, IsLegal, SessionStopReason, Step, Told, TransactionId, TxnSession, drawn_of, grown, opens, steps_of, vetoes}
 use Rattle.amqp_layer.specs.declared.inner_error.SessionInnerError.TheVariants as faults
-use Rattle.amqp_layer.specs.Told.{Told}
-use Rattle.amqp_ids.specs.Ids.{Drew}
-use Rattle.amqp_record.specs.declared.step.Step.{Step}
 use Rattle.amqp_record.specs.declared.stop.Driven.{Driven}
 use Rattle.amqp_record.specs.declared.stop.Stop.TheVariants as stops
-use Rattle.amqp_record.specs.Entries.{drawn_of, steps_of}
-use Rattle.amqp_record.specs.Legal.{IsLegal}
-use Rattle.amqp_record.specs.Opened.{opens}
-use Rattle.amqp_record.specs.Vetoed.{vetoes}
-use Rattle.amqp_resource.specs.declared.session.TxnSession.{TxnSession}
 use Rattle.amqp_resource.specs.Drive.{NextStep, RunLeaves, RunRefused, RunRose, RunStopsSurely, RunTook, RunVetoed, StopCause, StopsWith}
 use Rattle.amqp_resource.specs.Steps.{UnderDead, ended_by}
 use Rattle.amqp_resource.specs.Views.{view_of_record}

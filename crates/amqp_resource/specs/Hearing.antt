@@ -1,17 +1,9 @@
 -- What a session does with the frames and the control links that come by its calls.
 use Rattle.std.specs.Prelude.{ℕ, ◌≡◌, ◌⊎◌, ◌&&◌, ◌==◌, ◌-◌, ◌^◌, Bool, true, false, not, is_none, MatchBool, Option, Some, None, Result, Ok, Err, List}
-use Rattle.amqp_txn_types.specs.declared.id.TransactionId.{TransactionId}
-use Rattle.amqp_txn_types.specs.declared.performatives.Attach.{Attach}
-use Rattle.amqp_txn_types.specs.declared.performatives.Frame.{Frame}
+use Rattle.amqp_resource.specs.Words.{Attach, Frame, SessionInnerError, StopCode, Told, TransactionId, TxnSession, fault_code, is_coordinator_attach, txn}
 use Rattle.amqp_txn_types.specs.declared.performatives.Frame.TheVariants as frames
-use Rattle.amqp_txn_types.specs.Frames.{is_coordinator_attach, txn}
-use Rattle.amqp_layer.specs.declared.inner_error.SessionInnerError.{SessionInnerError}
 use Rattle.amqp_layer.specs.declared.inner_error.SessionInnerError.TheVariants as faults
 use Rattle.amqp_layer.specs.Inner.{Took}
-use Rattle.amqp_layer.specs.Told.{Told}
-use Rattle.amqp_record.specs.declared.stop.StopCode.{StopCode}
-use Rattle.amqp_record.specs.Stops.{fault_code}
-use Rattle.amqp_resource.specs.declared.session.TxnSession.{TxnSession}
 use Rattle.amqp_resource.specs.Calls.{GoesOn, by_stop}
 use Rattle.amqp_resource.specs.Held.{SameHeld}
 use Rattle.amqp_resource.specs.Views.{SameLinks}

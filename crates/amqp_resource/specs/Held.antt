@@ -4,15 +4,9 @@ use Rattle.std.specs.List.{list_any}
 use Rattle.std.specs.Map.{lookup}
 use Rattle.std.specs.Option.{option_map}
 use Rattle.std.specs.HashSet.{HashSet, keys, spare as spare_ids}
-use Rattle.amqp_txn_types.specs.declared.id.TransactionId.{TransactionId}
-use Rattle.amqp_arrivals.specs.Live.{HasPlace, Kept, Live, kept}
-use Rattle.amqp_record.specs.declared.entry.Entry.{Entry}
-use Rattle.amqp_txn_types.specs.Ids.{same_id}
-use Rattle.amqp_record.specs.Links.{is_open, attached_count}
-use Rattle.amqp_record.specs.Live.{is_link, is_live, home}
+use Rattle.amqp_resource.specs.Words.{Entry, Held, IsLegal, Live, TransactionId, attached_count, home, is_link, is_live, is_open, kept, same_id}
+use Rattle.amqp_arrivals.specs.Live.{HasPlace, Kept}
 use Rattle.amqp_record.specs.Hands.{frames_of}
-use Rattle.amqp_record.specs.Legal.{IsLegal}
-use Rattle.amqp_resource.specs.declared.held.Held.{Held}
 
 -- the open links, each with the live ids that were declared on it
 abbrev pub OpenLinks : Type 0 → Type 0

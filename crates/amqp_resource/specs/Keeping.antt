@@ -2,34 +2,18 @@
 -- views of a session that hasn't stopped, whether it stands for a record or not; proofs also that
 -- of a record.
 use Rattle.std.specs.Prelude.{ℕ, Bool, true, false, ◌==◌, ◌≡◌, ◌≤◌, ◌+◌, cond, Option, Some, None, Result, Ok, Err, List, [], map, MatchBool}
-use Rattle.amqp_txn_types.specs.declared.id.TransactionId.{TransactionId}
-use Rattle.amqp_txn_types.specs.declared.performatives.Frame.{Frame}
+use Rattle.amqp_resource.specs.Words.{Answers, ControlMessageBody, DrawnIds, Frame, Held, Reply, Steady, Step, StepError, TakesFrame, Told, TransactionId, answered_under, is_coordinator_attach, is_rollback, message_of, same_id, stripped, txn, with_frame}
 use Rattle.amqp_txn_types.specs.declared.small.AmqpError.TheVariants as amqp_errors
 use Rattle.amqp_txn_types.specs.declared.small.TransactionError.TheVariants as transaction_errors
-use Rattle.amqp_txn_types.specs.Frames.{txn, is_coordinator_attach, stripped}
-use Rattle.amqp_txn_codec.specs.declared.message.ControlMessageBody.{ControlMessageBody}
 use Rattle.amqp_txn_codec.specs.declared.message.ControlMessageBody.TheVariants as messages
-use Rattle.amqp_txn_codec.specs.Reading.{message_of}
-use Rattle.amqp_layer.specs.declared.answers.Answers.{Answers}
-use Rattle.amqp_ids.specs.Drawn.{DrawnIds}
-use Rattle.amqp_layer.specs.Told.{Steady, Told}
-use Rattle.amqp_record.specs.declared.step.Step.{Step}
 use Rattle.amqp_record.specs.declared.step.Step.TheVariants as steps
 use Rattle.amqp_record.specs.declared.reply.RejectText.TheVariants as texts
-use Rattle.amqp_record.specs.declared.reply.Reply.{Reply}
 use Rattle.amqp_record.specs.declared.reply.Reply.TheVariants as replies
-use Rattle.amqp_record.specs.declared.stop.StepError.{StepError}
 use Rattle.amqp_record.specs.declared.stop.StepError.TheVariants as errors
-use Rattle.amqp_txn_types.specs.Presumptive.{answered_under}
-use Rattle.amqp_txn_types.specs.Ids.{same_id}
-use Rattle.amqp_txn_codec.specs.Discharges.{is_rollback}
-use Rattle.amqp_resource.specs.declared.held.Held.{Held}
-use Rattle.amqp_arrivals.specs.Live.{with_frame}
 use Rattle.amqp_resource.specs.Held.{Tied, is_in, unless_on}
 use Rattle.amqp_resource.specs.Draws.{DrewLive, DrewUnused}
 use Rattle.amqp_resource.specs.Views.{SameLinks, SameLive, SameView, View, frames_in, is_held_in, is_live_in, view_of_held}
 use Rattle.amqp_resource.specs.Steps.{OpenedBy, Refused, RefusedBy, UnderDead, ended_by, is_unknown, step_hands, takes_memory}
-use Rattle.amqp_layer.specs.Taking.{TakesFrame}
 use Rattle.amqp_resource.specs.Committing.{HandsAll}
 
 -- what is kept fits together: the ids of each link are the live ids that were declared on it, and

@@ -1,17 +1,7 @@
 -- What a step leaves, as each function of a step says it in one clause.
 use Rattle.std.specs.Prelude.{ℕ, Bool, ◌≡◌, ◌≤◌, Option, Result, Ok, List, IfOk, OnErr}
-use Rattle.amqp_txn_types.specs.declared.id.TransactionId.{TransactionId}
-use Rattle.amqp_txn_types.specs.declared.items.NoMemory.{NoMemory}
-use Rattle.amqp_txn_types.specs.declared.performatives.Frame.{Frame}
-use Rattle.amqp_ids.specs.Drawn.{DrawnIds}
-use Rattle.amqp_ids.specs.Ids.{Drew}
-use Rattle.amqp_layer.specs.Told.{Told}
-use Rattle.amqp_layer.specs.declared.verdict.Verdict.{Verdict}
+use Rattle.amqp_resource.specs.Words.{DrawnIds, Drew, Frame, Held, NoMemory, Reply, Step, StepError, Told, TransactionId, Verdict}
 use Rattle.amqp_layer.specs.declared.verdict.Verdict.TheVariants as verdicts
-use Rattle.amqp_record.specs.declared.step.Step.{Step}
-use Rattle.amqp_record.specs.declared.reply.Reply.{Reply}
-use Rattle.amqp_record.specs.declared.stop.StepError.{StepError}
-use Rattle.amqp_resource.specs.declared.held.Held.{Held}
 use Rattle.amqp_resource.specs.Held.{SameHeld}
 use Rattle.amqp_resource.specs.Keeping.{Fits, Keeps}
 use Rattle.amqp_resource.specs.Steps.{AnswersEnd, IfRefused, OnNoCall, OnNoMemory, OnVeto, StepCause, StopsSurely, ended_by, step_hands}

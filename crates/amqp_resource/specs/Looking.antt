@@ -1,15 +1,9 @@
 -- What a step costs: the looks into the log of the work.
 use Rattle.std.specs.Prelude.{ℕ, ◌≡◌, ◌≤◌, ◌+◌, ◌*◌, cond, Option, Some, None, List, length, is_some}
 use Rattle.std.specs.List.{sum_by}
-use Rattle.amqp_txn_types.specs.declared.id.TransactionId.{TransactionId}
-use Rattle.amqp_txn_types.specs.Frames.{txn}
-use Rattle.amqp_txn_codec.specs.declared.message.ControlMessageBody.{ControlMessageBody}
+use Rattle.amqp_resource.specs.Words.{ControlMessageBody, Held, Live, Step, TransactionId, frame_count, frames_kept, kept, message_of, owed, txn}
 use Rattle.amqp_txn_codec.specs.declared.message.ControlMessageBody.TheVariants as messages
-use Rattle.amqp_txn_codec.specs.Reading.{message_of}
-use Rattle.amqp_arrivals.specs.Live.{Live, frame_count, frames_kept, kept, owed}
-use Rattle.amqp_record.specs.declared.step.Step.{Step}
 use Rattle.amqp_record.specs.declared.step.Step.TheVariants as steps
-use Rattle.amqp_resource.specs.declared.held.Held.{Held}
 use Rattle.amqp_resource.specs.Held.{ids_on, is_in, is_kept_on}
 
 -- how many frames are kept for some ids

@@ -1,11 +1,7 @@
 -- What the attach of a control link does to what a session keeps.
 use Rattle.std.specs.Prelude.{ℕ, ◌≡◌, ◌+◌, ◌==◌, cond, Some, Result, Ok, Err, List, []}
-use Rattle.amqp_txn_types.specs.declared.performatives.Attach.{Attach}
-use Rattle.amqp_txn_types.specs.declared.performatives.Frame.{Frame}
-use Rattle.amqp_layer.specs.declared.inner_error.SessionInnerError.{SessionInnerError}
+use Rattle.amqp_resource.specs.Words.{Attach, Frame, Held, SessionInnerError, Told}
 use Rattle.amqp_layer.specs.Inner.{Opened}
-use Rattle.amqp_layer.specs.Told.{Told}
-use Rattle.amqp_resource.specs.declared.held.Held.{Held}
 use Rattle.amqp_resource.specs.Held.{SameHeld, ids_on}
 use Rattle.amqp_resource.specs.Views.{SameLive, view_of_held}
 

@@ -1,12 +1,7 @@
 -- What keeping a frame under a live id leaves.
 use Rattle.std.specs.Prelude.{◌≡◌, true, false, cond, Option, Some, None, Result, Ok, Err, List}
-use Rattle.amqp_txn_types.specs.declared.id.TransactionId.{TransactionId}
-use Rattle.amqp_txn_types.specs.declared.items.NoMemory.{NoMemory}
-use Rattle.amqp_txn_types.specs.declared.performatives.Frame.{Frame}
-use Rattle.amqp_txn_types.specs.Ids.{same_id}
-use Rattle.amqp_txn_types.specs.Presumptive.{answered_under}
+use Rattle.amqp_resource.specs.Words.{Frame, Live, NoMemory, TransactionId, answered_under, kept, same_id, with_frame}
 use Rattle.amqp_resource.specs.Draws.{is_kept}
-use Rattle.amqp_arrivals.specs.Live.{Live, kept, with_frame}
 
 -- by the answer: the frame is the last that is kept for the id, and this is what it is answered at
 -- once; or what is kept is as it was

@@ -1,18 +1,9 @@
 -- The parts of a session that clauses speak of.
 use Rattle.std.specs.Prelude.{ℕ, ◌≡◌, Bool, Option, Some, None, Result, Ok, Err, List, []}
-use Rattle.amqp_txn_types.specs.declared.id.TransactionId.{TransactionId}
+use Rattle.amqp_resource.specs.Words.{DrawnIds, Entry, Held, Reply, StepError, StopCode, Told, TransactionId, TxnSession, fault_code, frame_count, owed}
 use Rattle.amqp_txn_types.specs.declared.small.SessionState.TheVariants.{Mapped}
-use Rattle.amqp_arrivals.specs.Live.{frame_count, owed}
-use Rattle.amqp_ids.specs.Drawn.{DrawnIds}
-use Rattle.amqp_layer.specs.Told.{Told}
-use Rattle.amqp_record.specs.declared.reply.Reply.{Reply}
-use Rattle.amqp_record.specs.declared.entry.Entry.{Entry}
-use Rattle.amqp_record.specs.declared.stop.StopCode.{StopCode}
-use Rattle.amqp_record.specs.declared.stop.StepError.{StepError}
 use Rattle.amqp_record.specs.declared.stop.StepError.TheVariants as errors
-use Rattle.amqp_record.specs.Stops.{fault_code, ended_code}
-use Rattle.amqp_resource.specs.declared.held.Held.{Held}
-use Rattle.amqp_resource.specs.declared.session.TxnSession.{TxnSession}
+use Rattle.amqp_record.specs.Stops.{ended_code}
 use Rattle.amqp_resource.specs.Held.{Stands, SameHeld}
 use Rattle.amqp_resource.specs.Keeping.{Fits}
 use Rattle.amqp_resource.specs.Views.{View, view_of_held}

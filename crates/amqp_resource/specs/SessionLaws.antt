@@ -2,22 +2,12 @@
 -- for a session over another.
 use Rattle.std.specs.Prelude.{ℕ, ◌≡◌, Bool, true, false, MatchBool, Option, Some, None, Result, Ok, Err, List}
 use Rattle.std.proofs.Common.{refl, ap, inl, inr, sym, subst}
-use Rattle.amqp_txn_types.specs.declared.id.TransactionId.{TransactionId}
-use Rattle.amqp_txn_types.specs.declared.items.NoMemory.{NoMemory}
-use Rattle.amqp_txn_types.specs.declared.performatives.Attach.{Attach}
-use Rattle.amqp_txn_types.specs.declared.performatives.Frame.{Frame}
+use Rattle.amqp_resource.specs.Words.{Attach, Frame, Held, NoMemory, SessionInnerError, StopCode, Told, TransactionId, TxnSession, Verdict, is_coordinator_attach, txn}
 use Rattle.amqp_txn_types.specs.declared.performatives.Frame.TheVariants as frames
-use Rattle.amqp_txn_types.specs.Frames.{is_coordinator_attach, txn}
-use Rattle.amqp_layer.specs.declared.inner_error.SessionInnerError.{SessionInnerError}
 use Rattle.amqp_layer.specs.declared.inner_error.SessionInnerError.TheVariants as faults
-use Rattle.amqp_layer.specs.declared.verdict.Verdict.{Verdict}
 use Rattle.amqp_layer.specs.declared.verdict.Verdict.TheVariants as verdicts
-use Rattle.amqp_layer.specs.Told.{Told}
 use Rattle.amqp_sessions.specs.Names.{FrameLeaves, Names, OpensLink as OpensName, SameNames, left-map, opens-leaves}
 use Rattle.amqp_sessions.specs.Sessions.{Kept, Leaves, LeavesFrame, LeavesOpening}
-use Rattle.amqp_record.specs.declared.stop.StopCode.{StopCode}
-use Rattle.amqp_resource.specs.declared.held.Held.{Held}
-use Rattle.amqp_resource.specs.declared.session.TxnSession.{TxnSession}
 use Rattle.amqp_resource.specs.Calls.{by_stop}
 use Rattle.amqp_resource.specs.Hearing.{HearsAttach, HearsFrame, HearsKind, HearsUnbound, HearsUnder, OpensBelow, RefusesWith, can_open}
 use Rattle.amqp_resource.specs.Reviewing.{AsksBelow, TxnReviews}

@@ -1,24 +1,9 @@
 -- What a step leaves of a session, by its answer.
 use Rattle.std.specs.Prelude.{ℕ, ◌≡◌, ◌≤◌, Bool, Option, Some, None, Result, Ok, Err, List, [], ◌∷◌, ◌++◌, true, IfSome, IfOk, IfErr, OnErr}
-use Rattle.amqp_txn_types.specs.declared.id.TransactionId.{TransactionId}
-use Rattle.amqp_txn_types.specs.declared.items.NoMemory.{NoMemory}
-use Rattle.amqp_txn_types.specs.declared.performatives.Frame.{Frame}
-use Rattle.amqp_txn_types.specs.Counts.{Rose}
+use Rattle.amqp_resource.specs.Words.{Answer, DrawnIds, Drew, Entry, Frame, Held, NoMemory, Reply, Rose, Step, StepError, Told, TransactionId, TxnSession, Verdict, hands}
 use Rattle.amqp_layer.specs.declared.inner_error.SessionInnerError.TheVariants as faults
-use Rattle.amqp_layer.specs.declared.verdict.Verdict.{Verdict}
 use Rattle.amqp_layer.specs.declared.verdict.Verdict.TheVariants as verdicts
-use Rattle.amqp_layer.specs.Told.{Told}
-use Rattle.amqp_ids.specs.Drawn.{DrawnIds}
-use Rattle.amqp_ids.specs.Ids.{Drew}
-use Rattle.amqp_record.specs.declared.entry.Entry.{Entry}
-use Rattle.amqp_record.specs.declared.step.Step.{Step}
-use Rattle.amqp_record.specs.declared.reply.Reply.{Reply}
-use Rattle.amqp_record.specs.declared.stop.StepError.{StepError}
 use Rattle.amqp_record.specs.declared.stop.StepError.TheVariants as errors
-use Rattle.amqp_record.specs.Answers.{Answer}
-use Rattle.amqp_record.specs.Hands.{hands}
-use Rattle.amqp_resource.specs.declared.held.Held.{Held}
-use Rattle.amqp_resource.specs.declared.session.TxnSession.{TxnSession}
 use Rattle.amqp_resource.specs.Held.{Stands}
 use Rattle.amqp_resource.specs.Steps.{entry_of, ended_by, takes_memory, AnswersEnd, IfEnded, IfRefused, IfUnknown, IsControlAttach, IsFirstStop, MayFault, OnAttachRefused, OnNoMemory, OnNoCall, OnVeto, OpenedBy, RefusedAdds, RefusedBy, StopsSurely, TookFirst, TookHands, UnderDead, VetoedBy, step_hands}
 use Rattle.amqp_resource.specs.Complete.{InOrder, Completed}

@@ -1,40 +1,17 @@
 -- What one step is, what it hands and takes memory for, by a view, and when each answer may come.
 use Rattle.std.specs.Prelude.{ℕ, Bool, true, false, not, cond, ◌&&◌, ◌≡◌, ◌≤◌, ◌⊎◌, ⊤, Option, Some, None, Result, Ok, Err, List, [], ◌∷◌, length, map, take, slice_get, is_some, is_none, MatchBool}
 use Rattle.std.specs.List.{zip}
-use Rattle.amqp_txn_types.specs.declared.id.TransactionId.{TransactionId}
+use Rattle.amqp_resource.specs.Words.{ControlMessageBody, DrawnIds, Entry, Error, Frame, Refusal, Reply, Rose, SessionInnerError, SessionStopReason, Step, StepError, Told, TookFrames, TransactionId, answered_under, given_by, grown, handed_by, is_coordinator_attach, is_plain_frame, is_rollback, is_veto, message_of, opened_by, refusal_of, refused_by, stripped, txn, vetoed_by}
 use Rattle.amqp_txn_types.specs.declared.small.TransactionError.TheVariants as transaction_errors
-use Rattle.amqp_txn_types.specs.declared.delivery.Error.{Error}
 use Rattle.amqp_txn_types.specs.declared.delivery.ConnectionStopReason.{ConnectionStopReason}
 use Rattle.amqp_txn_types.specs.declared.delivery.ConnectionStopReason.TheVariants as stop_reasons
-use Rattle.amqp_txn_types.specs.declared.delivery.SessionStopReason.{SessionStopReason}
 use Rattle.amqp_txn_types.specs.declared.delivery.SessionStopReason.TheVariants as reasons
-use Rattle.amqp_txn_types.specs.declared.performatives.Frame.{Frame}
-use Rattle.amqp_txn_types.specs.Frames.{txn, is_coordinator_attach, is_plain_frame, stripped}
-use Rattle.amqp_txn_codec.specs.declared.message.ControlMessageBody.{ControlMessageBody}
 use Rattle.amqp_txn_codec.specs.declared.message.ControlMessageBody.TheVariants as messages
-use Rattle.amqp_txn_codec.specs.Reading.{message_of}
-use Rattle.amqp_layer.specs.declared.inner_error.SessionInnerError.{SessionInnerError}
 use Rattle.amqp_layer.specs.declared.inner_error.SessionInnerError.TheVariants as faults
-use Rattle.amqp_layer.specs.declared.refusal.Refusal.{Refusal}
-use Rattle.amqp_ids.specs.Drawn.{DrawnIds}
-use Rattle.amqp_layer.specs.Told.{Told, refusal_of}
-use Rattle.amqp_txn_types.specs.Growing.{grown}
-use Rattle.amqp_txn_types.specs.Counts.{Rose}
-use Rattle.amqp_record.specs.declared.step.Step.{Step}
 use Rattle.amqp_record.specs.declared.step.Step.TheVariants as steps
-use Rattle.amqp_record.specs.declared.reply.Reply.{Reply}
 use Rattle.amqp_record.specs.declared.reply.Reply.TheVariants as replies
-use Rattle.amqp_record.specs.declared.entry.Entry.{Entry}
-use Rattle.amqp_record.specs.declared.stop.StepError.{StepError}
 use Rattle.amqp_record.specs.declared.stop.StepError.TheVariants as errors
-use Rattle.amqp_txn_codec.specs.Discharges.{is_rollback}
-use Rattle.amqp_record.specs.Work.{given_by, handed_by}
-use Rattle.amqp_txn_types.specs.Presumptive.{answered_under}
-use Rattle.amqp_record.specs.Opened.{opened_by, refused_by}
-use Rattle.amqp_record.specs.Vetoed.{vetoed_by}
-use Rattle.amqp_record.specs.Entries.{is_veto}
 use Rattle.amqp_resource.specs.Views.{View, frames_in, is_held_in, is_live_in}
-use Rattle.amqp_layer.specs.Taking.{TookFrames}
 
 -- a step with its draws and reply
 abbrev pub entry_of : Step → DrawnIds → Reply → Entry

@@ -1,26 +1,13 @@
 -- What the transactional calls of a session do. An id that such a call allocates is declared on no
 -- link: no control message discharges it, and no end of a link aborts it.
 use Rattle.std.specs.Prelude.{ℕ, ◌≡◌, true, false, cond, map, Some, None, Result, Ok, Err, List, []}
-use Rattle.amqp_txn_types.specs.declared.id.TransactionId.{TransactionId}
-use Rattle.amqp_txn_types.specs.declared.performatives.Frame.{Frame}
-use Rattle.amqp_txn_types.specs.declared.small.Accepted.{Accepted}
-use Rattle.amqp_txn_types.specs.declared.small.TransactionError.{TransactionError}
-use Rattle.amqp_txn_types.specs.declared.small.TransactionError.TheVariants as conditions
-use Rattle.amqp_layer.specs.declared.answers.Answers.{Answers}
-use Rattle.amqp_sessions.specs.declared.transacting.AllocTxnIdError.{AllocTxnIdError}
+use Rattle.amqp_resource.specs.Words.{Accepted, AllocTxnIdError, Answers, CommitFault, DrawnIds, Frame, Held, StepError, Told, TransactionError, TransactionId, frames_kept, kept, same_id, stripped}
+use Rattle.amqp_txn_types.specs.declared.small.TransactionError.TheVariants as transaction_errors
 use Rattle.amqp_sessions.specs.declared.transacting.AllocTxnIdError.TheVariants as allocations
-use Rattle.amqp_sessions.specs.declared.transacting.CommitFault.{CommitFault}
 use Rattle.amqp_sessions.specs.declared.transacting.CommitFault.TheVariants as commit_faults
-use Rattle.amqp_ids.specs.Drawn.{DrawnIds}
-use Rattle.amqp_layer.specs.Told.{Told}
-use Rattle.amqp_record.specs.declared.stop.StepError.{StepError}
 use Rattle.amqp_record.specs.declared.stop.StepError.TheVariants as errors
-use Rattle.amqp_txn_types.specs.Ids.{same_id}
-use Rattle.amqp_resource.specs.declared.held.Held.{Held}
-use Rattle.amqp_txn_types.specs.Frames.{stripped}
 use Rattle.amqp_resource.specs.Committing.{HandsAll}
 use Rattle.amqp_resource.specs.Draws.{DrewLive, DrewUnused, is_kept}
-use Rattle.amqp_arrivals.specs.Live.{frames_kept, kept}
 use Rattle.amqp_resource.specs.Held.{SameHeld, Tied, ids_on, is_in, kept_without}
 
 -- the id is live, on no link and with no frames; all else is as it was
@@ -65,7 +52,7 @@ step_error_of (commit_faults.Refused error handed) = errors.Fault error handed
 -- a commit, by its answer: UnknownId where the id isn't live, else that of its frames
 abbrev pub CommittedIn : Held → Held → Told → Told → TransactionId → Type 0
     → Result (Result (List Answers) TransactionError) CommitFault → Type 0
-CommittedIn old new told now id Untouched (Ok (Err conditions.UnknownId)) =
+CommittedIn old new told now id Untouched (Ok (Err transaction_errors.UnknownId)) =
     (is_kept old.work id ≡ false) × SameHeld old new × Untouched
 CommittedIn old new told now id Untouched answer =
     (is_kept old.work id ≡ true)
@@ -75,4 +62,4 @@ CommittedIn old new told now id Untouched answer =
 abbrev pub RolledBackIn : Held → Held → TransactionId → Result Accepted TransactionError → Type 0
 RolledBackIn old new id (Ok accepted) = (is_kept old.work id ≡ true) × Ended old new id
 RolledBackIn old new id (Err error) =
-    (is_kept old.work id ≡ false) × (error ≡ conditions.UnknownId) × SameHeld old new
+    (is_kept old.work id ≡ false) × (error ≡ transaction_errors.UnknownId) × SameHeld old new

@@ -1,12 +1,8 @@
 -- A view: which ids are live, on which link and with which frames, which links are open, and how
 -- many were opened: by a record, or as a session keeps it.
 use Rattle.std.specs.Prelude.{ℕ, Bool, ◌≡◌, Option, List, is_some}
-use Rattle.amqp_txn_types.specs.declared.id.TransactionId.{TransactionId}
-use Rattle.amqp_txn_types.specs.declared.performatives.Frame.{Frame}
-use Rattle.amqp_arrivals.specs.Live.{Kept, frames_kept, kept}
-use Rattle.amqp_record.specs.declared.entry.Entry.{Entry}
-use Rattle.amqp_record.specs.Links.{attached_count, is_open}
-use Rattle.amqp_resource.specs.declared.held.Held.{Held}
+use Rattle.amqp_resource.specs.Words.{Entry, Frame, Held, TransactionId, attached_count, frames_kept, is_open, kept}
+use Rattle.amqp_arrivals.specs.Live.{Kept}
 use Rattle.amqp_resource.specs.Held.{is_in, is_kept_on, kept_by}
 
 -- the live ids, each with the link that declared it, if one did, and its frames; the open links;

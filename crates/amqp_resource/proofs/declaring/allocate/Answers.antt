@@ -1,6 +1,5 @@
 use Rattle.std.proofs.Common.{None, Some, [], cond, ap, ◌∙◌, refl}
-use Rattle.amqp_txn_types.specs.Ids.{same_id}
-use Rattle.amqp_resource.specs.declared.held.Held.{Held}
+use Rattle.amqp_resource.specs.Words.{Held, same_id}
 use Rattle.amqp_resource.specs.Held.{SameHeld}
 use Rattle.amqp_resource.proofs.Keeping.{drew-live, drew-unused}
 use Rattle.amqp_resource.proofs.declaring.allocate.Goals as goal

@@ -1,10 +1,8 @@
 use Rattle.std.proofs.Common.{ap, sym, ◌∙◌, subst, List, ◌++◌, ◌∷◌, [], ◌≡◌, arith, length, ◌+◌, ◌&&◌, true}
 use Rattle.std.proofs.lemmas.List.Folds.{list_all-append}
 use Rattle.std.proofs.lemmas.List.{length-append}
-use Rattle.amqp_txn_types.specs.declared.id.TransactionId.{TransactionId}
-use Rattle.amqp_ids.specs.Ids.{Drew}
+use Rattle.amqp_resource.specs.Words.{Drew, Live, TransactionId, kept}
 use Rattle.amqp_ids.proofs.Draws.{Drew-append, Drew-one}
-use Rattle.amqp_arrivals.specs.Live.{Live, kept}
 use Rattle.amqp_resource.specs.Draws.{all_live, is_kept}
 use Rattle.amqp_resource.proofs.declaring.draw_unused.Goals as goal
 

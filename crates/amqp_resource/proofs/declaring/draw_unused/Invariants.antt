@@ -1,6 +1,5 @@
 use Rattle.std.proofs.Common.{◌≡◌, ◌≤◌, ◌+◌, length, true}
-use Rattle.amqp_ids.specs.Ids.{Drew}
-use Rattle.amqp_arrivals.specs.Live.{kept}
+use Rattle.amqp_resource.specs.Words.{Drew, kept}
 use Rattle.amqp_resource.specs.Draws.{all_live}
 use Rattle.amqp_resource.proofs.declaring.draw_unused.Given as goal
 

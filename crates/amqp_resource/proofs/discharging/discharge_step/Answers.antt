@@ -1,12 +1,8 @@
 use Rattle.std.proofs.Common.{◌≡◌, ℕ, map, List, Result, Ok, Err, ap, sym, subst, ◌∙◌}
 use Rattle.std.specs.Option.{option_map}
-use Rattle.amqp_arrivals.specs.Live.{frames_kept, home_of, kept}
+use Rattle.amqp_resource.specs.Words.{Answers, Frame, TransactionError, frames_kept, home_of, kept, stripped}
 use Rattle.amqp_resource.proofs.Keeping.{commit-hands, held_here, here-absent, here-rolled_back, keeps-committed, keeps-vetoed, leaves-fault}
 use Rattle.amqp_resource.proofs.Leaving.{commit_calls, leaves-here}
-use Rattle.amqp_txn_types.specs.Frames.{stripped}
-use Rattle.amqp_txn_types.specs.declared.small.TransactionError.{TransactionError}
-use Rattle.amqp_txn_types.specs.declared.performatives.Frame.{Frame}
-use Rattle.amqp_layer.specs.declared.answers.Answers.{Answers}
 use Rattle.amqp_layer.specs.declared.verdict.Verdict.TheVariants as verdicts
 use Rattle.amqp_resource.specs.Transacting.{CommittedWith}
 use Rattle.amqp_resource.specs.Committing.{HandsAll, OnNoEchoes, OnVetoed}

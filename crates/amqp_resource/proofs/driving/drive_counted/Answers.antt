@@ -1,8 +1,6 @@
 use Rattle.std.proofs.Common.{rules, ap, ◌∙◌, refl, suc, ◌+◌, ◌<◌, ◌≤◌, List, ◌++◌, ◌∷◌, [], ◌≡◌, arith, length, take, drop, set}
 use Rattle.std.proofs.Math.ListN.{length-set}
-use Rattle.amqp_record.specs.declared.entry.Entry.{Entry}
-use Rattle.amqp_record.specs.declared.step.Step.{Step}
-use Rattle.amqp_record.specs.Entries.{steps_of}
+use Rattle.amqp_resource.specs.Words.{Entry, Step, steps_of}
 use Rattle.amqp_resource.specs.Steps.{entry_of}
 use Rattle.amqp_resource.specs.Session.{held_of, below_of, stop_of}
 use Rattle.amqp_resource.specs.Drive.{Left, work_count}

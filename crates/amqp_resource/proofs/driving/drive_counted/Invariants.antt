@@ -1,5 +1,5 @@
 use Rattle.std.proofs.Common.{◌≡◌, ◌≤◌, ◌+◌, ◌*◌, length, take, None}
-use Rattle.amqp_record.specs.Entries.{steps_of}
+use Rattle.amqp_resource.specs.Words.{steps_of}
 use Rattle.amqp_resource.specs.Drive.{work_count}
 use Rattle.amqp_resource.specs.Looking.{dues}
 use Rattle.amqp_resource.specs.Session.{held_of, below_of, stop_of}

@@ -1,7 +1,6 @@
 use Rattle.std.proofs.Common.{ℕ, subst, Result, Ok, Err, List}
-use Rattle.amqp_txn_types.specs.declared.performatives.Frame.{Frame}
+use Rattle.amqp_resource.specs.Words.{Frame, SessionInnerError}
 use Rattle.amqp_txn_types.specs.declared.performatives.Frame.TheVariants as frames
-use Rattle.amqp_layer.specs.declared.inner_error.SessionInnerError.{SessionInnerError}
 use Rattle.amqp_resource.specs.Opening.{OpensLink}
 use Rattle.amqp_resource.proofs.Keeping.{here-attach_wanting, keeps-attach_refused, keeps-attached}
 use Rattle.amqp_resource.proofs.Leaving.{leaves-frame, leaves-here}

@@ -1,8 +1,6 @@
 use Rattle.std.proofs.Common.{◌≡◌, cond, true, false, Bool, Result, Ok, ap, subst, ◌∙◌}
-use Rattle.amqp_txn_types.specs.declared.items.NoMemory.{NoMemory}
-use Rattle.amqp_txn_types.specs.Ids.{same_id}
-use Rattle.amqp_txn_types.specs.Works.{frame_of_work}
-use Rattle.amqp_arrivals.specs.Live.{Keeps, kept, with_frame}
+use Rattle.amqp_resource.specs.Words.{NoMemory, frame_of_work, kept, same_id, with_frame}
+use Rattle.amqp_arrivals.specs.Live.{Keeps}
 use Rattle.amqp_resource.proofs.frame_steps.keep_copy.Goals as goal
 
 pub returns-in-Ok-true-clause-kept : goal.returns-in-Ok-true-clause-kept

@@ -1,6 +1,5 @@
 use Rattle.std.proofs.Common.{ap, subst, ◌∙◌, zero-add, Ok, Err}
-use Rattle.amqp_txn_types.specs.declared.performatives.Frame.{Frame}
-use Rattle.amqp_layer.specs.Taking.{TakesFrame}
+use Rattle.amqp_resource.specs.Words.{Frame, TakesFrame}
 use Rattle.amqp_resource.specs.Steps.{fault_of}
 use Rattle.amqp_resource.proofs.Keeping.{here-plain_wanting, keeps-plain, keeps-plain_refused, when_known}
 use Rattle.amqp_resource.proofs.Leaving.{leaves-frame, leaves-here}

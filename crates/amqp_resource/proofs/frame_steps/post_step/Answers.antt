@@ -1,9 +1,6 @@
 use Rattle.std.proofs.Common.{ap, sym, subst, ◌∙◌, ◌≤◌, refl, List, Result, Ok, Err, length}
-use Rattle.amqp_txn_types.specs.declared.items.NoMemory.{NoMemory}
-use Rattle.amqp_txn_types.specs.declared.performatives.Frame.{Frame}
-use Rattle.amqp_txn_types.specs.Presumptive.{answered_under}
+use Rattle.amqp_resource.specs.Words.{Frame, NoMemory, answered_under, kept}
 use Rattle.amqp_resource.specs.Posting.{Posted}
-use Rattle.amqp_arrivals.specs.Live.{kept}
 use Rattle.amqp_resource.proofs.Fitting.{fits-posted}
 use Rattle.amqp_resource.proofs.Keeping.{here-dead, here-post_wanting, keeps-post, keeps-post_refused, when_known}
 use Rattle.amqp_resource.proofs.Leaving.{leaves-frame, leaves-here}

@@ -1,5 +1,5 @@
 use Rattle.std.proofs.Common.{Some, [], refl}
-use Rattle.amqp_resource.specs.declared.held.Held.{Held}
+use Rattle.amqp_resource.specs.Words.{Held}
 use Rattle.amqp_resource.proofs.Kept.{tied_declared}
 use Rattle.amqp_resource.proofs.held.declare_on.Goals as goal
 

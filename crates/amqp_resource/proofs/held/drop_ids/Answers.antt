@@ -1,8 +1,8 @@
 use Rattle.std.proofs.Common.{◌≤◌, ap, sym, ◌∙◌, ◌||◌, cond, length, subst, take, Option, None, arith}
 use Rattle.std.specs.List.{list_any}
 use Rattle.std.proofs.lemmas.List.Folds.{list_any_more}
-use Rattle.amqp_txn_types.specs.Ids.{same_id}
-use Rattle.amqp_arrivals.specs.Live.{Kept, frames_kept, kept}
+use Rattle.amqp_resource.specs.Words.{frames_kept, kept, same_id}
+use Rattle.amqp_arrivals.specs.Live.{Kept}
 use Rattle.amqp_resource.proofs.Kept.{gone_more}
 use Rattle.amqp_resource.proofs.Looked.{fewer, summed_more}
 use Rattle.amqp_resource.proofs.held.drop_ids.Goals as goal

@@ -1,8 +1,6 @@
 use Rattle.std.proofs.Common.{◌≡◌, cond, take, Some, None}
 use Rattle.std.specs.List.{list_any}
-use Rattle.amqp_txn_types.specs.declared.id.TransactionId.{TransactionId}
-use Rattle.amqp_txn_types.specs.Ids.{same_id}
-use Rattle.amqp_arrivals.specs.Live.{kept}
+use Rattle.amqp_resource.specs.Words.{TransactionId, kept, same_id}
 use Rattle.amqp_resource.specs.Looking.{Pays, frames_for}
 use Rattle.amqp_resource.proofs.held.drop_ids.Given as goal
 

@@ -1,5 +1,5 @@
 use Rattle.std.proofs.Common.{refl}
-use Rattle.amqp_resource.specs.declared.held.Held.{Held}
+use Rattle.amqp_resource.specs.Words.{Held}
 use Rattle.amqp_resource.proofs.Kept.{tied_taken}
 use Rattle.amqp_resource.proofs.Looked.{pays_taken}
 use Rattle.amqp_resource.proofs.held.drop_work.Goals as goal

@@ -1,9 +1,7 @@
 use Rattle.std.proofs.Common.{Option, Some, None, List, cond, ap, sym, subst, ◌∙◌}
 use Rattle.std.specs.Option.{option_map}
 use Rattle.std.specs.HashSet.{keys}
-use Rattle.amqp_txn_types.specs.declared.id.TransactionId.{TransactionId}
-use Rattle.amqp_arrivals.specs.Live.{kept}
-use Rattle.amqp_resource.specs.declared.held.Held.{Held}
+use Rattle.amqp_resource.specs.Words.{Held, TransactionId, kept}
 use Rattle.amqp_resource.specs.Held.{is_among}
 use Rattle.amqp_resource.specs.Looking.{Pays, frames_for}
 use Rattle.amqp_resource.proofs.Kept.{ids_updated, kept_dropped, kept_ended, tied_ended}

@@ -1,7 +1,5 @@
 use Rattle.std.proofs.Common.{arith, ap, refl, length, map, ◌++◌, ◌∙◌}
-use Rattle.amqp_txn_types.specs.Frames.{stripped}
-use Rattle.amqp_arrivals.specs.Live.{frames_kept, kept}
-use Rattle.amqp_resource.specs.declared.held.Held.{Held}
+use Rattle.amqp_resource.specs.Words.{Held, frames_kept, kept, stripped}
 use Rattle.amqp_resource.proofs.Kept.{tied_taken}
 use Rattle.amqp_resource.proofs.Looked.{pays_taken}
 use Rattle.amqp_resource.proofs.held.take_work.Goals as goal
