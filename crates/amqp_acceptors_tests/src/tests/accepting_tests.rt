@@ -1,6 +1,6 @@
 //! Links that are accepted, and those that aren't.
 
-use crate::test_values::{
+use crate::tests::test_values::{
     accept, are_frames, control_attach, control_reply, frames_of, granted, reply, same,
     sender_attach, session,
 };

@@ -1,6 +1,6 @@
 //! Each setter of the builders once, and copies of what they build.
 
-use crate::test_values::symbols;
+use crate::tests::test_values::symbols;
 use amqp_acceptors::*;
 use amqp_txn_types::{Fields, ReceiverSettleMode, SenderSettleMode, TryClone};
 

@@ -1,10 +1,18 @@
 //! Nodes that the peer wants to be made.
 
-use crate::test_values::{
+use crate::tests::test_values::{
     are_frames, dynamic_attach, dynamic_target_attach, frames_of, granted, reply, symbols,
 };
 use amqp_acceptors::*;
-use amqp_txn_types::{Role, Source, Target};
+use amqp_txn_types::{Attach, Role, Source, Target};
+use std::alloc::Global;
+
+/// The attach that accepts a link without its node.
+fn nodeless_reply(alloc: Global) -> Attach {
+    let mut wanted = reply(alloc, Role::Sender);
+    wanted.source = None;
+    wanted
+}
 
 #[test]
 fn a_closure_is_asked_for_a_node(rt: HostRuntime) {
@@ -33,18 +41,14 @@ fn a_link_without_its_node_is_accepted(rt: HostRuntime) {
     });
     let acceptor = LinkAcceptor::builder().on_dynamic_source(ask).build();
     let frames = frames_of(alloc, &acceptor, dynamic_attach(alloc));
-    let mut wanted = reply(alloc, Role::Sender);
-    wanted.source = None;
-    assert!(rt; are_frames(frames, wanted, None));
+    assert!(rt; are_frames(frames, nodeless_reply(alloc), None));
 }
 
 #[test]
 fn a_rule_that_makes_no_node_is_asked(rt: HostRuntime) {
     let alloc = rt.alloc();
     let frames = frames_of(alloc, &LinkAcceptor::new(), dynamic_attach(alloc));
-    let mut wanted = reply(alloc, Role::Sender);
-    wanted.source = None;
-    assert!(rt; are_frames(frames, wanted, None));
+    assert!(rt; are_frames(frames, nodeless_reply(alloc), None));
 }
 
 #[test]

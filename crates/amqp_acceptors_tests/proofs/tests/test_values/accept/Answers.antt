@@ -1,4 +1,4 @@
-use Rattle.amqp_acceptors_tests.proofs.test_values.accept.Goals as goal
+use Rattle.amqp_acceptors_tests.proofs.tests.test_values.accept.Goals as goal
 
 -- What the acceptor requires is what is required here. A search for it takes minutes, since it looks
 -- through all that an acceptor answers.
