@@ -1,17 +1,19 @@
 //! Calls over the lock, on transactions that borrow their controller.
 
-use crate::links::{CountingLink, assert_counts, assert_last, counting, fill, illegal, late};
-use crate::rows::{
-    accepted_row, discharged_row, gives_up, rejected_row, undischarged_row, unsent_row,
+use crate::tests::links::{
+    CountingLink, assert_counts, assert_last, counting, fill, illegal, late,
 };
-use crate::values::{
-    DECLARE, GLOBAL_DECLARE, ROLLBACK, declaration, id, pending, ready, refused, same, unknown_id,
+use crate::tests::rows::{
+    accepted_row, discharged_row, gives_up, put_once, rejected_row, undischarged_row, unsent_row,
+};
+use crate::tests::values::{
+    ROLLBACK, declaration, declares, id, pending, ready, refused, rejection, same,
 };
 use amqp_control_calls::{Abandoned, ControllerSendError, TransactionBase};
 use amqp_transactions::{
     Controller, DEFAULT_ROLLBACK_ON_DROP_TRIALS, Transaction, TransactionDischarge,
 };
-use amqp_txn_types::{DeliveryState, TransactionId};
+use amqp_txn_types::DeliveryState;
 use std::process::Abort;
 use std::sync::Wait;
 
@@ -27,22 +29,14 @@ pub fn begun<'t, R: Wait + Abort>(
     ready(rt, declaring.poll(rt)).expect(rt, "an Ok")
 }
 
-fn declare_row<R: Wait + Abort + AllocGlobal>(
-    rt: &R,
-    global_id: Option<TransactionId>,
-    octets: &[u8],
-) {
-    let controller = counting(rt, &[]);
-    drop(Transaction::declare(&controller, rt, global_id).expect(rt, "an Ok"));
-    assert_last(rt, &controller, octets);
-    assert_counts(rt, &controller, (1, 0, 0));
-    drop(controller);
-}
-
 #[test]
 fn a_declare_is_put_once(rt: HostRuntime) {
-    declare_row(&rt, None, &DECLARE);
-    declare_row(&rt, Some(id()), &GLOBAL_DECLARE);
+    for (global_id, octets) in declares() {
+        let controller = counting(&rt, &[]);
+        drop(Transaction::declare(&controller, &rt, global_id).expect(&rt, "an Ok"));
+        put_once(&rt, &controller, octets);
+        drop(controller);
+    }
 }
 
 #[test]
@@ -81,16 +75,14 @@ fn a_discharge_is_polled_to_its_end(rt: HostRuntime) {
 #[test]
 fn a_commit_that_is_rejected_leaves_the_value(rt: HostRuntime) {
     let controller = counting(&rt, &[]);
-    let error = rejected_row(&rt, begun(&rt, &controller));
-    assert!(rt; same(error, ControllerSendError::Rejected(unknown_id())));
+    assert!(rt; same(rejected_row(&rt, begun(&rt, &controller)), rejection()));
     drop(controller);
 }
 
 #[test]
 fn a_discharge_that_is_rejected_leaves_the_value(rt: HostRuntime) {
     let controller = counting(&rt, &[]);
-    let error = undischarged_row(&rt, begun(&rt, &controller));
-    assert!(rt; same(error, ControllerSendError::Rejected(unknown_id())));
+    assert!(rt; same(undischarged_row(&rt, begun(&rt, &controller)), rejection()));
     drop(controller);
 }
 

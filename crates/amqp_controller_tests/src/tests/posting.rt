@@ -1,6 +1,6 @@
 //! Posts and retirements under a transaction.
 
-use crate::values::{end, id, pending, same, wire};
+use crate::tests::values::{end, id, pending, same, wire};
 use amqp_control_calls::TransactionBase;
 use amqp_endpoints::Progress;
 use amqp_links::{

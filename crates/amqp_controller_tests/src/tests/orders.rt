@@ -1,8 +1,8 @@
 //! Two transactions over one controller.
 
-use crate::links::{CountingLink, assert_counts, counting, fill};
-use crate::rows::gives_up;
-use crate::values::{id, passed, pending, ready};
+use crate::tests::links::{CountingLink, assert_counts, counting, fill};
+use crate::tests::rows::gives_up;
+use crate::tests::values::{id, passed, pending, ready};
 use amqp_control_calls::{Abandoned, TransactionBase};
 use amqp_transactions::{Controller, Declaring, Transaction, TransactionDischarge};
 use amqp_txn_types::{Declared, DeliveryState, TransactionId};

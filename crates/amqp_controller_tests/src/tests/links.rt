@@ -1,6 +1,6 @@
 //! Links that count what is done to them.
 
-use crate::values::wire;
+use crate::tests::values::wire;
 use amqp_control_calls::ControllerSendError;
 use amqp_links::{
     DetachError, LinkStateError, Poll, SendError, Sendable, SenderLink, Sent, WireSender,

@@ -2,8 +2,8 @@
 
 ghost use Rattle.std.specs.Prelude.{◌≤◌};
 
-use crate::links::{assert_put, illegal};
-use crate::values::{
+use crate::tests::links::{assert_put, illegal};
+use crate::tests::values::{
     COMMIT, DECLARE, GLOBAL_DECLARE, ROLLBACK, declaration, id, pending, same, unknown_id, wire,
 };
 use amqp_control_calls::{

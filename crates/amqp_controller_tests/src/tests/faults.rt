@@ -1,9 +1,9 @@
 //! Faults of the link under a controller's lock, which the calls over the lock pass on.
 
-use crate::links::{assert_counts, counting, illegal};
-use crate::rows::{gives_up, unfound_row};
-use crate::values::{passed, ready, refused, same};
-use crate::{borrowed, owned};
+use crate::tests::links::{assert_counts, counting, illegal};
+use crate::tests::rows::{gives_up, unfound_row};
+use crate::tests::values::{passed, ready, refused, same};
+use crate::tests::{borrowed, owned};
 use amqp_control_calls::Abandoned;
 use amqp_transactions::{OwnedDischargeError, OwnedTransaction, Transaction};
 use std::process::Abort;

@@ -1,16 +1,19 @@
 //! Calls over the lock, on transactions that own their controller.
 
-use crate::links::{CountingLink, assert_counts, assert_last, counting, fill, illegal, late};
-use crate::rows::{
-    accepted_row, asks, discharged_row, gives_up, rejected_row, undischarged_row, unsent_row,
+use crate::tests::links::{
+    CountingLink, assert_counts, assert_last, counting, fill, illegal, late,
 };
-use crate::values::{
-    DECLARE, GLOBAL_DECLARE, declaration, id, passed, pending, ready, refused, same, unknown_id,
+use crate::tests::rows::{
+    accepted_row, asks, discharged_row, gives_up, put_once, rejected_row, undischarged_row,
+    unsent_row,
 };
-use amqp_control_calls::{Abandoned, ControllerSendError, TransactionBase};
+use crate::tests::values::{
+    declaration, declares, id, passed, pending, ready, refused, rejection, same,
+};
+use amqp_control_calls::{Abandoned, TransactionBase};
 use amqp_links::DetachError;
 use amqp_transactions::{Controller, OwnedDischargeError, OwnedTransaction, TransactionDischarge};
-use amqp_txn_types::{DeliveryState, TransactionId};
+use amqp_txn_types::DeliveryState;
 use std::process::Abort;
 use std::sync::Wait;
 
@@ -31,23 +34,15 @@ pub fn begun<R: Wait + Abort + AllocGlobal>(
     passed(rt, ready(rt, declaring.poll(rt)))
 }
 
-fn declare_row<R: Wait + Abort + AllocGlobal>(
-    rt: &R,
-    global_id: Option<TransactionId>,
-    octets: &[u8],
-) {
-    let controller = counting(rt, &[]);
-    let declare = OwnedTransaction::declare_with_controller(controller, rt, global_id);
-    let declaring = passed(rt, declare);
-    assert_last(rt, declaring.controller(), octets);
-    assert_counts(rt, declaring.controller(), (1, 0, 0));
-    drop(declaring);
-}
-
 #[test]
 fn a_declare_is_put_once(rt: HostRuntime) {
-    declare_row(&rt, None, &DECLARE);
-    declare_row(&rt, Some(id()), &GLOBAL_DECLARE);
+    for (global_id, octets) in declares() {
+        let controller = counting(&rt, &[]);
+        let declare = OwnedTransaction::declare_with_controller(controller, &rt, global_id);
+        let declaring = passed(&rt, declare);
+        put_once(&rt, declaring.controller(), octets);
+        drop(declaring);
+    }
 }
 
 #[test]
@@ -72,15 +67,13 @@ fn a_discharge_is_polled_to_its_end(rt: HostRuntime) {
 #[test]
 fn a_commit_that_is_rejected_leaves_the_value(rt: HostRuntime) {
     let error = rejected_row(&rt, begun(&rt, &[]));
-    let want = ControllerSendError::Rejected(unknown_id());
-    assert!(rt; same(error, OwnedDischargeError::ControllerSendError(want)));
+    assert!(rt; same(error, OwnedDischargeError::ControllerSendError(rejection())));
 }
 
 #[test]
 fn a_discharge_that_is_rejected_leaves_the_value(rt: HostRuntime) {
     let error = undischarged_row(&rt, begun(&rt, &[]));
-    let want = ControllerSendError::Rejected(unknown_id());
-    assert!(rt; same(error, OwnedDischargeError::ControllerSendError(want)));
+    assert!(rt; same(error, OwnedDischargeError::ControllerSendError(rejection())));
 }
 
 /// The calls of the link: a declare, two looks, and the commit, which fails.

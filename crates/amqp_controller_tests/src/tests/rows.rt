@@ -1,7 +1,7 @@
 //! The steps of a transaction's end, borrowed or owned.
 
-use crate::links::{CountingLink, assert_counts, assert_last, fill};
-use crate::values::{COMMIT, ROLLBACK, passed, pending, ready, refused, same, unknown_id};
+use crate::tests::links::{CountingLink, assert_counts, assert_last, fill};
+use crate::tests::values::{COMMIT, ROLLBACK, passed, pending, ready, refused, same, unknown_id};
 use amqp_control_calls::Abandoned;
 use amqp_transactions::{
     Controller, Discharging, OwnedTransaction, Transaction, TransactionDischarge,
@@ -35,6 +35,16 @@ impl Over for OwnedTransaction<CountingLink> {
     fn set_trials(&mut self, trials: u32) {
         self.set_rollback_on_drop_trials(trials);
     }
+}
+
+/// A declare is put on the controller's link once, and no look is made.
+pub fn put_once<R: Wait + Abort + AllocGlobal>(
+    rt: &R,
+    controller: &Controller<CountingLink>,
+    octets: &[u8],
+) {
+    assert_last(rt, controller, octets);
+    assert_counts(rt, controller, (1, 0, 0));
 }
 
 /// Giving it up with that many trials ends so.

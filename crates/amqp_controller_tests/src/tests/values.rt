@@ -1,5 +1,6 @@
 //! Values that several tests use, and what a call or a wait must have given.
 
+use amqp_control_calls::ControllerSendError;
 use amqp_endpoints::Progress;
 use amqp_links::WireSender;
 use amqp_txn_types::{
@@ -72,6 +73,11 @@ pub fn id() -> TransactionId {
     }
 }
 
+/// A declare of no global id and one of the global id 010203, each with its octets.
+pub fn declares() -> [(Option<TransactionId>, &'static [u8]); 2] {
+    [(None, &DECLARE), (Some(id()), &GLOBAL_DECLARE)]
+}
+
 /// The declare of the id 010203, answered.
 pub fn declaration() -> Declared {
     Declared { txn_id: id() }
@@ -92,6 +98,11 @@ pub fn unknown_id() -> Rejected {
     Rejected {
         error: Some(plain_error(condition)),
     }
+}
+
+/// Why a message about such an id is refused.
+pub fn rejection() -> ControllerSendError {
+    ControllerSendError::Rejected(unknown_id())
 }
 
 /// The name of each link.

@@ -1,6 +1,6 @@
 //! The texts of errors, and the names under which one error becomes another.
 
-use crate::values::same;
+use crate::tests::values::same;
 use amqp_control_calls::ControllerSendError;
 use amqp_endpoints::SenderAttachError;
 use amqp_links::{

@@ -1,7 +1,7 @@
 //! Controllers that are closed.
 
-use crate::links::{Lent, assert_counts, counting, late};
-use crate::values::{passed, plain_error, refused, same};
+use crate::tests::links::{Lent, assert_counts, counting, late};
+use crate::tests::values::{passed, plain_error, refused, same};
 use amqp_links::{DetachError, SenderLink};
 use amqp_transactions::Controller;
 use amqp_txn_types::{AmqpError, Error, ErrorCondition};

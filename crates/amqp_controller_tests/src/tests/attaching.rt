@@ -1,8 +1,8 @@
 //! Control links that are attached over a plain session. The helpers take any session: the contract
 //! of a known one is dear to prove.
 
-use crate::links::assert_put;
-use crate::values::{
+use crate::tests::links::assert_put;
+use crate::tests::values::{
     GLOBAL_DECLARE, declaration, end, id, name, passed, pending, ready, refused, same,
 };
 use amqp_control_calls::{Abandoned, TransactionBase};
@@ -42,15 +42,16 @@ fn attach<S: Session, R: Abort + AllocGlobal>(rt: &R, session: &mut S) -> Attach
 }
 
 /// A link is pending first, and attached once the peer attached it; it settles so.
-fn is_attached<S: Session, R: Wait + Abort + AllocGlobal>(
+fn is_attached<S: Session + Drop, R: Wait + Abort + AllocGlobal>(
     rt: &R,
-    session: &mut S,
+    mut session: S,
     attaching: Attaching,
     mode: SenderSettleMode,
 ) {
-    let attaching = pending(rt, attaching.poll(session));
-    peer_attaches(rt, session);
-    let controller = ready(rt, attaching.poll(session)).expect(rt, "an Ok");
+    let attaching = pending(rt, attaching.poll(&mut session));
+    peer_attaches(rt, &mut session);
+    let controller = ready(rt, attaching.poll(&mut session)).expect(rt, "an Ok");
+    drop(session);
     let want = end(rt, Role::Sender, mode);
     let link = controller.link(rt);
     assert!(rt; *link.end() == want);
@@ -63,8 +64,7 @@ fn is_attached<S: Session, R: Wait + Abort + AllocGlobal>(
 fn a_control_link_is_attached(rt: HostRuntime) {
     let mut session = session(&rt);
     let attaching = attach(&rt, &mut session);
-    is_attached(&rt, &mut session, attaching, SenderSettleMode::Unsettled);
-    drop(session);
+    is_attached(&rt, session, attaching, SenderSettleMode::Unsettled);
 }
 
 /// The control link that a builder asks for, which is sent settled.
@@ -82,8 +82,7 @@ fn built<S: Session, R: Abort + AllocGlobal>(rt: &R, session: &mut S) -> Attachi
 fn a_control_link_is_built(rt: HostRuntime) {
     let mut session = session(&rt);
     let attaching = built(&rt, &mut session);
-    is_attached(&rt, &mut session, attaching, SenderSettleMode::Settled);
-    drop(session);
+    is_attached(&rt, session, attaching, SenderSettleMode::Settled);
 }
 
 /// A second link of a name is refused.
