@@ -1,6 +1,6 @@
 //! Sessions that are accepted and begun, on each answer of the connection.
 
-use crate::test_values::{
+use crate::tests::test_values::{
     connection, error_word, incoming, stopped_connection, transactional, word,
 };
 use amqp_acceptors::ControlLinkAcceptor;

@@ -2,7 +2,7 @@
 //! commit, one on a handle without a link is vetoed there, a plain frame is handed at once, an id
 //! that isn't live stops it.
 
-use crate::test_values::{Listening, incoming, transactional, transfer};
+use crate::tests::test_values::{Listening, incoming, transactional, transfer};
 use amqp_endpoints::ListenerSessionEndpoint;
 use amqp_ids::CountIds;
 use amqp_layer::SessionInnerError;

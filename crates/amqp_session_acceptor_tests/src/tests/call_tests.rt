@@ -1,7 +1,7 @@
 //! The calls of a transactional session over a listener, without an engine, and over one that
 //! accepts links at once: each succeeds where there is memory.
 
-use crate::test_values::{Listening, transfer};
+use crate::tests::test_values::{Listening, transfer};
 use amqp_accepting::AcceptingListener;
 use amqp_acceptors::{ControlLinkAcceptor, LinkAcceptor};
 use amqp_ids::CountIds;
