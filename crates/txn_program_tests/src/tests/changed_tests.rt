@@ -1,6 +1,6 @@
 //! A record in which one field of one entry was changed is legal no more, by the slow program.
 
-use crate::run_tests::{A, ran};
+use crate::tests::run_tests::{A, ran};
 use amqp_below::{Answers, Echoes, SureSink};
 use amqp_record::{Entry, Reply, Step, is_legal};
 use amqp_txn_types::{Frames, NoMemory, TransactionId};

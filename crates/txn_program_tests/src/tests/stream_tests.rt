@@ -1,6 +1,6 @@
 //! Sources and sinks of which calls fail, and those of the standard library.
 
-use crate::run_tests::{A, append_words};
+use crate::tests::run_tests::{A, append_words};
 use amqp_below::{
     ByteSink, ByteSource, Failed, MemorySink, MemorySource, OpenSession, Recorder, SureSink,
 };

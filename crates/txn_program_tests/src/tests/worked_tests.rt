@@ -1,7 +1,7 @@
 //! Runs of more than one link or end, each worked by hand: what the program answers, with ample
 //! memory.
 
-use crate::run_tests::{A, assert_run};
+use crate::tests::run_tests::{A, assert_run};
 use std::test::Fail;
 
 #[test]

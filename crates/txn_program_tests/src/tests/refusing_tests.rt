@@ -1,6 +1,6 @@
 //! Runs that are refused below or ended, and made runs.
 
-use crate::run_tests::{A, B, assert_run, ran};
+use crate::tests::run_tests::{A, B, assert_run, ran};
 use amqp_below::SureSink;
 use amqp_txn_types::NoMemory;
 use std::alloc::{Alloc, Global};
