@@ -1,16 +1,6 @@
-//! What no clause says of acceptors: that their calls succeed where there is memory, and printed
-//! texts.
+//! The tests of `amqp_acceptors`. They stand apart from it, since a crate with tests is proved
+//! twice.
 #![tactic(auto)]
 
 #[cfg(test)]
-mod accepting_tests;
-#[cfg(test)]
-mod builder_tests;
-#[cfg(test)]
-mod dynamic_tests;
-#[cfg(test)]
-mod mode_tests;
-#[cfg(test)]
-mod test_values;
-#[cfg(test)]
-mod text_tests;
+mod tests;

@@ -10,18 +10,28 @@ use std::marker::Brand;
 use std::process::Abort;
 use std::sync::ledger::{Blank, Ledger};
 
-fn add<R: Abort>(rt: &R, live: &mut LiveWork, octet: u8, home: Option<u64>) {
-    let txn_id = id(octet);
-    live.make_room().expect(rt, "an Ok");
-    assert!(rt; !live.is_live(&txn_id));
-    live.add(txn_id, home);
-    assert!(rt; live.is_live(&txn_id));
+#[test]
+fn new_value_keeps_nothing(rt: HostRuntime) {
+    let live = LiveWork::new(rt.alloc());
+    assert!(rt; live.is_empty());
+    assert_eq!(rt; live.home(&id(1)), None);
+    assert_eq!(rt; live.count(&id(1)), 0);
+    assert_eq!(rt; live.owed(), 0);
+    drop(live);
 }
 
 fn keep<R: Abort>(rt: &R, live: &mut LiveWork, octet: u8, number: u32) {
     let txn_id = id(octet);
     assert!(rt; live.is_live(&txn_id));
     assert_eq!(rt; live.keep(&txn_id, work(number)), Ok(true));
+}
+
+fn add<R: Abort>(rt: &R, live: &mut LiveWork, octet: u8, home: Option<u64>) {
+    let txn_id = id(octet);
+    live.make_room().expect(rt, "an Ok");
+    assert!(rt; !live.is_live(&txn_id));
+    live.add(txn_id, home);
+    assert!(rt; live.is_live(&txn_id));
 }
 
 /// Works 1 to 3: the odd ones under the id 1, of the link 7, and the even one under the id 2, of no
@@ -32,16 +42,6 @@ fn two_ids<R: Abort>(rt: &R, live: &mut LiveWork) {
     keep(rt, live, 1, 1);
     keep(rt, live, 2, 2);
     keep(rt, live, 1, 3);
-}
-
-#[test]
-fn new_value_keeps_nothing(rt: HostRuntime) {
-    let live = LiveWork::new(rt.alloc());
-    assert!(rt; live.is_empty());
-    assert_eq!(rt; live.home(&id(1)), None);
-    assert_eq!(rt; live.count(&id(1)), 0);
-    assert_eq!(rt; live.owed(), 0);
-    drop(live);
 }
 
 #[test]

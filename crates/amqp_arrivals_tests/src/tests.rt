@@ -67,16 +67,41 @@ fn take_first<L: Ledger>(
     Some(log.take(place, looks))
 }
 
-fn takes<L: Ledger, R: Abort>(rt: &R, log: &mut ArrivalLog, blank: Blank)
+/// What a test does to a log of two ids.
+enum Case {
+    Takes,
+    ClosesUp,
+    Settles,
+    Ends,
+}
+
+fn run_case<L: Ledger, R: Abort>(rt: &R, case: Case, log: &mut ArrivalLog, blank: Blank)
     requires name { blank.name ≡ L.name }
     requires parts { blank.parts ≡ L.parts }
     requires some { 0 < blank.parts }
 {
     let mut looks = Looks::<L>::new(blank);
-    assert_eq!(rt; number_of(take_first(log, &id(2), &mut looks)), Some(2));
+    match case {
+        Case::Takes => takes(rt, log, &mut looks),
+        Case::ClosesUp => closes_up(rt, log, &mut looks),
+        Case::Settles => settles(rt, log, &mut looks),
+        Case::Ends => ends(rt, log, &mut looks),
+    }
+}
+
+/// The case on a log of works 1 to 5, with a count of looks of its own.
+fn with_two_ids<R: Abort + AllocGlobal>(rt: &R, case: Case) {
+    let mut log = ArrivalLog::new(rt.alloc());
+    two_ids(rt, &mut log);
+    run_case::<Brand, R>(rt, case, &mut log, Blank::new(1));
+    drop(log);
+}
+
+fn takes<L: Ledger, R: Abort>(rt: &R, log: &mut ArrivalLog, looks: &mut Looks<L>) {
+    assert_eq!(rt; number_of(take_first(log, &id(2), looks)), Some(2));
     assert_eq!(rt; log.first(&id(2)), Some(3));
     if let Some(place) = log.first(&id(1)) {
-        assert_eq!(rt; number_of(Some(log.take(place, &mut looks))), Some(1));
+        assert_eq!(rt; number_of(Some(log.take(place, looks))), Some(1));
     }
     assert_eq!(rt; log.dead(), 2);
     assert_eq!(rt; log.first(&id(1)), Some(2));
@@ -84,61 +109,45 @@ fn takes<L: Ledger, R: Abort>(rt: &R, log: &mut ArrivalLog, blank: Blank)
 
 #[test]
 fn work_is_taken_in_order(rt: HostRuntime) {
-    let mut log = ArrivalLog::new(rt.alloc());
-    two_ids(&rt, &mut log);
-    takes::<Brand, HostRuntime>(&rt, &mut log, Blank::new(1));
-    drop(log);
+    with_two_ids(&rt, Case::Takes);
 }
 
-fn closes_up<L: Ledger, R: Abort>(rt: &R, log: &mut ArrivalLog, blank: Blank)
-    requires name { blank.name ≡ L.name }
-    requires parts { blank.parts ≡ L.parts }
-    requires some { 0 < blank.parts }
-{
-    let mut looks = Looks::<L>::new(blank);
-    assert_eq!(rt; number_of(take_first(log, &id(1), &mut looks)), Some(1));
-    log.close_up(&mut looks);
+fn closes_up<L: Ledger, R: Abort>(rt: &R, log: &mut ArrivalLog, looks: &mut Looks<L>) {
+    assert_eq!(rt; number_of(take_first(log, &id(1), looks)), Some(1));
+    log.close_up(looks);
     assert_eq!(rt; log.dead(), 0);
     assert_eq!(rt; log.first(&id(2)), Some(0));
     assert_eq!(rt; log.first(&id(1)), Some(1));
-    assert_eq!(rt; number_of(take_first(log, &id(2), &mut looks)), Some(2));
-    assert_eq!(rt; number_of(take_first(log, &id(2), &mut looks)), Some(4));
-    assert_eq!(rt; number_of(take_first(log, &id(2), &mut looks)), None);
+    assert_eq!(rt; number_of(take_first(log, &id(2), looks)), Some(2));
+    assert_eq!(rt; number_of(take_first(log, &id(2), looks)), Some(4));
+    assert_eq!(rt; number_of(take_first(log, &id(2), looks)), None);
 }
 
 #[test]
 fn closed_up_log_keeps_its_order(rt: HostRuntime) {
-    let mut log = ArrivalLog::new(rt.alloc());
-    two_ids(&rt, &mut log);
-    closes_up::<Brand, HostRuntime>(&rt, &mut log, Blank::new(1));
-    drop(log);
+    with_two_ids(&rt, Case::ClosesUp);
 }
 
-fn settles<L: Ledger, R: Abort>(rt: &R, log: &mut ArrivalLog, blank: Blank)
-    requires name { blank.name ≡ L.name }
-    requires parts { blank.parts ≡ L.parts }
-    requires some { 0 < blank.parts }
-{
-    let mut looks = Looks::<L>::new(blank);
-    drop(take_first(log, &id(1), &mut looks));
-    drop(take_first(log, &id(1), &mut looks));
-    log.settle(&mut looks);
+fn settles<L: Ledger, R: Abort>(rt: &R, log: &mut ArrivalLog, looks: &mut Looks<L>) {
+    drop(take_first(log, &id(1), looks));
+    drop(take_first(log, &id(1), looks));
+    log.settle(looks);
     assert_eq!(rt; log.dead(), 2);
-    drop(take_first(log, &id(1), &mut looks));
-    log.settle(&mut looks);
+    drop(take_first(log, &id(1), looks));
+    log.settle(looks);
     assert_eq!(rt; log.dead(), 0);
     assert_eq!(rt; log.live(), 2);
 }
 
-fn ends<L: Ledger, R: Abort>(rt: &R, log: &mut ArrivalLog, blank: Blank)
-    requires name { blank.name ≡ L.name }
-    requires parts { blank.parts ≡ L.parts }
-    requires some { 0 < blank.parts }
-{
+#[test]
+fn log_is_closed_up_once_more_is_dead_than_live(rt: HostRuntime) {
+    with_two_ids(&rt, Case::Settles);
+}
+
+fn ends<L: Ledger, R: Abort>(rt: &R, log: &mut ArrivalLog, looks: &mut Looks<L>) {
     let txn_id = id(2);
-    let mut looks = Looks::<L>::new(blank);
-    drop(take_first(log, &txn_id, &mut looks));
-    drop(take_first(log, &txn_id, &mut looks));
+    drop(take_first(log, &txn_id, looks));
+    drop(take_first(log, &txn_id, looks));
     assert!(rt; log.is_opened(&txn_id));
     assert_eq!(rt; log.count(&txn_id), 0);
     log.end(&txn_id);
@@ -149,16 +158,5 @@ fn ends<L: Ledger, R: Abort>(rt: &R, log: &mut ArrivalLog, blank: Blank)
 
 #[test]
 fn ended_id_is_opened_no_more(rt: HostRuntime) {
-    let mut log = ArrivalLog::new(rt.alloc());
-    two_ids(&rt, &mut log);
-    ends::<Brand, HostRuntime>(&rt, &mut log, Blank::new(1));
-    drop(log);
-}
-
-#[test]
-fn log_is_closed_up_once_more_is_dead_than_live(rt: HostRuntime) {
-    let mut log = ArrivalLog::new(rt.alloc());
-    two_ids(&rt, &mut log);
-    settles::<Brand, HostRuntime>(&rt, &mut log, Blank::new(1));
-    drop(log);
+    with_two_ids(&rt, Case::Ends);
 }

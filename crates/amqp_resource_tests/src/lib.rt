@@ -3,12 +3,4 @@
 #![tactic(auto)]
 
 #[cfg(test)]
-mod listener_tests;
-#[cfg(test)]
-mod log_tests;
-#[cfg(test)]
-mod review_tests;
-#[cfg(test)]
 mod tests;
-#[cfg(test)]
-mod window_tests;

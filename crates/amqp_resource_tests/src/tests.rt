@@ -1,6 +1,11 @@
 //! What no clause says: what goes out is checked by the layer below. And the life of an id of no
 //! link, step by step.
 
+mod listener_tests;
+mod log_tests;
+mod review_tests;
+mod window_tests;
+
 use amqp_layer::{LayerBelow, OpenSession, SessionInnerError, Tells, Verdict};
 use amqp_recorder::Recorder;
 use amqp_resource::*;
@@ -15,11 +20,12 @@ use std::alloc::Global;
 use std::mem::replace;
 use std::process::Abort;
 
-/// A layer that takes every frame and wants memory for each disposition that goes out. It gives
-/// these back for its first transfer and its second one, and no frame for any other.
+/// An open session that wants memory for each disposition that goes out. It gives these back for its
+/// first transfer and its second one, and no frame for any other.
 #[derive(Drop)]
 struct Unsettling {
     alloc: Global,
+    open: OpenSession,
     refusals: u64,
     first: Frames,
     second: Frames,
@@ -29,6 +35,7 @@ struct Unsettling {
 fn echoing_none(alloc: Global) -> Unsettling {
     Unsettling {
         alloc,
+        open: OpenSession::new(alloc),
         refusals: 0,
         first: Frames::new(alloc),
         second: Frames::new(alloc),
@@ -86,18 +93,6 @@ impl LayerBelow for Unsettling {
 
     ghost window_stays_on = { λ _ _ _ _ _ takes. takes };
 
-    fn local_state(&self) -> SessionState {
-        SessionState::Mapped
-    }
-
-    fn on_incoming_attach(&mut self, attach: Attach) -> Result<Frames, SessionInnerError> {
-        Ok(Frames::new(self.alloc))
-    }
-
-    fn on_incoming_flow(&mut self, flow: Flow) -> Result<Frames, SessionInnerError> {
-        Ok(Frames::new(self.alloc))
-    }
-
     fn on_incoming_transfer(
         &mut self,
         transfer: Transfer,
@@ -105,21 +100,6 @@ impl LayerBelow for Unsettling {
     ) -> Result<Frames, SessionInnerError> {
         let next = replace(&mut self.second, Frames::new(self.alloc));
         Ok(replace(&mut self.first, next))
-    }
-
-    fn on_incoming_disposition(
-        &mut self,
-        disposition: Disposition,
-    ) -> Result<Frames, SessionInnerError> {
-        Ok(Frames::new(self.alloc))
-    }
-
-    fn on_incoming_detach(&mut self, detach: Detach) -> Result<Frames, SessionInnerError> {
-        Ok(Frames::new(self.alloc))
-    }
-
-    fn on_control_attach(&mut self, attach: &Attach) -> Result<Frames, SessionInnerError> {
-        Ok(Frames::new(self.alloc))
     }
 
     fn on_outgoing_disposition(
@@ -130,12 +110,39 @@ impl LayerBelow for Unsettling {
         Err(SessionInnerError::NoMemory)
     }
 
+    fn on_incoming_disposition(
+        &mut self,
+        disposition: Disposition,
+    ) -> Result<Frames, SessionInnerError> {
+        self.open.on_incoming_disposition(disposition)
+    }
+
+    fn local_state(&self) -> SessionState {
+        self.open.local_state()
+    }
+
+    fn on_control_attach(&mut self, attach: &Attach) -> Result<Frames, SessionInnerError> {
+        self.open.on_control_attach(attach)
+    }
+
+    fn on_incoming_attach(&mut self, attach: Attach) -> Result<Frames, SessionInnerError> {
+        self.open.on_incoming_attach(attach)
+    }
+
+    fn on_incoming_flow(&mut self, flow: Flow) -> Result<Frames, SessionInnerError> {
+        self.open.on_incoming_flow(flow)
+    }
+
+    fn on_incoming_detach(&mut self, detach: Detach) -> Result<Frames, SessionInnerError> {
+        self.open.on_incoming_detach(detach)
+    }
+
     fn maybe_outgoing_session_flow(&mut self) -> Option<Flow> {
-        None
+        self.open.maybe_outgoing_session_flow()
     }
 
     fn review(&mut self, frames: &Frames) -> Result<Verdict, NoMemory> {
-        Ok(Verdict::Accept)
+        self.open.review(frames)
     }
 }
 

@@ -3,16 +3,4 @@
 #![tactic(auto)]
 
 #[cfg(test)]
-mod changed_tests;
-#[cfg(test)]
-mod long_run_tests;
-#[cfg(test)]
-mod refusing_tests;
-#[cfg(test)]
-mod run_tests;
-#[cfg(test)]
-mod stream_tests;
-#[cfg(test)]
 mod tests;
-#[cfg(test)]
-mod worked_tests;

@@ -1,5 +1,12 @@
 //! What no clause says: the tables of lines and words by examples from outside, and printed texts.
 
+mod changed_tests;
+mod long_run_tests;
+mod refusing_tests;
+mod run_tests;
+mod stream_tests;
+mod worked_tests;
+
 use amqp_below::Exchanges;
 use amqp_record::{Driven, Entries, Step, Steps, Stop};
 use amqp_txn_types::{Frames, NoMemory, Text, TryClone};
