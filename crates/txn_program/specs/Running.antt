@@ -7,7 +7,6 @@ use Rattle.amqp_layer.specs.declared.inner_error.SessionInnerError.TheVariants a
 use Rattle.amqp_layer.specs.Told.{Fixed, Told}
 use Rattle.amqp_ids.specs.Ids.{AreNext}
 use Rattle.amqp_record.specs.declared.step.Step.{Step}
-use Rattle.amqp_record.specs.declared.entry.Entry.{Entry}
 use Rattle.amqp_record.specs.declared.stop.Stop.{Stop}
 use Rattle.amqp_record.specs.declared.stop.Stop.TheVariants as stops
 use Rattle.amqp_record.specs.declared.stop.Driven.{Driven}
