@@ -114,7 +114,7 @@ module _ {S : Type 0} (told : S → Told) (kept : S → Kept) (names : S → Nam
       names = names-same (inner_of old) (inner_of new) alone.untouched;
     }
     | inr reached ↦ elim reached [
-      | inl asked ↦ law (inner_of old) (inner_of new) list answer asked.inner.gave
-      | inr vetoed ↦ law (inner_of old) (inner_of new) list (Ok verdicts.Veto) vetoed.inner.gave
+      | inl asked ↦ law (inner_of old) (inner_of new) list answer asked.inner.answered
+      | inr vetoed ↦ law (inner_of old) (inner_of new) list (Ok verdicts.Veto) vetoed.inner.answered
     ]
   ]

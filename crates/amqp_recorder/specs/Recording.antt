@@ -73,6 +73,16 @@ pub record IsFresh (unused : Bool) (told : Told) : Type 0 where
   pub refused : told.refused ≡ Some []
   pub vetoed : told.reviews.vetoed ≡ Some []
 
+-- the plans of a recorder are set to these, and all else is kept
+pub record SetsPlans {S : Type 0} (old new : Recorder S) (refusing starving : List ℕ) : Type 0 where
+  pub plan : plan_of new ≡ refusing
+  pub starved : starved_of new ≡ starving
+  pub inner : inner_of new ≡ inner_of old
+  pub calls : calls_of new ≡ calls_of old
+  pub own : own_of new ≡ own_of old
+  pub own_vetoes : own_vetoes_of new ≡ own_vetoes_of old
+  pub unused : is_unused new ≡ is_unused old
+
 -- what a recorder tells at first: nothing taken, opened, refused or vetoed, and the counts and the
 -- state of the layer in it
 abbrev pub StartsOver : Told → Told → Type 0
@@ -210,8 +220,8 @@ pub record PassesOn {S : Type 0} (old new : Recorder S) : Type 0 where
   pub plans : SamePlans old new
   pub unused : is_unused new ≡ is_unused old
 
--- a call that the layer in a recorder answers, by what that told and gave
+-- a call that the layer in a recorder answers, by what that told and answered
 pub record Passes {S : Type 0} (Tells Gives : S → S → Type 0) (old new : Recorder S) : Type 0 where
   pub tells : Tells (inner_of old) (inner_of new)
-  pub gave : Gives (inner_of old) (inner_of new)
+  pub answered : Gives (inner_of old) (inner_of new)
   pub kept : PassesOn old new

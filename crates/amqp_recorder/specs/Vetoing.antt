@@ -15,12 +15,12 @@ use Rattle.amqp_recorder.specs.declared.call_numbers.Planned.TheVariants as fate
 use Rattle.amqp_recorder.specs.declared.recorder.Recorder.{Recorder}
 use Rattle.amqp_recorder.specs.Recording.{PassesOn, RecordsCall, WhyErr, any_refused, calls_of, error_uncopied, given_uncopied, inner_of, is_among, is_unused, no_room, own_of, own_vetoes_of, passed, plan_of, planned_by, planned_so, starved_of}
 
--- what a layer told and gave in a review
+-- what a layer told and answered in a review
 pub record Reviewed {S : Type 0} (told : S → Told)
     (gives : S → S → List Frame → Result Verdict NoMemory → Type 0) (old new : S)
     (list : List Frame) (result : Result Verdict NoMemory) : Type 0 where
   pub reviews : Reviews (told old) (told new) list result
-  pub gave : gives old new list result
+  pub answered : gives old new list result
 
 -- a recorder answers by itself where its plan vetoes the frames, of which it may lack memory for a
 -- copy

@@ -38,8 +38,8 @@ pub(crate) fn prepare_review(frames: &Frames, vetoed: &mut Vec<Frames>) -> Resul
     frames.try_clone()
 }
 
-/// What comes before a call of the layer: that no plan refuses it, and room for what is kept of it. A
-/// planned refusal is kept. It gives a copy of the frame, to be kept.
+/// What comes before a call of the layer: that no plan refuses it, and room for what is kept of it.
+/// A planned refusal is kept. It gives a copy of the frame, to be kept.
 #[inline(always)]
 pub(crate) fn before_call(
     planned: Planned,
@@ -70,8 +70,8 @@ pub(crate) fn before_call(
     }
 }
 
-/// Keeps what the layer answered to a frame, and gives what is answered for it. A refusal of its own,
-/// for want of memory, is counted.
+/// Keeps what the layer answered to a frame, and gives what is answered for it. A refusal of its
+/// own, for want of memory, is counted.
 #[inline(always)]
 pub(crate) fn after_call(
     alloc: Global,
@@ -107,8 +107,8 @@ fn copied(alloc: Global, frames: &Frames) -> Result<Frames, NoMemory>
     frames.try_clone()
 }
 
-/// Keeps what was taken with a copy of the frames given back for it, and gives these. The only error
-/// is want of memory for the copy, where there are such frames.
+/// Keeps what was taken with a copy of the frames given back for it, and gives these. The only
+/// error is want of memory for the copy, where there are such frames.
 #[inline(always)]
 pub(crate) fn keep_taken<F: Drop>(
     alloc: Global,

@@ -2,7 +2,7 @@
 
 ghost use Rattle.std.specs.Prelude.{◌≡◌, ◌↔◌, [], Some, IsTrue};
 ghost use Rattle.amqp_layer.specs.Told.{Told, Takes, planned, starving};
-ghost use Rattle.amqp_recorder.specs.Recording.{IsFresh, RecordsCall, StartsOver, calls_of, inner_of, is_unused, own_of, own_vetoes_of, plan_of, starved_of};
+ghost use Rattle.amqp_recorder.specs.Recording.{IsFresh, RecordsCall, SetsPlans, StartsOver, calls_of, inner_of, is_unused, own_of, own_vetoes_of, plan_of, starved_of};
 
 mod listener_calls;
 mod session_calls;
@@ -28,8 +28,8 @@ use std::alloc::Global;
 /// there is none the answer is `NoMemory`.
 ///
 /// A review is vetoed where the plan refuses one of the calls that its frames would make, and else
-/// where the layer in it vetoes it. It counts as no call, and the starved numbers don't matter to it.
-/// The frames are copied once they are vetoed: where there is no memory for that the answer is
+/// where the layer in it vetoes it. It counts as no call, and the starved numbers don't matter to
+/// it. The frames are copied once they are vetoed: where there is no memory for that the answer is
 /// `NoMemory`.
 #[derive(Drop)]
 pub struct Recorder<S> {
@@ -90,13 +90,7 @@ impl<S: LayerBelow> Recorder<S> {
     /// That the recorder [`is_fresh`](Recorder::is_fresh).
     pub fn set_plan(&mut self, plan: CallNumbers)
         requires { IsFresh (is_unused self.old) (⟦<Recorder<S> as Tells>⟧.told self.old) }
-        ensures plan { plan_of self.new ≡ plan }
-        ensures starved { starved_of self.new ≡ starved_of self.old }
-        ensures inner { inner_of self.new ≡ inner_of self.old }
-        ensures calls { calls_of self.new ≡ calls_of self.old }
-        ensures own { own_of self.new ≡ own_of self.old }
-        ensures own_vetoes { own_vetoes_of self.new ≡ own_vetoes_of self.old }
-        ensures unused { is_unused self.new ≡ is_unused self.old }
+        ensures sets { SetsPlans self.old self.new plan (starved_of self.old) }
         ensures told { ⟦<Recorder<S> as Tells>⟧.told self.new
             ≡ planned plan (⟦<Recorder<S> as Tells>⟧.told self.old) }
     {
@@ -118,13 +112,7 @@ impl<S: LayerBelow> Recorder<S> {
     /// That the recorder [`is_fresh`](Recorder::is_fresh).
     pub fn set_starved(&mut self, plan: CallNumbers)
         requires { IsFresh (is_unused self.old) (⟦<Recorder<S> as Tells>⟧.told self.old) }
-        ensures starved { starved_of self.new ≡ plan }
-        ensures plan { plan_of self.new ≡ plan_of self.old }
-        ensures inner { inner_of self.new ≡ inner_of self.old }
-        ensures calls { calls_of self.new ≡ calls_of self.old }
-        ensures own { own_of self.new ≡ own_of self.old }
-        ensures own_vetoes { own_vetoes_of self.new ≡ own_vetoes_of self.old }
-        ensures unused { is_unused self.new ≡ is_unused self.old }
+        ensures sets { SetsPlans self.old self.new (plan_of self.old) plan }
         ensures told { ⟦<Recorder<S> as Tells>⟧.told self.new
             ≡ starving plan (⟦<Recorder<S> as Tells>⟧.told self.old) }
     {
@@ -162,7 +150,8 @@ impl<S: LayerBelow> Recorder<S> {
     /// Whether the layer is Mapped, had no incoming frame call and no attach of a control link, and
     /// vetoed nothing.
     pub fn is_fresh(&self) -> bool
-        ensures { IsTrue result ↔ IsFresh (is_unused self.now) (⟦<Recorder<S> as Tells>⟧.told self.now) }
+        ensures { IsTrue result
+            ↔ IsFresh (is_unused self.now) (⟦<Recorder<S> as Tells>⟧.told self.now) }
     {
         self.unused
             && self.session.local_state() == SessionState::Mapped
@@ -175,8 +164,8 @@ impl<S: LayerBelow> Recorder<S> {
     /// The frame through the layer in it. Room for what is kept is made first.
     #[inline(always)]
     fn take(&mut self, frame: Frame) -> Result<Frames, SessionInnerError>
-        ensures told { Takes (⟦<Recorder<S> as Tells>⟧.told self.old) (⟦<Recorder<S> as Tells>⟧.told self.new)
-            frame result }
+        ensures told { Takes (⟦<Recorder<S> as Tells>⟧.told self.old)
+            (⟦<Recorder<S> as Tells>⟧.told self.new) frame result }
         ensures gives { RecordsCall S.told S.incoming_gives self.old self.new frame result }
     {
         self.unused = false;
@@ -255,11 +244,11 @@ impl<S: LayerBelow> LayerBelow for Recorder<S> {
 
     ghost stays_on = { λ old new disposition answer gives.
         recorded-stays-on S.takes S.sure old new answer gives.kept
-        (S.stays_on (inner_of old) (inner_of new) disposition answer gives.gave) };
+        (S.stays_on (inner_of old) (inner_of new) disposition answer gives.answered) };
 
     ghost window_stays_on = { λ old new flow gives.
         recorded-window-stays-on S.takes old new gives.kept
-        (S.window_stays_on (inner_of old) (inner_of new) flow gives.gave) };
+        (S.window_stays_on (inner_of old) (inner_of new) flow gives.answered) };
 
     fn local_state(&self) -> SessionState {
         self.session.local_state()

@@ -31,8 +31,8 @@ fn place_of(octets: &[u8], separator: u8) -> Option<usize>
     octets.iter().position(|octet| *octet == separator)
 }
 
-/// The first piece of octets that are cut at each line feed, as by [`cut_at`]. A line feed is looked
-/// for in many octets at a time.
+/// The first piece of octets that are cut at each line feed, as by [`cut_at`]. A line feed is
+/// looked for in many octets at a time.
 pub fn cut_line(octets: &[u8]) -> (&[u8], Option<&[u8]>)
     ensures pieces { slice_split (λ b. b == 10) octets.now
         ≡ result.0.now ∷ pieces_left 10 result.1 }

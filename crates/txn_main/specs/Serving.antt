@@ -32,7 +32,7 @@ pub record RanOver {S : Type 0} (told : Recorder S → Told) (command : Option C
   pub written : SinkTold
   pub ran : Ran S
   pub serves : Serves told command below input_at_start left output_at_start written ran
-  pub is : status ≡ ran.status
+  pub status_of_run : status ≡ ran.status
 
 -- the same over a recorder of one of the two layers, of which these two say what each tells
 abbrev pub RanBelow : (Recorder OpenSession → Told)

@@ -14,9 +14,9 @@ use Rattle.amqp_record.specs.declared.step.Step.TheVariants as steps
 use Rattle.amqp_record.specs.declared.reply.Reply.{Reply}
 use Rattle.amqp_record.specs.declared.reply.Reply.TheVariants as replies
 use Rattle.amqp_record.specs.declared.entry.Entry.{Entry}
-use Rattle.amqp_record.specs.Entries.{attaches, closes, declares, discharges, drawn_of, reply_attaches, reply_declares, step_closes, step_discharges, steps_of}
-use Rattle.amqp_record.specs.Links.{attached_count, is_open}
-use Rattle.amqp_record.specs.Live.{is_live, is_held_on, since, undischarged}
+use Rattle.amqp_record.specs.Entries.{declares, discharges, drawn_of, reply_declares, steps_of}
+use Rattle.amqp_record.specs.Links.{is_open}
+use Rattle.amqp_record.specs.Live.{is_live, since, undischarged}
 use Rattle.amqp_record.specs.Answers.{Answer, AnswerDeclare, AnswerDischarge, AnswerFrame}
 use Rattle.amqp_record.specs.Legal.{IsLegal, LegalAfter}
 use Rattle.amqp_record.specs.Opened.{attach_refused_count, is_attach_refused}
@@ -27,7 +27,7 @@ use Rattle.amqp_resource.specs.Steps.{IsDead, UnderDead, ended_by}
 use Rattle.amqp_resource.specs.Views.{view_of_record}
 use Rattle.amqp_resource.proofs.Views.{live-record}
 use Rattle.amqp_ids.specs.Counted.{id_of_number, ids_from}
-use Rattle.txn_program.specs.Made.{made, made_alone, made_attach, made_declare, made_discharge, made_fail, made_from, made_pair, made_post}
+use Rattle.txn_program.specs.Made.{made, made_attach, made_declare, made_discharge, made_fail, made_from, made_post}
 use Rattle.txn_program.proofs.Midway.{Midway, canon-read, declare-reply, discharge-reply, held_live, midway-declare, midway-discharge, midway-post, on_link, short_number}
 
 -- ---- steps that go on

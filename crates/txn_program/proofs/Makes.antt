@@ -1,7 +1,7 @@
 -- The steps of made transactions, pair by pair.
-use Rattle.std.proofs.Common.{◌≡◌, ℕ, zero, suc, ◌+◌, ◌-◌, ◌≤◌, List, [], ◌∷◌, ◌++◌, refl, sym, ◌∙◌, ap, append_assoc, append-nil, arith}
+use Rattle.std.proofs.Common.{◌≡◌, ℕ, zero, suc, ◌+◌, ◌-◌, ◌≤◌, List, ◌++◌, sym, ◌∙◌, ap, append_assoc, arith}
 use Rattle.amqp_record.specs.declared.step.Step.{Step}
-use Rattle.txn_program.specs.Made.{made_alone, made_from, made_pair}
+use Rattle.txn_program.specs.Made.{made_from, made_pair}
 
 -- two of the transactions that are left come together
 pub made_from-pair : (left number delivery : ℕ) → 2 ≤ left → made_from left number delivery ≡ made_pair number delivery ++ made_from (left - 2) (number + 2) (delivery + 6)

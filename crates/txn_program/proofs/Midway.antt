@@ -1,6 +1,6 @@
 -- A record in the midst of made transactions: which ids are live, with one entry more.
 use Rattle.std.proofs.Common.{◌≡◌, ℕ, ◌+◌, ◌<◌, ◌≤◌, ◌^◌, Bool, true, false, ◌&&◌, Option, Some, None, List, [], ◌∷◌, ◌++◌, length, drop, refl, sym, ◌∙◌, ap, subst, arith}
-use Rattle.std.specs.Prelude.{◌==◌, ◌≢◌}
+use Rattle.std.specs.Prelude.{◌==◌}
 use Rattle.std.specs.List.{list_all}
 use Rattle.std.specs.Int.{w64, from_be_bytes}
 use Rattle.std.proofs.lemmas.Bool.{and_parts, eq-eqb, eqb-true}
@@ -16,9 +16,7 @@ use Rattle.amqp_txn_codec.specs.Reading.{message_of}
 use Rattle.amqp_txn_codec.proofs.Messages.{canon-spells}
 use Rattle.amqp_txn_codec.proofs.Readings.{spelled-read}
 use Rattle.amqp_layer.specs.declared.answers.Answers.{Answers}
-use Rattle.amqp_ids.specs.Drawn.{DrawnIds}
 use Rattle.amqp_ids.specs.Ids.{AreNext}
-use Rattle.amqp_record.specs.declared.step.Step.{Step}
 use Rattle.amqp_record.specs.declared.step.Step.TheVariants as steps
 use Rattle.amqp_record.specs.declared.reply.Reply.{Reply}
 use Rattle.amqp_record.specs.declared.reply.Reply.TheVariants as replies
@@ -26,7 +24,7 @@ use Rattle.amqp_record.specs.declared.reply.RejectText.TheVariants as texts
 use Rattle.amqp_record.specs.declared.entry.Entry.{Entry}
 use Rattle.amqp_record.specs.Entries.{attaches, closes, declares, discharges, message_discharges, reply_attaches, reply_declares, step_closes, step_discharges, step_link}
 use Rattle.amqp_record.specs.Links.{is_open}
-use Rattle.amqp_record.specs.Live.{home, is_held_on, is_link, is_live, is_open_at, undischarged}
+use Rattle.amqp_record.specs.Live.{home, is_held_on, is_link, is_live, is_open_at}
 use Rattle.amqp_record.specs.Answers.{Answer, AnswerControl, AnswerDeclare, AnswerDischarge, AnswerFrame, AnswerMessage}
 use Rattle.amqp_record.proofs.Ids.{same_id-eq, same_id-refl}
 use Rattle.amqp_record.proofs.Looking.{home-declared, home-other, is_open-other, undischarged-declared}

@@ -1,5 +1,5 @@
 -- What a reader of the standard library gives.
-use Rattle.std.proofs.Common.{◌≡◌, ℕ, Option, Some, None, List, sym, ◌∙◌, refl}
+use Rattle.std.proofs.Common.{ℕ, Option, Some, None, List, sym, ◌∙◌, refl}
 use Rattle.std.specs.Io.KnownBytes.{Consumes, Keeps}
 
 -- known octets stay as they are

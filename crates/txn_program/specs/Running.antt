@@ -7,7 +7,6 @@ use Rattle.amqp_layer.specs.declared.inner_error.SessionInnerError.TheVariants a
 use Rattle.amqp_layer.specs.Told.{Fixed, Told}
 use Rattle.amqp_ids.specs.Ids.{AreNext}
 use Rattle.amqp_record.specs.declared.step.Step.{Step}
-use Rattle.amqp_record.specs.declared.entry.Entry.{Entry}
 use Rattle.amqp_record.specs.declared.stop.Stop.{Stop}
 use Rattle.amqp_record.specs.declared.stop.Stop.TheVariants as stops
 use Rattle.amqp_record.specs.declared.stop.Driven.{Driven}
@@ -96,10 +95,10 @@ abbrev pub summary_text : Told → Option Driven → List ℕ
 summary_text below None = []
 summary_text below (Some driven) = made_text driven.entries (length (taken_of below))
 
--- the text of a run, by what is written of it
-abbrev pub text_of : Written → Told → Option Driven → List ℕ
-text_of kinds.Report = driven_text
-text_of kinds.Summary = summary_text
+-- the text of a whole run, by what is written of it
+abbrev pub run_text : Written → Told → Option Driven → List ℕ
+run_text kinds.Report = driven_text
+run_text kinds.Summary = summary_text
 
 -- the text that is written, by the words
 abbrev pub written_text : Option Command → Reading → Told → Option Driven → List ℕ
@@ -130,6 +129,10 @@ under_plans plans before = record before {
   plan = plan_or before.plan plans.refused;
   starved = plan_or before.starved plans.starved;
 }
+
+-- the same told, with the plans of the words
+abbrev pub told_under : Plans → Told → Told
+told_under plans told = record told { fixed = under_plans plans told.fixed }
 
 -- the plans that the words leave to the recorder
 abbrev pub plans_left : Option Command → Fixed → Fixed

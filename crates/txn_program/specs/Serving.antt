@@ -7,9 +7,11 @@ use Rattle.amqp_record.specs.declared.step.Step.{Step}
 use Rattle.amqp_record.specs.declared.stop.Driven.{Driven}
 use Rattle.amqp_resource.specs.Drive.{RunRose, RunVetoed}
 use Rattle.amqp_streams.specs.Streams.{SinkTold, SourceTold}
+use Rattle.amqp_ids.specs.Counted.{ids_from}
+use Rattle.txn_program.specs.Made.{made}
 use Rattle.txn_program.specs.Reading.{Finds}
-use Rattle.txn_program.specs.Running.{IsRun, IsRunOf, IsSpelledBy, PlansLeft, ReadFor, Untouched, driven_status, input_status, input_text, spelled_status, spelled_text, status_of, text_of, written_text}
-use Rattle.txn_program.specs.Completing.{Completes, InputEnds, NoneRose, RunEnds, SpelledEnds}
+use Rattle.txn_program.specs.Running.{IsRun, IsRunOf, IsSpelledBy, PlansLeft, ReadFor, Untouched, driven_status, input_status, input_text, run_text, spelled_status, spelled_text, status_of, summary_text, written_text}
+use Rattle.txn_program.specs.Completing.{Completes, InputEnds, MadeEnds, NoneRose, RunEnds, SpelledEnds}
 use Rattle.txn_program.specs.Writing.{EndsWith, Wrote}
 use Rattle.txn_program.specs.declared.reading.Reading.{Reading}
 use Rattle.txn_program.specs.declared.running.Ran.{Ran}
@@ -46,42 +48,57 @@ pub record Runs {S : Type 0} (output written : SinkTold) (told : Recorder S → 
   pub text : Wrote output.written written.written ran.status (text_by (told ran.below) ran.driven)
   pub entries : ran.entries ≡ None
 
+-- a run over this recorder by the plans that it has, which it leaves, and its state
+pub record RunsAsPlanned {S : Type 0} (output written : SinkTold) (told : Recorder S → Told)
+    (below : Recorder S) (status_by : Option Driven → ℕ)
+    (Of : ((ℕ → TransactionId) → List Step → Type 0) → Type 0)
+    (Ends : Option Driven → ℕ → Type 0) (text_by : Told → Option Driven → List ℕ) (ran : Ran S)
+    : Type 0 where
+  pub run : Runs output written told (told below) status_by Of Ends text_by ran
+  pub fixed : (told ran.below).fixed ≡ (told below).fixed
+
 -- a call that drives nothing, with that status and its text
-abbrev pub DrivesNothing : {S : Type 0} → SinkTold → SinkTold → (Recorder S → Told) → Told
+abbrev pub DrivesNothing : {S : Type 0} → SinkTold → SinkTold → (Recorder S → Told) → Recorder S
     → ℕ → List ℕ → Ran S → Type 0
-DrivesNothing output written told before status text ran =
-    Runs output written told before (λ _. status) (λ _. ⊥)
+DrivesNothing output written told below status text ran =
+    RunsAsPlanned output written told below (λ _. status) (λ _. ⊥)
     (λ _ end. (end ≡ 6) ⊎ (end ≡ status)) (λ _ _. text) ran
 
 -- a run of these steps with these ids
-abbrev pub RunsSteps : {S : Type 0} → SinkTold → SinkTold → (Recorder S → Told) → Told
+abbrev pub RunsSteps : {S : Type 0} → SinkTold → SinkTold → (Recorder S → Told) → Recorder S
     → (ℕ → TransactionId) → List Step → Written → Ran S → Type 0
-RunsSteps output written told before ids steps what ran =
-    Runs output written told before driven_status (λ P. P ids steps) (RunEnds steps)
-    (text_of what) ran
+RunsSteps output written told below ids steps what ran =
+    RunsAsPlanned output written told below driven_status (λ P. P ids steps) (RunEnds steps)
+    (run_text what) ran
+
+-- a run of that many made transactions
+abbrev pub RunsMade : {S : Type 0} → SinkTold → SinkTold → (Recorder S → Told) → Recorder S
+    → ℕ → Ran S → Type 0
+RunsMade output written told below count ran =
+    RunsAsPlanned output written told below driven_status (λ P. P (ids_from 1) (made count))
+    (λ driven status. MadeEnds status) summary_text ran
 
 -- a run of what the octets of an input spell
-abbrev pub RunsSpelled : {S : Type 0} → SinkTold → SinkTold → (Recorder S → Told) → Told
+abbrev pub RunsSpelled : {S : Type 0} → SinkTold → SinkTold → (Recorder S → Told) → Recorder S
     → (ℕ → TransactionId) → Result (List Step) ℕ → Ran S → Type 0
-RunsSpelled output written told before ids spelled ran =
-    Runs output written told before (spelled_status spelled) (λ P. IsOkAnd spelled (P ids))
+RunsSpelled output written told below ids spelled ran =
+    RunsAsPlanned output written told below (spelled_status spelled) (λ P. IsOkAnd spelled (P ids))
     (SpelledEnds spelled) (spelled_text spelled) ran
 
 -- a run of what the reading of the input found
-abbrev pub RunsReading : {S : Type 0} → SinkTold → SinkTold → (Recorder S → Told) → Told
+abbrev pub RunsReading : {S : Type 0} → SinkTold → SinkTold → (Recorder S → Told) → Recorder S
     → (ℕ → TransactionId) → Reading → Ran S → Type 0
-RunsReading output written told before ids reading ran =
-    Runs output written told before (input_status reading) (λ P. IsSpelledBy reading (P ids))
-    (InputEnds reading) (input_text reading) ran
+RunsReading output written told below ids reading ran =
+    RunsAsPlanned output written told below (input_status reading)
+    (λ P. IsSpelledBy reading (P ids)) (InputEnds reading) (input_text reading) ran
 
 -- a run of the input: what the reading of it found, and what was made of that
 pub record RunsInput {S : Type 0} (input left : SourceTold) (output written : SinkTold)
-    (told : Recorder S → Told) (before : Told) (ids : ℕ → TransactionId) (ran : Ran S)
+    (told : Recorder S → Told) (below : Recorder S) (ids : ℕ → TransactionId) (ran : Ran S)
     : Type 0 where
   pub reading : Reading
   pub read : Finds input left reading ⊎ ((ran.status ≡ 6) × IsNone ran.driven)
-  pub run : RunsReading output written told before ids reading ran
-  pub fixed : (told ran.below).fixed ≡ before.fixed
+  pub over : RunsReading output written told below ids reading ran
 
 -- a call for a command, none for words outside the table: over a recorder, of which `told` says
 -- what it tells, with what the source tells before and after, and the sink

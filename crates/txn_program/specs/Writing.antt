@@ -1,5 +1,5 @@
 -- What is written of a text.
-use Rattle.std.specs.Prelude.{ℕ, ◌≡◌, ◌≤◌, ◌==◌, ◌⊎◌, Option, List, [], take, if◌then◌else◌}
+use Rattle.std.specs.Prelude.{ℕ, ◌≡◌, ◌==◌, ◌⊎◌, Option, List, [], take, if◌then◌else◌}
 use Rattle.amqp_streams.specs.Streams.{SinkTold}
 use Rattle.amqp_txn_types.specs.Counts.{Rose}
 use Rattle.txn_program.specs.declared.std_streams.StdSink.{StdSink}

@@ -2,18 +2,17 @@
 
 ghost use Rattle.std.specs.Prelude.{◌≡◌};
 ghost use Rattle.amqp_recorder.specs.Recording.{IsFresh, is_unused};
-ghost use Rattle.amqp_layer.specs.Told.{planned, starving};
 ghost use Rattle.txn_program.specs.Words.{IsWithin, command_of};
 ghost use Rattle.txn_program.specs.Reading.{source_of};
-ghost use Rattle.txn_program.specs.Running.{plan_or};
+ghost use Rattle.txn_program.specs.Running.{told_under};
 ghost use Rattle.txn_program.specs.Serving.{Serves};
 ghost use Rattle.txn_program.specs.Writing.{sink_of};
 
 use crate::running::{Ran, out_of_memory, run_drawing, run_made, told};
 use crate::status;
-use crate::words::{Command, command_of};
+use crate::words::{Command, Plans, command_of};
 use amqp_below::{ByteSink, ByteSource, LayerBelow, Recorder, Tells};
-use amqp_txn_types::{CallNumbers, Text};
+use amqp_txn_types::Text;
 use std::alloc::Global;
 
 /// The top call: does what the words ask for, and answers with a status.
@@ -88,7 +87,7 @@ pub fn run_command<S: LayerBelow + Send, I: ByteSource, O: ByteSink>(
 {
     match command {
         Some(Command::Run { plans, ids, .. }) => {
-            let below = with_starved(with_refused(below, plans.refused), plans.starved);
+            let below = under_plans(below, plans);
             run_drawing(alloc, ids, below, input, output)
         }
         Some(Command::Make(count)) => run_made(alloc, count, below, output),
@@ -96,34 +95,20 @@ pub fn run_command<S: LayerBelow + Send, I: ByteSource, O: ByteSink>(
     }
 }
 
-/// The recorder with the plan of the words for what it refuses, where they have one.
-fn with_refused<S: LayerBelow>(below: Recorder<S>, plan: Option<CallNumbers>) -> Recorder<S>
+/// The recorder with the plans of the words, where they have one, in place of its own.
+fn under_plans<S: LayerBelow>(below: Recorder<S>, plans: Plans) -> Recorder<S>
     requires { IsFresh (is_unused below) (⟦<Recorder<S> as Tells>⟧.told below) }
     ensures fresh { IsFresh (is_unused result) (⟦<Recorder<S> as Tells>⟧.told result) }
     ensures told { ⟦<Recorder<S> as Tells>⟧.told result
-        ≡ planned (plan_or (⟦<Recorder<S> as Tells>⟧.told below).fixed.plan plan)
-        (⟦<Recorder<S> as Tells>⟧.told below) }
+        ≡ told_under plans (⟦<Recorder<S> as Tells>⟧.told below) }
 {
-    let Some(plan) = plan else {
-        return below;
-    };
+    let Plans { refused, starved } = plans;
     let mut below = below;
-    below.set_plan(plan);
-    below
-}
-
-/// The recorder with the plan of the words for what it starves, where they have one.
-fn with_starved<S: LayerBelow>(below: Recorder<S>, plan: Option<CallNumbers>) -> Recorder<S>
-    requires { IsFresh (is_unused below) (⟦<Recorder<S> as Tells>⟧.told below) }
-    ensures fresh { IsFresh (is_unused result) (⟦<Recorder<S> as Tells>⟧.told result) }
-    ensures told { ⟦<Recorder<S> as Tells>⟧.told result
-        ≡ starving (plan_or (⟦<Recorder<S> as Tells>⟧.told below).fixed.starved plan)
-        (⟦<Recorder<S> as Tells>⟧.told below) }
-{
-    let Some(plan) = plan else {
-        return below;
-    };
-    let mut below = below;
-    below.set_starved(plan);
+    if let Some(plan) = refused {
+        below.set_plan(plan);
+    }
+    if let Some(plan) = starved {
+        below.set_starved(plan);
+    }
     below
 }

@@ -42,7 +42,7 @@ fn append_transactions(alloc: Global, steps: &mut Steps, count: u32) -> Result<(
     Ok(())
 }
 
-/// Appends the steps of two transactions together.
+/// Appends the steps of two transactions together, with three times a post of each.
 fn append_pair(alloc: Global, steps: &mut Steps, number: u32, delivery: u32) -> Result<(), NoMemory>
     requires number { number ≤ 20000 }
     requires delivery { delivery ≤ 60000 }
@@ -50,28 +50,14 @@ fn append_pair(alloc: Global, steps: &mut Steps, number: u32, delivery: u32) -> 
 {
     steps.append(made_declare(alloc)?)?;
     steps.append(made_declare(alloc)?)?;
-    append_posts(alloc, steps, number, delivery)?;
+    append_two_posts(alloc, steps, number, delivery)?;
+    append_two_posts(alloc, steps, number, delivery + 2)?;
+    append_two_posts(alloc, steps, number, delivery + 4)?;
     steps.append(made_discharge(alloc, number)?)?;
     steps.append(made_discharge(alloc, number + 1)?)
 }
 
-/// Appends the posts of two transactions: three times one of each.
-fn append_posts(
-    alloc: Global,
-    steps: &mut Steps,
-    number: u32,
-    delivery: u32,
-) -> Result<(), NoMemory>
-    requires number { number ≤ 20000 }
-    requires delivery { delivery ≤ 60000 }
-    ensures { OnOk result (steps.new ≡ steps.old ++ (two_posts number delivery
-        ++ two_posts number (delivery + 2) ++ two_posts number (delivery + 4))) }
-{
-    append_two_posts(alloc, steps, number, delivery)?;
-    append_two_posts(alloc, steps, number, delivery + 2)?;
-    append_two_posts(alloc, steps, number, delivery + 4)
-}
-
+/// Appends a post of a transaction, and one of the next.
 fn append_two_posts(
     alloc: Global,
     steps: &mut Steps,

@@ -2,14 +2,11 @@
 
 ghost use Rattle.std.specs.Prelude.{◌≡◌, ◌≤◌, Some, None, List, ℕ, IfOk, string_bytes};
 ghost use Rattle.amqp_recorder.specs.Recording.{IsFresh, is_unused};
-ghost use Rattle.amqp_ids.specs.Counted.{ids_from};
 ghost use Rattle.amqp_resource.specs.Drive.{RunRose, RunVetoed};
 ghost use Rattle.txn_lines.specs.Lines.{input_steps};
-ghost use Rattle.txn_program.specs.Made.{made};
 ghost use Rattle.txn_program.specs.Reading.{source_of};
-ghost use Rattle.txn_program.specs.Running.{IsRun, driven_status, line_text, stop_status, summary_text, text_of};
-ghost use Rattle.txn_program.specs.Completing.{MadeEnds};
-ghost use Rattle.txn_program.specs.Serving.{DrivesNothing, Runs, RunsInput, RunsReading, RunsSpelled, RunsSteps};
+ghost use Rattle.txn_program.specs.Running.{IsRun, line_text, run_text, stop_status};
+ghost use Rattle.txn_program.specs.Serving.{DrivesNothing, RunsInput, RunsMade, RunsReading, RunsSpelled, RunsSteps};
 ghost use Rattle.txn_program.specs.Words.{AreSome, stream_of_ids};
 ghost use Rattle.txn_program.specs.Writing.{EndsWith, Wrote, sink_of};
 
@@ -104,11 +101,9 @@ pub(crate) fn told<S: LayerBelow, O: ByteSink>(
     below: Recorder<S>,
     output: &mut O,
 ) -> Ran<S>
-    ensures run { DrivesNothing (sink_of O.written O.faults O.spare output.old)
+    ensures { DrivesNothing (sink_of O.written O.faults O.spare output.old)
         (sink_of O.written O.faults O.spare output.new)
-        ⟦<Recorder<S> as Tells>⟧.told (⟦<Recorder<S> as Tells>⟧.told below)
-        status text.now result }
-    ensures below { result.below ≡ below }
+        ⟦<Recorder<S> as Tells>⟧.told below status text.now result }
 {
     answered(status, None, text, below, output)
 }
@@ -145,8 +140,7 @@ pub(crate) fn run_drawing<S: LayerBelow, I: ByteSource, O: ByteSink>(
     ensures { RunsInput (source_of I.rest I.faults input.old)
         (source_of I.rest I.faults input.new) (sink_of O.written O.faults O.spare output.old)
         (sink_of O.written O.faults O.spare output.new)
-        ⟦<Recorder<S> as Tells>⟧.told (⟦<Recorder<S> as Tells>⟧.told below)
-        (stream_of_ids ids) result }
+        ⟦<Recorder<S> as Tells>⟧.told below (stream_of_ids ids) result }
 {
     match ids {
         Ids::Listed(ids) => match ListIds::new(alloc, ids.as_slice()) {
@@ -169,8 +163,7 @@ fn run_input<S: LayerBelow, G: IdSource, I: ByteSource, O: ByteSink>(
     ensures { RunsInput (source_of I.rest I.faults input.old)
         (source_of I.rest I.faults input.new) (sink_of O.written O.faults O.spare output.old)
         (sink_of O.written O.faults O.spare output.new)
-        ⟦<Recorder<S> as Tells>⟧.told (⟦<Recorder<S> as Tells>⟧.told below)
-        (G.next ids.old) result }
+        ⟦<Recorder<S> as Tells>⟧.told below (G.next ids.old) result }
 {
     match read_all(alloc, input) {
         Ok(reading) => run_reading(alloc, ids, reading, below, output),
@@ -187,12 +180,9 @@ fn run_reading<S: LayerBelow, G: IdSource, O: ByteSink>(
     output: &mut O,
 ) -> Ran<S>
     requires { IsFresh (is_unused below) (⟦<Recorder<S> as Tells>⟧.told below) }
-    ensures run { RunsReading (sink_of O.written O.faults O.spare output.old)
+    ensures { RunsReading (sink_of O.written O.faults O.spare output.old)
         (sink_of O.written O.faults O.spare output.new)
-        ⟦<Recorder<S> as Tells>⟧.told (⟦<Recorder<S> as Tells>⟧.told below)
-        (G.next ids.old) reading result }
-    ensures fixed { (⟦<Recorder<S> as Tells>⟧.told result.below).fixed
-        ≡ (⟦<Recorder<S> as Tells>⟧.told below).fixed }
+        ⟦<Recorder<S> as Tells>⟧.told below (G.next ids.old) reading result }
 {
     match reading {
         Reading::Fault => told(status::READ_FAULT, b"read fault\n", below, output),
@@ -210,12 +200,9 @@ fn run_octets<S: LayerBelow, G: IdSource, O: ByteSink>(
     output: &mut O,
 ) -> Ran<S>
     requires { IsFresh (is_unused below) (⟦<Recorder<S> as Tells>⟧.told below) }
-    ensures run { RunsSpelled (sink_of O.written O.faults O.spare output.old)
+    ensures { RunsSpelled (sink_of O.written O.faults O.spare output.old)
         (sink_of O.written O.faults O.spare output.new)
-        ⟦<Recorder<S> as Tells>⟧.told (⟦<Recorder<S> as Tells>⟧.told below)
-        (G.next ids.old) (input_steps octets) result }
-    ensures fixed { (⟦<Recorder<S> as Tells>⟧.told result.below).fixed
-        ≡ (⟦<Recorder<S> as Tells>⟧.told below).fixed }
+        ⟦<Recorder<S> as Tells>⟧.told below (G.next ids.old) (input_steps octets) result }
 {
     match spells(alloc, octets.as_slice()) {
         Ok(steps) => {
@@ -234,11 +221,9 @@ fn no_step<S: LayerBelow, O: ByteSink>(
     below: Recorder<S>,
     output: &mut O,
 ) -> Ran<S>
-    ensures run { DrivesNothing (sink_of O.written O.faults O.spare output.old)
+    ensures { DrivesNothing (sink_of O.written O.faults O.spare output.old)
         (sink_of O.written O.faults O.spare output.new)
-        ⟦<Recorder<S> as Tells>⟧.told (⟦<Recorder<S> as Tells>⟧.told below)
-        3 (line_text number) result }
-    ensures below { result.below ≡ below }
+        ⟦<Recorder<S> as Tells>⟧.told below 3 (line_text number) result }
 {
     match line_text(alloc, number) {
         Ok(text) => told(status::NOT_A_STEP, text.as_str().as_bytes(), below, output),
@@ -255,13 +240,9 @@ pub(crate) fn run_made<S: LayerBelow, O: ByteSink>(
 ) -> Ran<S>
     requires few { count ≤ 20000 }
     requires fresh { IsFresh (is_unused below) (⟦<Recorder<S> as Tells>⟧.told below) }
-    ensures run { Runs (sink_of O.written O.faults O.spare output.old)
+    ensures { RunsMade (sink_of O.written O.faults O.spare output.old)
         (sink_of O.written O.faults O.spare output.new)
-        ⟦<Recorder<S> as Tells>⟧.told (⟦<Recorder<S> as Tells>⟧.told below)
-        driven_status (λ P. P (ids_from 1) (made count))
-        (λ driven status. MadeEnds status) summary_text result }
-    ensures fixed { (⟦<Recorder<S> as Tells>⟧.told result.below).fixed
-        ≡ (⟦<Recorder<S> as Tells>⟧.told below).fixed }
+        ⟦<Recorder<S> as Tells>⟧.told below count result }
 {
     let Ok(steps) = made(alloc, count) else {
         return out_of_memory(None, below);
@@ -280,27 +261,24 @@ fn run_steps<S: LayerBelow, G: IdSource, O: ByteSink>(
     output: &mut O,
 ) -> Ran<S>
     requires { IsFresh (is_unused below) (⟦<Recorder<S> as Tells>⟧.told below) }
-    ensures run { RunsSteps (sink_of O.written O.faults O.spare output.old)
+    ensures { RunsSteps (sink_of O.written O.faults O.spare output.old)
         (sink_of O.written O.faults O.spare output.new)
-        ⟦<Recorder<S> as Tells>⟧.told (⟦<Recorder<S> as Tells>⟧.told below)
-        (G.next ids.old) steps what result }
-    ensures fixed { (⟦<Recorder<S> as Tells>⟧.told result.below).fixed
-        ≡ (⟦<Recorder<S> as Tells>⟧.told below).fixed }
+        ⟦<Recorder<S> as Tells>⟧.told below (G.next ids.old) steps what result }
 {
     let Run { driven, below } = drive_steps(alloc, steps, ids, below);
-    let text = text_of(alloc, what, &driven, &below);
+    let text = run_text(alloc, what, &driven, &below);
     finished(driven, text, below, output)
 }
 
 /// What is written of a run.
-fn text_of<S: LayerBelow>(
+fn run_text<S: LayerBelow>(
     alloc: Global,
     what: Written,
     driven: &Driven,
     below: &Recorder<S>,
 ) -> Result<String, NoMemory>
     ensures { IfOk result (λ text. string_bytes text
-        ≡ text_of what (⟦<Recorder<S> as Tells>⟧.told below.now) (Some driven.now)) }
+        ≡ run_text what (⟦<Recorder<S> as Tells>⟧.told below.now) (Some driven.now)) }
 {
     let taken = below.exchanges();
     match what {

@@ -49,11 +49,12 @@ impl<R: Read> ByteSource for StdSource<R> {
         ensures reader { ReadConsumes (R.remaining (reader_of self.old))
             (R.remaining (reader_of self.new)) result buf.new }
     {
-        let room = buf.len().min(self.chunk.len());
-        let Ok(count) = read_once(&mut self.reader, &mut self.chunk[..room]) else {
+        let chunk = &mut self.chunk[..];
+        let room = buf.len().min(chunk.len());
+        let Ok(count) = read_once(&mut self.reader, &mut chunk[..room]) else {
             return refuse(&mut self.faults, Failed);
         };
-        buf[..count].copy_from_slice(&self.chunk[..count]);
+        buf[..count].copy_from_slice(&chunk[..count]);
         Ok(count)
     }
 }

@@ -54,7 +54,8 @@ impl<S: Session> Session for Recorder<S> {
 
     ghost end_sent_gives = { λ old new error answer.
         Passes
-        (λ a b. Moves (end_sent (is_some error) (S.told a).fixed.state) (S.told a) (S.told b) answer)
+        (λ a b. Moves (end_sent (is_some error) (S.told a).fixed.state) (S.told a) (S.told b)
+        answer)
         (λ a b. S.end_sent_gives a b error answer) old new };
 
     ghost outgoing_attach_gives = { λ old new attach answer.
@@ -82,14 +83,14 @@ impl<S: Session> Session for Recorder<S> {
         old new attach answer gives };
 
     ghost check_leaves = { λ old new disposition answer gives.
-        S.check_leaves (inner_of old) (inner_of new) disposition answer gives.gave };
+        S.check_leaves (inner_of old) (inner_of new) disposition answer gives.answered };
 
     ghost review_leaves = { λ old new list answer gives.
         recorded_review-leaves S.told S.kept S.names S.review_gives S.review_leaves
         old new list answer gives };
 
     ghost window_leaves = { λ old new flow gives.
-        S.window_leaves (inner_of old) (inner_of new) flow gives.gave };
+        S.window_leaves (inner_of old) (inner_of new) flow gives.answered };
 
     fn session_stop_reason(&self) -> Option<&SessionStopReason> {
         self.session.session_stop_reason()

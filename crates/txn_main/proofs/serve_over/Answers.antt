@@ -8,5 +8,5 @@ returns g c = record {
   written = _;
   ran = c.run_command.result;
   serves = ran-from-start _ _ _ _ _ _ _ _ _ c.new-input.ensures.faults c.new-output.ensures.faults c.new-output.ensures.spare c.run_command.ensures;
-  is = cc (c.deref.ensures, c.new-ran.ensures);
+  status_of_run = cc (c.deref.ensures, c.new-ran.ensures);
 }

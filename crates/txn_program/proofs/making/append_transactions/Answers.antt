@@ -1,6 +1,6 @@
-use Rattle.std.proofs.Common.{rules, ◌≡◌, ◌≤◌, ◌+◌, ◌-◌, ◌*◌, ◌++◌, arith}
+use Rattle.std.proofs.Common.{rules, ◌≡◌, ◌≤◌, ◌++◌, arith}
 use Rattle.std.proofs.lemmas.Bool.Decides.{nat_tests}
-use Rattle.txn_program.specs.Made.{made_from, made_pair}
+use Rattle.txn_program.specs.Made.{made_pair}
 use Rattle.txn_program.proofs.Makes.{pair_appended}
 use Rattle.txn_program.proofs.making.append_transactions.Goals as goal
 

@@ -1,4 +1,4 @@
-use Rattle.std.proofs.Common.{◌≤◌, ◌+◌, ◌-◌, length}
+use Rattle.std.proofs.Common.{◌≤◌, ◌-◌, length}
 use Rattle.txn_program.specs.Reading.{IsRead}
 use Rattle.txn_program.proofs.reading.read_all.Given as goal
 

@@ -1,4 +1,4 @@
-use Rattle.std.proofs.Common.{rules, Some, refl, ◌∙◌}
+use Rattle.std.proofs.Common.{rules, Some, refl}
 use Rattle.txn_program.proofs.Runs.{is_run}
 use Rattle.txn_program.proofs.running.drive_steps.Goals as goal
 

@@ -7,21 +7,24 @@ some_none : {A : Type 0} (o : Option A) (x : A) → o ≡ Some x → IsNone o �
 some_none None x is none = cc is
 some_none (Some y) x is none = cc none
 
-pub returns-clause-run : goal.returns-clause-run
-returns-clause-run g c =
+pub returns : goal.returns
+returns g c =
     let says = c.finished.ensures in
     let drove = c.drive_steps-driven in
     record {
-      status = rw says.driven says.status;
-      runs = rw (says.driven, says.below) drove.ensures.record;
-      untouched = λ none. absurd (some_none _ _ says.driven none);
-      rose = rw (says.driven, says.below) drove.ensures.rose;
-      vetoes_rose = rw (says.driven, says.below) drove.ensures.vetoes_rose;
-      completes =
-          rw (says.driven, says.below)
-          (λ quiet written. quiet_run-ends c.args.steps drove.result.driven c.finished.result.status _ _
-          drove.ensures.rose quiet drove.ensures.record.cause
-          (without_fault _ _ _ _ says.status written));
-      text = rw (says.driven, says.below) (says.written _ c.text_of-text.ensures);
-      entries = says.entries;
+      run = record {
+        status = rw says.driven says.status;
+        runs = rw (says.driven, says.below) drove.ensures.record;
+        untouched = λ none. absurd (some_none _ _ says.driven none);
+        rose = rw (says.driven, says.below) drove.ensures.rose;
+        vetoes_rose = rw (says.driven, says.below) drove.ensures.vetoes_rose;
+        completes =
+            rw (says.driven, says.below)
+            (λ quiet written. quiet_run-ends c.args.steps drove.result.driven c.finished.result.status _ _
+            drove.ensures.rose quiet drove.ensures.record.cause
+            (without_fault _ _ _ _ says.status written));
+        text = rw (says.driven, says.below) (says.written _ c.run_text-text.ensures);
+        entries = says.entries;
+      };
+      fixed = rw says.below drove.ensures.fixed;
     }

@@ -1,4 +1,4 @@
-use Rattle.std.proofs.Common.{◌+◌, ◌-◌, Ok, drop, length, length-drop, take, subst, arith}
+use Rattle.std.proofs.Common.{◌+◌, subst, arith}
 use Rattle.amqp_streams.specs.Streams.{WriteGave}
 use Rattle.txn_program.proofs.Streaming.{longer-front, longer_within, rest_fits, rest-rest}
 use Rattle.txn_program.proofs.writing.write_all.Goals as goal
