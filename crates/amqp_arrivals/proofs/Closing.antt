@@ -1,17 +1,6 @@
 -- The live cells moved to the front of the log, one after another.
-use Rattle.std.proofs.Common.{◌≡◌, ◌<◌, ◌≤◌, ◌+◌, ◌++◌, ℕ, cond, List, [], ◌∷◌, length, take, drop, get_or, suc, arith, refl, sym, ap, ◌∙◌, add-one, append-nil, drop-cons}
-use Rattle.std.specs.Prelude.{filter, count_by}
-use Rattle.std.proofs.lemmas.List.{take_more, length-take-le}
-use Rattle.std.proofs.lemmas.List.Elements.{filter-append}
-use Rattle.std.proofs.lemmas.List.Filters.{FiltersInPlace, FiltersInPlace-all}
-use Rattle.std.proofs.lemmas.List.Sums.{length-filter}
-use Rattle.amqp_txn_types.specs.declared.id.TransactionId.{TransactionId}
-use Rattle.amqp_txn_types.specs.declared.frames.TxnWorkFrame.{TxnWorkFrame}
-use Rattle.amqp_txn_types.specs.Ids.{same_id}
-use Rattle.amqp_arrivals.specs.declared.cell.Cell.{Cell}
+use Rattle.amqp_arrivals.proofs.Words.{Cell, FiltersInPlace, FiltersInPlace-all, List, TransactionId, TxnWorkFrame, [], add-one, ap, append-nil, arith, cond, count_by, drop, drop-cons, filter, filter-append, get_or, is_dead_cell, is_live_cell, length, length-filter, length-take-le, moved_to, places_from, refl, same_id, suc, sym, take, take_more, ℕ, ◌++◌, ◌+◌, ◌<◌, ◌∙◌, ◌∷◌, ◌≡◌, ◌≤◌}
 use Rattle.amqp_arrivals.specs.declared.cell.Cell.TheVariants as cells
-use Rattle.amqp_arrivals.specs.Cells.{is_dead_cell, is_live_cell, places_from}
-use Rattle.amqp_arrivals.specs.Index.{moved_to}
 use Rattle.amqp_arrivals.proofs.Placed.{places-moved}
 
 -- ---- the cell that is looked at

@@ -1,22 +1,7 @@
 -- The live cells of the log are the frames that are kept for the live ids.
-use Rattle.std.proofs.Common.{◌≡◌, ◌+◌, ◌||◌, ℕ, Bool, true, false, cond, Some, None, Result, Ok, Err, List, [], ◌∷◌, length, arith, refl, sym, ap, ◌∙◌, zero-add}
-use Rattle.std.specs.Prelude.{count_by, if◌then◌else◌, is_some, IfOk}
-use Rattle.std.specs.List.{AllByRecursion, IsDistinct, cons_option, list_any, sum_by}
-use Rattle.std.specs.Map.{keys_of, lookup}
-use Rattle.std.specs.Cmp.Lexicographic.{same_text, nat_list_eq_equiv}
-use Rattle.std.proofs.lemmas.List.Sums.{sum_by-cons, sum_by-append}
-use Rattle.std.proofs.lemmas.Map.Made.{is_some-lookup}
-use Rattle.std.proofs.lemmas.Map.Keys.{IsDistinct-head, IsDistinct-tail}
-use Rattle.amqp_txn_types.specs.declared.id.TransactionId.{TransactionId}
-use Rattle.amqp_txn_types.specs.declared.frames.TxnWorkFrame.{TxnWorkFrame}
-use Rattle.amqp_txn_types.specs.declared.performatives.Frame.{Frame}
-use Rattle.amqp_txn_types.specs.Ids.{same_id}
-use Rattle.amqp_txn_types.specs.Works.{frame_of_work}
-use Rattle.amqp_arrivals.specs.declared.cell.Cell.{Cell}
+use Rattle.amqp_arrivals.proofs.Words.{Agrees, AllByRecursion, Bool, Cell, EndsId, Err, Frame, Homes, IfOk, IsDistinct-head, IsDistinct-tail, Keeps, LetsGo, List, Live, Log, NoMemory, None, Ok, Result, Some, TransactionId, TxnWorkFrame, [], ap, arith, arrived, cond, cons_option, count_by, dead_count, false, frame_of_work, frames_in, frames_of, if◌then◌else◌, is_dead_cell, is_live_cell, is_opened, is_some, is_some-lookup, kept, keys_of, length, list_any, live_count, lookup, nat_list_eq_equiv, refl, same_id, same_text, sum_by, sum_by-append, sum_by-cons, sym, true, with_arrival, zero-add, ℕ, ◌+◌, ◌||◌, ◌∙◌, ◌∷◌, ◌≡◌}
+use Rattle.std.specs.List.{IsDistinct}
 use Rattle.amqp_arrivals.specs.declared.cell.Cell.TheVariants as cells
-use Rattle.amqp_txn_types.specs.declared.items.NoMemory.{NoMemory}
-use Rattle.amqp_arrivals.specs.Cells.{EndsId, Log, arrived, dead_count, frames_in, frames_of, is_dead_cell, is_live_cell, is_opened, live_count, with_arrival}
-use Rattle.amqp_arrivals.specs.Live.{Agrees, Homes, Keeps, LetsGo, Live, kept}
 use Rattle.amqp_arrivals.proofs.Emptied.{dead_emptied, live_emptied}
 use Rattle.amqp_arrivals.proofs.Kept.{length-keys, none_in}
 use Rattle.amqp_arrivals.proofs.Live.{agrees_ended, agrees_more, frames_are, is_kept, kept_ended, kept_more}
@@ -108,17 +93,17 @@ live_of log = record { homes = log.homes; log = log; room = log.room }
 
 pub keeps : (old : Log) (id : TransactionId) (w : TxnWorkFrame) (result : Result Bool NoMemory) → Agrees old.homes old → IfOk result (λ opened. opened ≡ is_opened old id) → Keeps (live_of old) (live_of (arrived result old id w)) id (frame_of_work w) result
 keeps old id w (Ok true) agrees opened =
-    let live = sym (opened ∙ agrees.same id) in (
+    let live = sym (opened ∙ sym (is_some-lookup (same_id id) old.homes)) in (
       sym (is_kept (frames_of old id) (lookup (same_id id) old.homes)) ∙ live,
       sym (live_kept old.homes (with_arrival old id w) (agrees_more old.homes old id w live agrees))
           ∙ live-arrived old id w ∙ ap (λ n. n + 1) (live_kept old.homes old agrees),
       kept_more old.homes old id w,
     )
-keeps old id w (Ok false) agrees opened = (sym (is_kept (frames_of old id) (lookup (same_id id) old.homes)) ∙ sym (opened ∙ agrees.same id), refl)
+keeps old id w (Ok false) agrees opened = (sym (is_kept (frames_of old id) (lookup (same_id id) old.homes)) ∙ sym (opened ∙ sym (is_some-lookup (same_id id) old.homes)), refl)
 keeps old id w (Err error) agrees opened = refl
 
 pub agrees_arrived : (old : Log) (id : TransactionId) (w : TxnWorkFrame) (result : Result Bool NoMemory) → Agrees old.homes old → IfOk result (λ opened. opened ≡ is_opened old id) → Agrees (arrived result old id w).homes (arrived result old id w)
-agrees_arrived old id w (Ok true) agrees opened = agrees_more old.homes old id w (sym (opened ∙ agrees.same id)) agrees
+agrees_arrived old id w (Ok true) agrees opened = agrees_more old.homes old id w (sym (opened ∙ sym (is_some-lookup (same_id id) old.homes))) agrees
 agrees_arrived old id w (Ok false) agrees opened = agrees
 agrees_arrived old id w (Err error) agrees opened = agrees
 
@@ -128,7 +113,7 @@ lets_go id old new looks now agrees ends looked =
     let after = live_kept new.homes new (agrees_ended id old new agrees ends) in
     let before = live_kept old.homes old agrees in
     let live = ap (λ cs. count_by is_live_cell cs) ends.cells in
-    let opened = agrees.same id ∙ is_kept (frames_of old id) (lookup (same_id id) old.homes) in
+    let opened = is_kept (frames_of old id) (lookup (same_id id) old.homes) in
     record {
       kept = kept_ended id old new ends;
       ids =

@@ -1,18 +1,6 @@
 -- The cells with a dead one in place of each that is live with one id.
-use Rattle.std.proofs.Common.{◌≡◌, ◌+◌, ℕ, Bool, true, false, cond, Some, None, List, [], ◌∷◌, length, suc, arith, refl, sym, ap, ◌∙◌}
-use Rattle.std.specs.Prelude.{count_by, map, slice_get, slice_set, zero}
-use Rattle.std.specs.List.{cons_option}
-use Rattle.std.proofs.lemmas.List.{length-map}
-use Rattle.std.proofs.lemmas.List.Sums.{sum_by-cons}
-use Rattle.std.specs.Cmp.Lexicographic.{same_text, nat_list_eq_equiv}
-use Rattle.amqp_txn_types.specs.declared.id.TransactionId.{TransactionId}
-use Rattle.amqp_txn_types.specs.declared.frames.TxnWorkFrame.{TxnWorkFrame}
-use Rattle.amqp_txn_types.specs.declared.performatives.Frame.{Frame}
-use Rattle.amqp_txn_types.specs.Ids.{same_id}
-use Rattle.amqp_txn_types.specs.Works.{frame_of_work}
-use Rattle.amqp_arrivals.specs.declared.cell.Cell.{Cell}
+use Rattle.amqp_arrivals.proofs.Words.{Bool, Cell, Frame, List, None, Some, TransactionId, TxnWorkFrame, [], ap, arith, cond, cons_option, count_by, emptied, false, frame_of_work, frame_under, frames_in, is_dead_cell, is_live_cell, is_under, length, length-map, nat_list_eq_equiv, places_from, refl, same_id, same_text, slice_get, slice_set, suc, sum_by-cons, sym, true, zero, ℕ, ◌+◌, ◌∙◌, ◌∷◌, ◌≡◌}
 use Rattle.amqp_arrivals.specs.declared.cell.Cell.TheVariants as cells
-use Rattle.amqp_arrivals.specs.Cells.{emptied, frame_under, frames_in, is_dead_cell, is_live_cell, is_under, places_from}
 use Rattle.amqp_arrivals.proofs.Frames.{live_and_dead, unless_here}
 
 -- ---- one cell

@@ -1,21 +1,8 @@
 -- The frames that are kept for an id, after the log was changed.
-use Rattle.std.proofs.Common.{◌≡◌, ◌<◌, ◌+◌, ◌^◌, ℕ, Bool, true, false, cond, Option, Some, None, List, [], ◌∷◌, length, suc, arith, refl, sym, ap, subst, ◌∙◌, add-zero, zero-add}
-use Rattle.std.specs.Prelude.{filter, count_by, is_some, IfSome, slice_get, slice_set, zero}
-use Rattle.std.specs.List.{cons_option}
-use Rattle.std.proofs.lemmas.List.Sums.{length-filter}
-use Rattle.std.proofs.lemmas.List.Filters.{length-filter_both}
-use Rattle.std.specs.Cmp.Lexicographic.{same_text}
-use Rattle.amqp_txn_types.specs.declared.id.TransactionId.{TransactionId}
-use Rattle.amqp_txn_types.specs.declared.frames.TxnWorkFrame.{TxnWorkFrame}
-use Rattle.amqp_txn_types.specs.declared.performatives.Frame.{Frame}
-use Rattle.amqp_txn_types.specs.Ids.{same_id}
-use Rattle.amqp_txn_types.specs.Works.{frame_of_work}
-use Rattle.amqp_arrivals.specs.declared.cell.Cell.{Cell}
+use Rattle.amqp_arrivals.proofs.Words.{Bool, Cell, Frame, IfSome, List, Log, None, Option, Some, TransactionId, TxnWorkFrame, [], add-zero, ap, arith, closed_up, cond, cons_option, count_by, false, filter, frame_of_work, frame_under, frames_in, is_dead_cell, is_live_cell, is_some, length, length-filter, length-filter_both, length-set, live_count, places, places_from, refl, same_id, same_text, slice_get, slice_set, subst, suc, sym, true, work_at, work_in, zero, zero-add, ℕ, ◌+◌, ◌<◌, ◌^◌, ◌∙◌, ◌∷◌, ◌≡◌}
 use Rattle.amqp_arrivals.specs.declared.cell.Cell.TheVariants as cells
-use Rattle.amqp_arrivals.specs.Cells.{Log, closed_up, frame_under, frames_in, is_dead_cell, is_live_cell, live_count, places, places_from, work_at, work_in}
 use Rattle.amqp_arrivals.proofs.Placed.{dead-taken, work-below}
 use Rattle.amqp_arrivals.proofs.Closing.{live_alone}
-use Rattle.std.proofs.Math.ListN.{length-set}
 
 -- ---- how many
 
@@ -139,14 +126,6 @@ took_first t old p e =
 pub first_is_live : (t : TransactionId) (log : Log) (o : Option ℕ) → o ≡ slice_get (places log t) 0 → IfSome o (λ p. is_some (work_at log.cells p) ≡ true)
 first_is_live t log None e = tt
 first_is_live t log (Some p) e = ap (λ o. is_some (work_in o)) (took_first t log.cells p (sym e)).at
-
-pub live-taken : (i : ℕ) (u : TransactionId) (w : TxnWorkFrame) (cs : List Cell) → slice_get cs i ≡ Some (cells.Live u w) → count_by is_live_cell (slice_set cs i cells.Dead) + 1 ≡ count_by is_live_cell cs
-live-taken i u w cs at =
-    let dead = dead-taken i u w cs (work-below cs i (ap (λ o. is_some (work_in o)) at)) at in
-    let before = live_and_dead cs in
-    let after = live_and_dead (slice_set cs i cells.Dead) in
-    let long = length-set cs i cells.Dead in
-    omega arith
 
 -- one more dead cell can be counted
 pub dead-fits : (i : ℕ) (u : TransactionId) (w : TxnWorkFrame) (cs : List Cell) → slice_get cs i ≡ Some (cells.Live u w) → length cs < 2 ^ 64 → count_by is_dead_cell cs + 1 < 2 ^ 64

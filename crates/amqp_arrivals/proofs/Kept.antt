@@ -1,16 +1,6 @@
 -- The places that are kept for an id, after those of one id were changed.
-use Rattle.std.proofs.Common.{◌≡◌, ℕ, Bool, true, false, cond, Option, Some, None, List, [], ◌∷◌, ◌++◌, length, suc, ◌+◌, refl, sym, ap, subst, ◌∙◌}
-use Rattle.std.specs.Prelude.{is_some, if◌then◌else◌}
-use Rattle.std.specs.List.{IsDistinct, list_any}
-use Rattle.std.specs.Map.{lookup, keys_of, set_value}
-use Rattle.std.specs.Option.{option_map}
-use Rattle.std.proofs.lemmas.Map.Made.{is_some-lookup}
-use Rattle.indexmap.specs.IndexMap.{insert_entry}
-use Rattle.std.specs.Cmp.Lexicographic.{same_text, nat_list_eq_equiv}
-use Rattle.amqp_txn_types.specs.declared.id.TransactionId.{TransactionId}
-use Rattle.amqp_txn_types.specs.Ids.{same_id}
-use Rattle.amqp_arrivals.specs.declared.opened.Opened.{Opened}
-use Rattle.amqp_arrivals.specs.Index.{Index, homes_in, places_in, places_kept}
+use Rattle.amqp_arrivals.proofs.Words.{Bool, Err, Index, List, None, Ok, OnOk, Opened, Option, Result, Some, TransactionId, Without, Written, [], ap, cond, false, homes_in, if◌then◌else◌, is_some, is_some-lookup, keys_of, length, list_any, lookup, nat_list_eq_equiv, option_map, places_in, places_kept, refl, same_id, same_text, set_value, subst, suc, sym, true, ℕ, ◌++◌, ◌+◌, ◌∙◌, ◌∷◌, ◌≡◌}
+use Rattle.std.specs.List.{IsDistinct}
 
 picked : (b : Bool) (w : Opened) (o : Option (Opened)) → places_in (cond b (Some w) o) ≡ cond b w.places.items (places_in o)
 picked true w o = refl
@@ -35,11 +25,6 @@ as_it_was : (b : Bool) (xs ys : List ℕ) → (b ≡ true → xs ≡ ys) → con
 as_it_was true xs ys e = e refl
 as_it_was false xs ys e = refl
 
--- they were written over as they were
-pub kept_unwritten : (old new : Index) (id : TransactionId) (found w : Opened) → Some found ≡ lookup (same_id id) old → ((t : TransactionId) → lookup (same_id t) new ≡ cond (same_id id t) (Some w) (lookup (same_id t) old)) → w.places.items ≡ found.places.items → (t : TransactionId) → places_kept new t ≡ places_kept old t
-kept_unwritten old new id found w at u made t =
-    kept_written (λ ms. ms) old new id found w at u made t ∙ as_it_was (same_id t id) (places_kept old t) (places_kept old t) (λ s. refl)
-
 -- nothing is kept for an id that wasn't found
 pub kept_none : (f : List ℕ → List ℕ) (old : Index) (id : TransactionId) → lookup (same_id id) old ≡ None → f [] ≡ [] → (t : TransactionId) → places_kept old t ≡ cond (same_id t id) (f (places_kept old t)) (places_kept old t)
 kept_none f old id none empty t =
@@ -53,20 +38,11 @@ none_in None e = refl
 none_in (Some x) e = cc
 
 -- an id is among the keys where a look-up finds it
-pub among : (index : Index) (t : TransactionId) → is_some (lookup (same_id t) index) ≡ list_any (same_id t) (keys_of index)
+pub among : {V : Type 0} (index : List (TransactionId × V)) (t : TransactionId) → is_some (lookup (same_id t) index) ≡ list_any (same_id t) (keys_of index)
 among index t = is_some-lookup (same_id t) index
 
 pub not_found : (index : Index) (t : TransactionId) → list_any (same_id t) (keys_of index) ≡ false → lookup (same_id t) index ≡ None
 not_found index t e = none_in (lookup (same_id t) index) (among index t ∙ e)
-
--- a new key goes last
-pub keys_inserted : {K V : Type 0} (eq : K → K → Bool) (es : List (K × V)) (k : K) (v : V) → lookup (eq k) es ≡ None → keys_of (insert_entry eq es k v) ≡ keys_of es ++ k ∷ []
-keys_inserted eq [] k v none = refl
-keys_inserted {K} {V} eq (e ∷ es) k v none = by_case (eq k e.0) none (keys_inserted eq es k v)
-  where
-    by_case : (b : Bool) → cond b (Some e.1) (lookup (eq k) es) ≡ None → (lookup (eq k) es ≡ None → keys_of (insert_entry eq es k v) ≡ keys_of es ++ k ∷ []) → keys_of (if b then (e.0, v) ∷ es else (e ∷ insert_entry eq es k v)) ≡ e.0 ∷ (keys_of es ++ k ∷ [])
-    by_case true f more = cc
-    by_case false f more = ap (λ ks. e.0 ∷ ks) (more f)
 
 -- an id is opened with no places
 pub kept_opened : (old new : Index) (id : TransactionId) (w : Opened) → lookup (same_id id) old ≡ None → ((t : TransactionId) → lookup (same_id t) new ≡ cond (same_id id t) (Some w) (lookup (same_id t) old)) → w.places.items ≡ [] → (t : TransactionId) → places_kept new t ≡ places_kept old t
@@ -86,16 +62,15 @@ kept_gone old new id u t =
     ∙ dropped (same_id t id) (lookup (same_id t) old)
 
 -- an id without places is ended
-pub kept_ended : (old new : Index) (id : TransactionId) → places_kept old id ≡ [] → ((t : TransactionId) → lookup (same_id t) new ≡ cond (same_id id t) None (lookup (same_id t) old)) → (t : TransactionId) → places_kept new t ≡ places_kept old t
-kept_ended old new id none u t =
-    kept_gone old new id u t
-    ∙ as_it_was (same_id t id) [] (places_kept old t) (λ s. sym (kept_same old t id s ∙ none))
+pub kept_ended : (old new : Index) (id : TransactionId) → places_kept old id ≡ [] → Without id old new → (t : TransactionId) → places_kept new t ≡ places_kept old t
+kept_ended old new id none without t =
+    without.places t ∙ as_it_was (same_id t id) [] (places_kept old t) (λ s. sym (kept_same old t id s ∙ none))
 
 pub found_unless : {X : Type 0} (b : Bool) (o : Option X) → is_some (cond b None o) ≡ cond b false (is_some o)
 found_unless true o = refl
 found_unless false o = refl
 
-pub opened_ended : (old new : Index) (id : TransactionId) → ((t : TransactionId) → lookup (same_id t) new ≡ cond (same_id id t) None (lookup (same_id t) old)) → (t : TransactionId) → list_any (same_id t) (keys_of new) ≡ cond (same_id id t) false (list_any (same_id t) (keys_of old))
+pub opened_ended : {V : Type 0} (old new : List (TransactionId × V)) (id : TransactionId) → ((t : TransactionId) → lookup (same_id t) new ≡ cond (same_id id t) None (lookup (same_id t) old)) → (t : TransactionId) → list_any (same_id t) (keys_of new) ≡ cond (same_id id t) false (list_any (same_id t) (keys_of old))
 opened_ended old new id u t =
     sym (among new t) ∙ ap is_some (u t) ∙ found_unless (same_id id t) (lookup (same_id t) old) ∙ ap (cond (same_id id t) false) (among old t)
 
@@ -124,6 +99,10 @@ homes-append (e ∷ es) id one = ap (λ hs. (e.0, e.1.home) ∷ hs) (homes-appen
 pub keys-append : (homes : List (TransactionId × Option ℕ)) (id : TransactionId) (home : Option ℕ) → keys_of (homes ++ (id, home) ∷ []) ≡ keys_of homes ++ id ∷ []
 keys-append [] id home = refl
 keys-append (h ∷ hs) id home = ap (λ ks. h.0 ∷ ks) (keys-append hs id home)
+
+pub opened_more : {T E : Type 0} (result : Result T E) (old new : List (TransactionId × Option ℕ)) (id : TransactionId) (home : Option ℕ) → OnOk result (new ≡ old ++ (id, home) ∷ []) → OnOk result (keys_of new ≡ keys_of old ++ id ∷ [])
+opened_more (Ok x) old new id home e = ap keys_of e ∙ keys-append old id home
+opened_more (Err x) old new id home e = tt
 
 -- an entry was written over by one with the same link
 pub homes-written : (test : TransactionId → Bool) (index : Index) (found w : Opened) → Some found ≡ lookup test index → w.home ≡ found.home → homes_in (set_value test index w) ≡ homes_in index
@@ -156,20 +135,31 @@ pub length-keys : (homes : List (TransactionId × Option ℕ)) → length (keys_
 length-keys [] = refl
 length-keys (h ∷ hs) = ap suc (length-keys hs)
 
--- ---- an id out of the index
+pub not_opened : (index : Index) (t : TransactionId) → list_any (same_id t) (keys_of (homes_in index)) ≡ false → lookup (same_id t) index ≡ None
+not_opened index t e = not_found index t (ap (list_any (same_id t)) (sym (keys-homes index)) ∙ e)
 
-pub record IndexEnds (id : TransactionId) (old new : Index) : Type 0 where
-  pub opened : (t : TransactionId) → list_any (same_id t) (keys_of new) ≡ cond (same_id id t) false (list_any (same_id t) (keys_of old))
-  pub homes : (t : TransactionId) → lookup (same_id t) (homes_in new) ≡ cond (same_id id t) None (lookup (same_id t) (homes_in old))
-  pub distinct : IsDistinct same_id (keys_of (homes_in new))
-  pub len : length (homes_in new) + (if list_any (same_id id) (keys_of old) then 1 else 0) ≡ length (homes_in old)
+pub opened_here : (index : Index) (t : TransactionId) → is_some (lookup (same_id t) index) ≡ list_any (same_id t) (keys_of (homes_in index))
+opened_here index t = among index t ∙ ap (list_any (same_id t)) (sym (keys-homes index))
 
-pub index_ends : (id : TransactionId) (old new : Index) (value : Option Opened) → ((t : TransactionId) → lookup (same_id t) new ≡ cond (same_id id t) None (lookup (same_id t) old)) → IsDistinct same_id (keys_of new) → value ≡ lookup (same_id id) old → length new + (if is_some value then 1 else 0) ≡ length old → IndexEnds id old new
-index_ends id old new value u unique at len = record {
-  opened = opened_ended old new id u;
+-- ---- the index written
+
+pub written : (f : List ℕ → List ℕ) (old new : Index) (id : TransactionId) (found w : Opened) → Some found ≡ lookup (same_id id) old → new ≡ set_value (same_id id) old w → ((t : TransactionId) → lookup (same_id t) new ≡ cond (same_id id t) (Some w) (lookup (same_id t) old)) → w.home ≡ found.home → w.places.items ≡ f found.places.items → Written f id old new
+written f old new id found w at is u same made = record {
+  places = kept_written f old new id found w at u made;
+  homes = ap homes_in is ∙ homes-written (same_id id) old found w at same;
+}
+
+some_home : (o : Option Opened) → is_some o ≡ is_some (option_map (λ (one : Opened). one.home) o)
+some_home None = refl
+some_home (Some one) = refl
+
+pub taken_out : (id : TransactionId) (old new : Index) (value : Option Opened) → ((t : TransactionId) → lookup (same_id t) new ≡ cond (same_id id t) None (lookup (same_id t) old)) → IsDistinct same_id (keys_of new) → value ≡ lookup (same_id id) old → length new + (if is_some value then 1 else 0) ≡ length old → Without id old new
+taken_out id old new value u unique at len = record {
+  places = kept_gone old new id u;
   homes = homes_ended old new id u;
   distinct = subst (IsDistinct same_id) (sym (keys-homes new)) unique;
   len =
-      ap (λ n. n + (if list_any (same_id id) (keys_of old) then 1 else 0)) (length-homes new)
-      ∙ ap (λ b. length new + (if b then 1 else 0)) (sym (ap is_some at ∙ among old id)) ∙ len ∙ sym (length-homes old);
+      ap (λ n. n + (if is_some (lookup (same_id id) (homes_in old)) then 1 else 0)) (length-homes new)
+      ∙ ap (λ b. length new + (if b then 1 else 0)) (sym (ap is_some at ∙ some_home (lookup (same_id id) old) ∙ sym (ap is_some (lookup-homes (same_id id) old))))
+      ∙ len ∙ sym (length-homes old);
 }

@@ -1,23 +1,8 @@
 -- What is kept for the live ids, after one change.
-use Rattle.std.proofs.Common.{◌≡◌, ◌||◌, ℕ, Bool, true, false, cond, Option, Some, None, List, [], ◌∷◌, ◌++◌, length, refl, sym, ap, ◌∙◌, append-nil}
-use Rattle.std.specs.Prelude.{is_some}
-use Rattle.std.specs.List.{IsDistinct, cons_option, list_any}
-use Rattle.std.specs.Map.{keys_of, lookup}
-use Rattle.std.specs.Option.{option_map}
-use Rattle.std.specs.Cmp.Lexicographic.{same_text, nat_list_eq_equiv}
-use Rattle.std.proofs.lemmas.List.Elements.{filter_map-append}
-use Rattle.std.proofs.lemmas.List.Folds.{list_any-append}
-use Rattle.amqp_txn_types.specs.declared.id.TransactionId.{TransactionId}
-use Rattle.amqp_txn_types.specs.declared.frames.TxnWorkFrame.{TxnWorkFrame}
-use Rattle.amqp_txn_types.specs.declared.performatives.Frame.{Frame}
-use Rattle.amqp_txn_types.specs.Ids.{same_id}
-use Rattle.amqp_txn_types.specs.Works.{frame_of_work}
-use Rattle.amqp_arrivals.specs.declared.cell.Cell.{Cell}
+use Rattle.amqp_arrivals.proofs.Words.{Agrees, Bool, Cell, EndsId, Frame, Homes, Kept, List, Log, None, Option, Some, TransactionId, TxnWorkFrame, [], ap, append-nil, cond, cons_option, false, filter_map-append, frame_of_work, frame_under, frames_in, frames_kept, frames_of, home_of, is_some, keys_of, length, lookup, nat_list_eq_equiv, option_map, refl, same_id, same_text, subst, sym, true, with_arrival, with_frame, ℕ, ◌++◌, ◌∙◌, ◌∷◌, ◌≡◌}
+use Rattle.std.specs.List.{IsDistinct}
 use Rattle.amqp_arrivals.specs.declared.cell.Cell.TheVariants as cells
-use Rattle.amqp_arrivals.specs.Cells.{EndsId, Log, frame_under, frames_in, frames_of, with_arrival}
-use Rattle.amqp_arrivals.specs.Live.{Agrees, Homes, Kept, frames_kept, home_of, with_frame}
 use Rattle.amqp_arrivals.proofs.Emptied.{frames_emptied}
-use Rattle.amqp_arrivals.proofs.Kept.{found_unless}
 
 -- what is kept for an id with these frames, where it has a link
 abbrev pub paired : Option (Option ℕ) → List Frame → Option Kept
@@ -56,11 +41,11 @@ no_homes (home ∷ homes) log none = absurd (no_pair (home.1, frames_of log home
     here : paired (lookup (same_id home.0) (home ∷ homes)) (frames_of log home.0) ≡ Some (home.1, frames_of log home.0)
     here = ap (λ b. paired (cond b (Some home.1) (lookup (same_id home.0) homes)) (frames_of log home.0)) (nat_list_eq_equiv.refl home.0)
 
-pub agrees_new : (homes : Homes) (log : Log) → homes ≡ [] → log.cells ≡ [] → log.opened ≡ [] → IsDistinct same_id (keys_of homes) → Agrees homes log
-agrees_new homes log empty cells opened distinct = record {
-  same = λ t. ap (list_any (same_id t)) opened ∙ sym (ap (λ (hs : Homes). is_some (lookup (same_id t) hs)) empty);
+pub agrees_new : (log : Log) → log.homes ≡ [] → log.cells ≡ [] → Agrees log.homes log
+unfolding IsDistinct
+agrees_new log empty cells = record {
   none = λ t gone. ap (λ cs. frames_in cs t) cells;
-  distinct = distinct;
+  distinct = subst (λ (homes : Homes). IsDistinct same_id (keys_of homes)) (sym empty) tt;
 }
 
 -- ---- an id added
@@ -75,30 +60,12 @@ kept_added old new before after id home u cells fresh t =
     ∙ picked (same_id t id) home (lookup (same_id t) old) (frames_of after t) (λ s. ap (frames_of after) (same_text t id (sym s)) ∙ fresh)
     ∙ ap (λ cs. cond (same_id t id) (Some (home, [])) (paired (lookup (same_id t) old) (frames_in cs t))) cells
 
-opened_one : (a b : Bool) → (a || (b || false)) ≡ cond b true a
-opened_one true true = refl
-opened_one true false = refl
-opened_one false true = refl
-opened_one false false = refl
-
-some_or : (b : Bool) (home : Option ℕ) (o : Option (Option ℕ)) → is_some (cond b (Some home) o) ≡ cond b true (is_some o)
-some_or true home o = refl
-some_or false home o = refl
-
 not_added : (b : Bool) (home : Option ℕ) (o : Option (Option ℕ)) → cond b (Some home) o ≡ None → o ≡ None
 not_added true home o e = cc
 not_added false home o e = e
 
-pub agrees_added : (old new : Homes) (before after : Log) (id : TransactionId) (home : Option ℕ) → Agrees old before → ((t : TransactionId) → lookup (same_id t) new ≡ cond (same_id id t) (Some home) (lookup (same_id t) old)) → after.cells ≡ before.cells → after.opened ≡ before.opened ++ id ∷ [] → IsDistinct same_id (keys_of new) → Agrees new after
-agrees_added old new before after id home agrees u cells opened distinct = record {
-  same = λ t.
-      ap (list_any (same_id t)) opened
-      ∙ list_any-append (same_id t) before.opened (id ∷ [])
-      ∙ opened_one (list_any (same_id t) before.opened) (same_id t id)
-      ∙ ap (cond (same_id t id) true) (agrees.same t)
-      ∙ sym (some_or (same_id t id) home (lookup (same_id t) old))
-      ∙ ap (λ b. is_some (cond b (Some home) (lookup (same_id t) old))) (nat_list_eq_equiv.symm t id)
-      ∙ sym (ap is_some (u t));
+pub agrees_added : (old new : Homes) (before after : Log) (id : TransactionId) (home : Option ℕ) → Agrees old before → ((t : TransactionId) → lookup (same_id t) new ≡ cond (same_id id t) (Some home) (lookup (same_id t) old)) → after.cells ≡ before.cells → IsDistinct same_id (keys_of new) → Agrees new after
+agrees_added old new before after id home agrees u cells distinct = record {
   none = λ t gone. ap (λ cs. frames_in cs t) cells ∙ agrees.none t (not_added (same_id id t) home (lookup (same_id t) old) (sym (u t) ∙ gone));
   distinct = distinct;
 }
@@ -134,7 +101,6 @@ apart homes t id live gone = by_case (same_id t id) refl
 
 pub agrees_more : (homes : Homes) (log : Log) (id : TransactionId) (w : TxnWorkFrame) → is_some (lookup (same_id id) homes) ≡ true → Agrees homes log → Agrees homes (with_arrival log id w)
 agrees_more homes log id w live agrees = record {
-  same = agrees.same;
   none = λ t gone.
       frames_arrived t id w log.cells
       ∙ ap (λ b. cond b (frames_of log t ++ frame_of_work w ∷ []) (frames_of log t)) (apart homes t id live gone)
@@ -158,9 +124,6 @@ kept_others false fs gs h e = h
 
 pub agrees_ended : (id : TransactionId) (old new : Log) → Agrees old.homes old → EndsId id old new → Agrees new.homes new
 agrees_ended id old new agrees ends = record {
-  same = λ t.
-      ends.opened t ∙ ap (cond (same_id id t) false) (agrees.same t)
-      ∙ sym (found_unless (same_id id t) (lookup (same_id t) old.homes)) ∙ sym (ap is_some (ends.homes t));
   none = λ t none.
       ap (λ cs. frames_in cs t) ends.cells ∙ frames_emptied id t old.cells
       ∙ ap (λ b. cond b [] (frames_of old t)) (nat_list_eq_equiv.symm t id)
@@ -176,9 +139,8 @@ kept_ended id old new ends t =
 
 -- ---- the log closed up
 
-pub agrees_settled : (homes : Homes) (old new : Log) → ((t : TransactionId) → frames_of new t ≡ frames_of old t) → new.opened ≡ old.opened → Agrees homes old → Agrees homes new
-agrees_settled homes old new frames opened agrees = record {
-  same = λ t. ap (list_any (same_id t)) opened ∙ agrees.same t;
+pub agrees_settled : (homes : Homes) (old new : Log) → ((t : TransactionId) → frames_of new t ≡ frames_of old t) → Agrees homes old → Agrees homes new
+agrees_settled homes old new frames agrees = record {
   none = λ t gone. frames t ∙ agrees.none t gone;
   distinct = agrees.distinct;
 }

@@ -1,17 +1,6 @@
 -- The places of the live cells of an id, after the log was changed.
-use Rattle.std.proofs.Common.{◌≡◌, ◌<◌, ◌≤◌, ◌+◌, ◌++◌, ℕ, Bool, true, false, cond, Some, None, List, [], ◌∷◌, drop, length, suc, arith, refl, sym, ap, ◌∙◌, append-nil, append_assoc, zero-add, add-zero, ⊎_elim}
-use Rattle.std.specs.Prelude.{◌==◌, slice_get, slice_index_or, slice_set, count_by, zero, is_some}
-use Rattle.std.proofs.lemmas.Bool.{eq-eqb, ne_eqb}
-use Rattle.std.proofs.lemmas.List.Sums.{sum_by-append, sum_by-set}
-use Rattle.std.proofs.lemmas.Option.{get_or_from_slice_get, slice_get_cases}
-use Rattle.std.specs.Cmp.Lexicographic.{same_text}
-use Rattle.amqp_txn_types.specs.declared.id.TransactionId.{TransactionId}
-use Rattle.amqp_txn_types.specs.declared.frames.TxnWorkFrame.{TxnWorkFrame}
-use Rattle.amqp_txn_types.specs.Ids.{same_id}
-use Rattle.amqp_arrivals.specs.declared.cell.Cell.{Cell}
+use Rattle.amqp_arrivals.proofs.Words.{Bool, Cell, List, None, Some, TransactionId, TxnWorkFrame, [], add-zero, ap, append-nil, append_assoc, arith, cond, count_by, drop, eq-eqb, false, get_or_from_slice_get, is_dead_cell, is_some, is_under, length, moved_to, ne_eqb, places_from, refl, same_id, same_text, slice_get, slice_get_cases, slice_index_or, slice_set, suc, sum_by-append, sum_by-set, sym, true, without_place, work_at, work_in, zero, zero-add, ℕ, ⊎_elim, ◌++◌, ◌+◌, ◌<◌, ◌==◌, ◌∙◌, ◌∷◌, ◌≡◌, ◌≤◌}
 use Rattle.amqp_arrivals.specs.declared.cell.Cell.TheVariants as cells
-use Rattle.amqp_arrivals.specs.Cells.{is_dead_cell, is_under, places_from, work_at, work_in}
-use Rattle.amqp_arrivals.specs.Index.{moved_to, without_place}
 use Rattle.amqp_arrivals.proofs.Kept.{same_or}
 
 -- ---- cells joined

@@ -1,11 +1,5 @@
 -- Places taken out of a list of places.
-use Rattle.std.proofs.Common.{◌≡◌, ◌<◌, ◌+◌, ◌++◌, ℕ, Bool, true, false, cond, Some, None, List, [], ◌∷◌, Option, drop, length, take, suc, arith, refl, sym, ap, subst, ◌∙◌, append-nil}
-use Rattle.std.specs.Prelude.{◌==◌, not, nat_lt, option_to_list, position, remove, slice_get}
-use Rattle.std.specs.List.{position_or_len}
-use Rattle.std.proofs.Math.Numerals.{one-add}
-use Rattle.std.proofs.lemmas.Bool.{ltb-true, ltb-false}
-use Rattle.std.proofs.lemmas.List.{take_all, drop_all}
-use Rattle.amqp_arrivals.specs.Index.{without_place}
+use Rattle.amqp_arrivals.proofs.Words.{Bool, List, None, Option, Some, [], ap, append-nil, arith, cond, drop, drop_all, false, length, ltb-false, ltb-true, nat_lt, not, one-add, option_to_list, position, position_or_len, refl, remove, slice_get, subst, suc, sym, take, take_all, true, without_place, ℕ, ◌++◌, ◌+◌, ◌<◌, ◌==◌, ◌∙◌, ◌∷◌, ◌≡◌}
 
 -- the first of some places that is this one, taken out
 removed : (n : ℕ) (ms : List ℕ) → remove ms (position_or_len (λ m. m == n) ms) ≡ without_place n ms

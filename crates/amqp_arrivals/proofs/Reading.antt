@@ -1,12 +1,6 @@
 -- What a look at a cell of the log tells.
-use Rattle.std.proofs.Common.{◌≡◌, ◌<◌, ℕ, Option, Some, None, List, length, get_or, refl, sym, ap, ◌∙◌}
-use Rattle.std.specs.Prelude.{option_and_then, slice_get}
-use Rattle.std.proofs.lemmas.Option.{get_or_from_slice_get, slice_get-get_or}
-use Rattle.amqp_txn_types.specs.declared.id.TransactionId.{TransactionId}
-use Rattle.amqp_txn_types.specs.declared.frames.TxnWorkFrame.{TxnWorkFrame}
-use Rattle.amqp_arrivals.specs.declared.cell.Cell.{Cell}
+use Rattle.amqp_arrivals.proofs.Words.{Cell, List, None, Option, Some, TransactionId, TxnWorkFrame, ap, get_or, get_or_from_slice_get, id_of, length, option_and_then, refl, slice_get, slice_get-get_or, sym, ℕ, ◌<◌, ◌∙◌, ◌≡◌}
 use Rattle.amqp_arrivals.specs.declared.cell.Cell.TheVariants as cells
-use Rattle.amqp_arrivals.specs.Cells.{id_of}
 
 live_in : (o : Option Cell) (u : TransactionId) → option_and_then id_of o ≡ Some u → (w : TxnWorkFrame) × (o ≡ Some (cells.Live u w))
 live_in None u e = cc

@@ -1,5 +1,5 @@
 -- The log of the work under live ids: what came, in the order in which it came.
-use Rattle.std.specs.Prelude.{ℕ, ◌≡◌, ◌≤◌, ◌+◌, Bool, true, false, not, cond, if◌then◌else◌, Option, Some, None, Result, Ok, List, [], ◌∷◌, ◌++◌, filter, count_by, length, map, nat_lt, slice_get, slice_set}
+use Rattle.std.specs.Prelude.{ℕ, ◌≡◌, ◌≤◌, ◌+◌, Bool, true, false, not, cond, if◌then◌else◌, Option, Some, None, Result, Ok, List, [], ◌∷◌, ◌++◌, filter, count_by, is_some, length, map, nat_lt, slice_get, slice_set}
 use Rattle.std.specs.List.{IsDistinct, list_any, filter_map}
 use Rattle.std.specs.Map.{keys_of, lookup}
 use Rattle.amqp_txn_types.specs.declared.items.NoMemory.{NoMemory}
@@ -11,12 +11,10 @@ use Rattle.amqp_txn_types.specs.Works.{frame_of_work}
 use Rattle.amqp_arrivals.specs.declared.cell.Cell.{Cell}
 use Rattle.amqp_arrivals.specs.declared.cell.Cell.TheVariants as cells
 
--- the log: its cells, in the order in which they came, the ids that are opened, the same with the
--- link that each was declared on, if it was on one, and how many more can be opened without taking
--- memory
+-- the log: its cells, in the order in which they came, the opened ids, each with the link that it was
+-- declared on, if it was on one, and how many more can be opened without taking memory
 pub record Log : Type 0 where
   pub cells : List Cell
-  pub opened : List TransactionId
   pub homes : List (TransactionId × Option ℕ)
   pub room : ℕ
 
@@ -84,9 +82,13 @@ frames_in cs t = filter_map (frame_under t) cs
 abbrev pub frames_of : Log → TransactionId → List Frame
 frames_of log t = frames_in log.cells t
 
+-- the opened ids
+abbrev pub opened : Log → List TransactionId
+opened log = keys_of log.homes
+
 -- the id is opened
 abbrev pub is_opened : Log → TransactionId → Bool
-is_opened log t = list_any (same_id t) log.opened
+is_opened log t = list_any (same_id t) (opened log)
 
 -- ---- the log
 
@@ -100,7 +102,6 @@ dead_count log = count_by is_dead_cell log.cells
 -- the cells and the opened ids are as they were
 pub record SameLog (old new : Log) : Type 0 where
   pub cells : new.cells ≡ old.cells
-  pub opened : new.opened ≡ old.opened
   pub homes : new.homes ≡ old.homes
 
 -- the log with one more live cell, at its end
@@ -138,9 +139,9 @@ emptied t cs = map (λ c. cond (is_under t c) cells.Dead c) cs
 -- an id ended, and all its work was taken; all else is as it was
 pub record EndsId (id : TransactionId) (old new : Log) : Type 0 where
   pub cells : new.cells ≡ emptied id old.cells
-  pub opened : (t : TransactionId) → is_opened new t ≡ cond (same_id id t) false (is_opened old t)
   pub homes : (t : TransactionId) → lookup (same_id t) new.homes
       ≡ cond (same_id id t) None (lookup (same_id t) old.homes)
   pub distinct : IsDistinct same_id (keys_of new.homes)
-  pub len : length new.homes + (if is_opened old id then 1 else 0) ≡ length old.homes
+  pub len : length new.homes + (if is_some (lookup (same_id id) old.homes) then 1 else 0)
+      ≡ length old.homes
   pub room : old.room ≤ new.room

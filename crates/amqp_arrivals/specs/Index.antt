@@ -1,6 +1,7 @@
 -- The index of the log: for each opened id, the places of its live cells.
-use Rattle.std.specs.Prelude.{ℕ, ◌≡◌, ◌==◌, Bool, true, cond, Option, Some, None, Result, Ok, List, [], ◌∷◌, ◌++◌, count_by}
-use Rattle.std.specs.Map.{lookup}
+use Rattle.std.specs.Prelude.{ℕ, ◌≡◌, ◌==◌, Bool, true, cond, Option, Some, None, Result, Ok, List, [], ◌∷◌, ◌++◌, ◌+◌, count_by, if◌then◌else◌, is_some, length}
+use Rattle.std.specs.List.{IsDistinct}
+use Rattle.std.specs.Map.{keys_of, lookup}
 use Rattle.amqp_txn_types.specs.declared.items.NoMemory.{NoMemory}
 use Rattle.amqp_txn_types.specs.declared.id.TransactionId.{TransactionId}
 use Rattle.amqp_txn_types.specs.Ids.{same_id}
@@ -40,6 +41,21 @@ without_place n (m ∷ ms) = cond (m == n) ms (m ∷ without_place n ms)
 abbrev pub moved_to : ℕ → List ℕ → List ℕ
 moved_to n [] = []
 moved_to n (m ∷ ms) = ms ++ n ∷ []
+
+-- the places of one id are what this makes of them, and all else is as it was
+pub record Written (f : List ℕ → List ℕ) (id : TransactionId) (old new : Index) : Type 0 where
+  pub places : (t : TransactionId) → places_kept new t
+      ≡ cond (same_id t id) (f (places_kept old t)) (places_kept old t)
+  pub homes : homes_in new ≡ homes_in old
+
+-- an id was taken out, with its places
+pub record Without (id : TransactionId) (old new : Index) : Type 0 where
+  pub places : (t : TransactionId) → places_kept new t ≡ cond (same_id t id) [] (places_kept old t)
+  pub homes : (t : TransactionId) → lookup (same_id t) (homes_in new)
+      ≡ cond (same_id id t) None (lookup (same_id t) (homes_in old))
+  pub distinct : IsDistinct same_id (keys_of (homes_in new))
+  pub len : length (homes_in new) + (if is_some (lookup (same_id id) (homes_in old)) then 1 else 0)
+      ≡ length (homes_in old)
 
 -- the index gives, for each opened id, the places of its live cells, and no cell is live with
 -- another id; so many cells are dead

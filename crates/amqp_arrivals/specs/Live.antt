@@ -7,7 +7,7 @@ use Rattle.amqp_txn_types.specs.declared.id.TransactionId.{TransactionId}
 use Rattle.amqp_txn_types.specs.declared.items.NoMemory.{NoMemory}
 use Rattle.amqp_txn_types.specs.declared.performatives.Frame.{Frame}
 use Rattle.amqp_txn_types.specs.Ids.{same_id}
-use Rattle.amqp_arrivals.specs.Cells.{Log, dead_count, frames_of, is_opened}
+use Rattle.amqp_arrivals.specs.Cells.{Log, dead_count, frames_of}
 
 -- the live ids, each with the link that it was declared on
 abbrev pub Homes : Type 0
@@ -98,8 +98,7 @@ pub record LetsGo (old new : Live) (id : TransactionId) (looks now : ℕ) : Type
   pub room : KeepsPlaces old new
   pub kept : (t : TransactionId) → kept new t ≡ cond (same_id t id) None (kept old t)
 
--- the live ids are those that are opened in the log, each once, and nothing is kept for any other
+-- each id is live once, and nothing is kept for one that isn't live
 pub record Agrees (homes : Homes) (log : Log) : Type 0 where
-  pub same : (t : TransactionId) → is_opened log t ≡ is_some (lookup (same_id t) homes)
   pub none : (t : TransactionId) → lookup (same_id t) homes ≡ None → frames_of log t ≡ []
   pub distinct : IsDistinct same_id (keys_of homes)

@@ -1,15 +1,16 @@
 //! The index of the log: the opened ids, each with its link and the places of its live cells.
 
-ghost use Rattle.std.specs.Prelude.{◌≡◌, ◌==◌, ◌++◌, ◌∷◌, [], cond, IfOk, length, position, slice_get, is_some};
+ghost use Rattle.std.specs.Prelude.{◌≡◌, ◌==◌, ◌≤◌, cond, IfOk, length, position, slice_get, is_some};
 ghost use Rattle.std.specs.Map.{lookup};
-ghost use Rattle.std.specs.HashMap.{keys, spare};
+ghost use Rattle.std.specs.HashMap.{spare};
 ghost use Rattle.amqp_txn_types.specs.declared.id.TransactionId.{TransactionId as Id};
 ghost use Rattle.amqp_txn_types.specs.Ids.{same_id};
-ghost use Rattle.amqp_arrivals.specs.Index.{homes_in, moved_to, places_added, places_kept, without_place};
+ghost use Rattle.amqp_arrivals.specs.Index.{Without, Written, homes_in, moved_to, places_added, places_kept, without_place};
 
 use crate::opened::Opened;
 use amqp_txn_types::{NoMemory, TransactionId};
 use indexmap::IndexMap;
+use std::alloc::Global;
 use std::collections::VecDeque;
 
 /// The opened ids.
@@ -47,11 +48,7 @@ pub fn place_count(index: &Index, id: TransactionId) -> usize
 #[inline(always)]
 pub fn add_place(index: &mut Index, id: TransactionId, place: usize) -> Result<bool, NoMemory>
     ensures ok { IfOk result (λ opened. opened ≡ is_some (lookup (same_id id) index.old.entries)) }
-    ensures places { (t : Id) → places_kept index.new.entries t ≡ cond (same_id t id)
-        (places_added result place (places_kept index.old.entries t))
-        (places_kept index.old.entries t) }
-    ensures keys { keys index.new ≡ keys index.old }
-    ensures homes { homes_in index.new.entries ≡ homes_in index.old.entries }
+    ensures written { Written (places_added result place) id index.old.entries index.new.entries }
     ensures spare { spare index.new ≡ spare index.old }
 {
     let Some(opened) = index.get_mut(&id) else {
@@ -87,11 +84,7 @@ fn drop_from(places: &mut VecDeque<usize>, place: usize)
 
 /// Takes a place out of those of an id.
 pub fn drop_place(index: &mut Index, id: TransactionId, place: usize)
-    ensures places { (t : Id) → places_kept index.new.entries t ≡ cond (same_id t id)
-        (without_place place (places_kept index.old.entries t))
-        (places_kept index.old.entries t) }
-    ensures keys { keys index.new ≡ keys index.old }
-    ensures homes { homes_in index.new.entries ≡ homes_in index.old.entries }
+    ensures written { Written (without_place place) id index.old.entries index.new.entries }
     ensures spare { spare index.new ≡ spare index.old }
 {
     if let Some(opened) = index.get_mut(&id) {
@@ -112,14 +105,22 @@ fn move_in(places: &mut VecDeque<usize>, to: usize)
 
 /// Takes out the first place of an id, and adds another after the rest.
 pub fn move_place(index: &mut Index, id: TransactionId, to: usize)
-    ensures places { (t : Id) → places_kept index.new.entries t ≡ cond (same_id t id)
-        (moved_to to (places_kept index.old.entries t))
-        (places_kept index.old.entries t) }
-    ensures keys { keys index.new ≡ keys index.old }
-    ensures homes { homes_in index.new.entries ≡ homes_in index.old.entries }
+    ensures written { Written (moved_to to) id index.old.entries index.new.entries }
     ensures spare { spare index.new ≡ spare index.old }
 {
     if let Some(opened) = index.get_mut(&id) {
         move_in(&mut opened.places, to);
+    }
+}
+
+/// Takes an id out of the index, and gives its places: none where it isn't opened.
+pub fn take_id(index: &mut Index, id: &TransactionId, alloc: Global) -> VecDeque<usize>
+    ensures places { result.items ≡ places_kept index.old.entries id.now }
+    ensures without { Without id.now index.old.entries index.new.entries }
+    ensures room { spare index.old ≤ spare index.new }
+{
+    match index.swap_remove(id) {
+        Some(opened) => opened.places,
+        None => VecDeque::new(alloc),
     }
 }

@@ -1,17 +1,19 @@
 //! The log of the work under live transactions.
 
 ghost use Rattle.std.specs.Prelude.{◌≡◌, ◌≤◌, ◌<◌, ◌↔◌, IsTrue, ◌+◌, ◌++◌, ◌∷◌, [], Some, None, cond, true, false, is_some, length, slice_get, take, filter, count_by, map, vec_capacity, IfErr, IfOk, IfSome, IsOk, OnOk, OnErr, if◌then◌else◌};
-ghost use Rattle.std.specs.HashMap.{keys, spare};
+ghost use Rattle.std.specs.HashMap.{spare};
 ghost use Rattle.std.specs.List.{IsDistinct};
 ghost use Rattle.std.specs.Map.{keys_of, lookup};
 ghost use Rattle.amqp_txn_types.specs.declared.id.TransactionId.{TransactionId as Id};
 ghost use Rattle.amqp_txn_types.specs.Frames.{stripped};
 ghost use Rattle.amqp_txn_types.specs.Ids.{same_id};
-ghost use Rattle.amqp_arrivals.specs.Cells.{EndsId, SameLog, arrived, closed_up, dead_count, frames_of, is_live_cell, is_opened, live_count, places, places_from, settled, with_arrival, without_work, work_at};
+ghost use Rattle.amqp_arrivals.specs.Cells.{EndsId, SameLog, arrived, closed_up, dead_count, frames_of, is_live_cell, is_opened, live_count, opened, places, places_from, settled, with_arrival, without_work, work_at};
 ghost use Rattle.amqp_arrivals.specs.Index.{homes_in, places_kept};
 
 use crate::cell_list::CellList;
-use crate::index::{Index, add_place, drop_place, first_place, home_of, move_place, place_count};
+use crate::index::{
+    Index, add_place, drop_place, first_place, home_of, move_place, place_count, take_id,
+};
 use crate::looks::Looks;
 use crate::opened::Opened;
 use crate::taking::{drop_places, strip_places};
@@ -29,7 +31,6 @@ fn move_live<L: Ledger>(cells: &mut CellList, index: &mut Index, looks: &mut Loo
     ensures cells { take result cells.new.cells ≡ filter is_live_cell cells.old.cells }
     ensures index { (t : Id) → places_kept index.new.entries t
         ≡ places_from 0 t (filter is_live_cell cells.old.cells) }
-    ensures keys { keys index.new ≡ keys index.old }
     ensures homes { homes_in index.new.entries ≡ homes_in index.old.entries }
     ensures spare { spare index.new ≡ spare index.old }
     ensures looks { looks.new ≡ looks.old + count_by is_live_cell cells.old.cells }
@@ -55,7 +56,7 @@ pub struct ArrivalLog {
 }
 
 impl Model for ArrivalLog {
-    ghost use Rattle.std.specs.HashMap.{keys, spare};
+    ghost use Rattle.std.specs.HashMap.{spare};
     ghost use Rattle.amqp_arrivals.specs.Cells.{Log};
     ghost use Rattle.amqp_arrivals.specs.Index.{Indexed, homes_in};
 
@@ -63,7 +64,6 @@ impl Model for ArrivalLog {
 
     ghost view = { λ log. record {
       cells = log.cells.cells;
-      opened = keys log.index;
       homes = homes_in log.index.entries;
       room = spare log.index;
     } };
@@ -76,7 +76,6 @@ impl ArrivalLog {
     /// from `alloc`.
     pub fn new(alloc: Global) -> Self
         ensures cells { result.cells ≡ [] }
-        ensures opened { result.opened ≡ [] }
         ensures homes { result.homes ≡ [] }
     {
         ArrivalLog {
@@ -165,10 +164,9 @@ impl ArrivalLog {
         requires { is_opened self.old txn_id ≡ false }
         ensures fresh { frames_of self.new txn_id ≡ [] }
         ensures cells { self.new.cells ≡ self.old.cells }
-        ensures ok { OnOk result (self.new.opened ≡ self.old.opened ++ txn_id ∷ []) }
+        ensures ok { OnOk result (opened self.new ≡ opened self.old ++ txn_id ∷ []) }
         ensures homes { OnOk result (self.new.homes ≡ self.old.homes ++ (txn_id, None) ∷ []) }
-        ensures err { OnErr result ((self.new.opened ≡ self.old.opened)
-            × (self.new.homes ≡ self.old.homes)) }
+        ensures err { OnErr result (self.new.homes ≡ self.old.homes) }
         ensures room { self.old.room ≤ self.new.room + 1 }
         ensures succeeds { 0 < self.old.room → IsOk result }
     {
@@ -185,13 +183,11 @@ impl ArrivalLog {
         requires { is_opened self.old txn_id ≡ false }
         ensures fresh { frames_of self.new txn_id ≡ [] }
         ensures cells { self.new.cells ≡ self.old.cells }
-        ensures ok { OnOk result (self.new.opened ≡ self.old.opened ++ txn_id ∷ []) }
         ensures homes { OnOk result (self.new.homes ≡ self.old.homes ++ (txn_id, home) ∷ []) }
         ensures found { OnOk result ((t : Id) → lookup (same_id t) self.new.homes
             ≡ cond (same_id txn_id t) (Some home) (lookup (same_id t) self.old.homes)) }
         ensures distinct { IsDistinct same_id (keys_of self.new.homes) }
-        ensures err { OnErr result ((self.new.opened ≡ self.old.opened)
-            × (self.new.homes ≡ self.old.homes)) }
+        ensures err { OnErr result (self.new.homes ≡ self.old.homes) }
         ensures room { self.old.room ≤ self.new.room + 1 }
         ensures succeeds { 0 < self.old.room → IsOk result }
     {
@@ -215,14 +211,9 @@ impl ArrivalLog {
         ensures cells { self.new.cells ≡ self.old.cells }
         ensures opened { (t : Id) → is_opened self.new t ≡ cond (same_id txn_id.now t) false
             (is_opened self.old t) }
-        ensures homes { (t : Id) → lookup (same_id t) self.new.homes ≡ cond (same_id txn_id.now t)
-            None (lookup (same_id t) self.old.homes) }
-        ensures distinct { IsDistinct same_id (keys_of self.new.homes) }
-        ensures len { length self.new.homes
-            + (if is_opened self.old txn_id.now then 1 else 0) ≡ length self.old.homes }
         ensures room { self.old.room ≤ self.new.room }
     {
-        let _places = self.index.swap_remove(txn_id);
+        let _places = take_id(&mut self.index, txn_id, self.alloc);
     }
 
     /// Adds work under an opened id, as the last of the log. For want of memory, the only error,
@@ -313,17 +304,15 @@ impl ArrivalLog {
         ensures ended { EndsId txn_id.now self.old self.new }
         ensures looks { looks.new ≡ looks.old + length (frames_of self.old txn_id.now) }
     {
-        match self.index.swap_remove(txn_id) {
-            Some(opened) => strip_places(
-                &mut self.cells,
-                &mut self.dead,
-                opened.places,
-                *txn_id,
-                list,
-                looks,
-            ),
-            None => list,
-        }
+        let places = take_id(&mut self.index, txn_id, self.alloc);
+        strip_places(
+            &mut self.cells,
+            &mut self.dead,
+            places,
+            *txn_id,
+            list,
+            looks,
+        )
     }
 
     /// Ends an id and lets all its work go: one look for each. Where the id isn't opened nothing
@@ -332,15 +321,8 @@ impl ArrivalLog {
         ensures ended { EndsId txn_id.now self.old self.new }
         ensures looks { looks.new ≡ looks.old + length (frames_of self.old txn_id.now) }
     {
-        if let Some(opened) = self.index.swap_remove(txn_id) {
-            drop_places(
-                &mut self.cells,
-                &mut self.dead,
-                opened.places,
-                *txn_id,
-                looks,
-            );
-        }
+        let places = take_id(&mut self.index, txn_id, self.alloc);
+        drop_places(&mut self.cells, &mut self.dead, places, *txn_id, looks);
     }
 
     /// Leaves the live cells, in their order, and none that is dead: one look at each. It takes no
@@ -358,7 +340,6 @@ impl ArrivalLog {
     pub fn settle<L: Ledger>(&mut self, looks: &mut Looks<L>)
         ensures log { self.new ≡ settled self.old }
         ensures frames { (t : Id) → frames_of self.new t ≡ frames_of self.old t }
-        ensures opened { self.new.opened ≡ self.old.opened }
         ensures homes { self.new.homes ≡ self.old.homes }
         ensures room { self.new.room ≡ self.old.room }
         ensures live { live_count self.new ≡ live_count self.old }

@@ -1,4 +1,4 @@
-use Rattle.std.proofs.Common.{sym, ◌∙◌, subst, ◌<◌}
+use Rattle.amqp_arrivals.proofs.Words.{subst, sym, ◌<◌, ◌∙◌}
 use Rattle.amqp_arrivals.proofs.Places.{found_below, removed_found, removed_none}
 use Rattle.amqp_arrivals.proofs.index.drop_from.Goals as goal
 

@@ -1,7 +1,4 @@
-use Rattle.std.proofs.Common.{ap, sym, ◌∙◌}
-use Rattle.std.specs.Option.{option_map}
-use Rattle.amqp_txn_types.specs.Ids.{same_id}
-use Rattle.amqp_arrivals.specs.declared.opened.Opened.{Opened}
+use Rattle.amqp_arrivals.proofs.Words.{Opened, ap, option_map, same_id, sym, ◌∙◌}
 use Rattle.amqp_arrivals.proofs.Kept.{lookup-homes}
 use Rattle.amqp_arrivals.proofs.index.home_of.Goals as goal
 

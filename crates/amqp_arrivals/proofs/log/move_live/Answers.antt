@@ -1,8 +1,5 @@
-use Rattle.std.proofs.Common.{◌<◌, ◌≤◌, ◌+◌, arith, ap, refl, subst, sym, ◌∙◌, length}
-use Rattle.std.proofs.lemmas.List.Filters.{FiltersInPlace, FiltersInPlace-more_swap, FiltersInPlace-more_no}
+use Rattle.amqp_arrivals.proofs.Words.{FiltersInPlace, FiltersInPlace-more_no, FiltersInPlace-more_swap, ap, arith, is_live_cell, length, places_kept, refl, subst, sym, ◌+◌, ◌<◌, ◌∙◌, ◌≤◌}
 use Rattle.amqp_arrivals.specs.declared.cell.Cell.TheVariants as cells
-use Rattle.amqp_arrivals.specs.Cells.{is_live_cell}
-use Rattle.amqp_arrivals.specs.Index.{places_kept}
 use Rattle.amqp_arrivals.proofs.Closing.{looked_at_live, looked_at_dead, moved_all}
 use Rattle.amqp_arrivals.proofs.Reading.{dead_here, live_here}
 use Rattle.amqp_arrivals.proofs.log.move_live.Goals as goal
@@ -23,10 +20,9 @@ loop-place-preserved g c =
           rw (w.index-is, w.kept-is) (record {
             cells = FiltersInPlace-more_swap held there refl at.1 w.in-Some.ensures.live;
             index = λ t.
-                w.move_place.ensures.places t
+                w.move_place.ensures.written.places t
                 ∙ looked_at_live t id at.0 (cells.Live id at.0) (places_kept c.loop-place.index.entries t) held below at.1 refl (c.loop-place.invariant.index t);
-            keys = w.move_place.ensures.keys ∙ c.loop-place.invariant.keys;
-            homes = w.move_place.ensures.homes ∙ c.loop-place.invariant.homes;
+            homes = w.move_place.ensures.written.homes ∙ c.loop-place.invariant.homes;
             spare = w.move_place.ensures.spare ∙ c.loop-place.invariant.spare;
             looks = omega (arith, w.in-Some.ensures.looks, c.loop-place.invariant.looks);
           })
@@ -38,7 +34,6 @@ loop-place-preserved g c =
                 subst (λ zs. FiltersInPlace is_live_cell xs zs c.loop-place.kept (i + 1)) (sym same.0)
                 (FiltersInPlace-more_no held there refl at);
             index = λ t. looked_at_dead t cells.Dead (places_kept c.loop-place.index.entries t) held below at refl (c.loop-place.invariant.index t);
-            keys = c.loop-place.invariant.keys;
             homes = c.loop-place.invariant.homes;
             spare = c.loop-place.invariant.spare;
             looks = same.1 ∙ c.loop-place.invariant.looks;

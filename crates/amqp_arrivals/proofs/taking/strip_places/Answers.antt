@@ -1,4 +1,4 @@
-use Rattle.std.proofs.Common.{sym, ◌∙◌}
+use Rattle.amqp_arrivals.proofs.Words.{sym, ◌∙◌}
 use Rattle.amqp_arrivals.proofs.Emptied.{emptied_none}
 use Rattle.amqp_arrivals.proofs.Frames.{no_places}
 use Rattle.amqp_arrivals.proofs.taking.strip_places.Goals as goal

@@ -1,7 +1,4 @@
-use Rattle.std.proofs.Common.{◌≡◌, ◌≤◌, ◌+◌, ◌++◌, length, map, vec_capacity}
-use Rattle.std.specs.Prelude.{count_by}
-use Rattle.amqp_txn_types.specs.Frames.{stripped}
-use Rattle.amqp_arrivals.specs.Cells.{emptied, frames_in, is_dead_cell, places_from}
+use Rattle.amqp_arrivals.proofs.Words.{count_by, emptied, frames_in, is_dead_cell, length, map, places_from, stripped, vec_capacity, ◌++◌, ◌+◌, ◌≡◌, ◌≤◌}
 use Rattle.amqp_arrivals.proofs.taking.strip_places.Given as goal
 
 abbrev pub invariant-loop-work : goal.invariant-loop-work

@@ -1,9 +1,5 @@
-use Rattle.std.proofs.Common.{arith, ◌≡◌, ◌+◌, ◌^◌, ◌<◌, ◌∷◌, ap, sym, subst, refl, cond, drop, ◌∙◌}
-use Rattle.std.specs.Prelude.{count_by, is_some, slice_get, slice_set}
-use Rattle.std.specs.Cmp.Lexicographic.{nat_list_eq_equiv}
-use Rattle.amqp_txn_types.specs.Works.{frame_of_work}
+use Rattle.amqp_arrivals.proofs.Words.{ap, arith, cond, count_by, drop, emptied, frame_of_work, frames_in, is_dead_cell, is_some, nat_list_eq_equiv, places_from, refl, slice_get, slice_set, subst, sym, work_in, ◌+◌, ◌<◌, ◌^◌, ◌∙◌, ◌∷◌, ◌≡◌}
 use Rattle.amqp_arrivals.specs.declared.cell.Cell.TheVariants as cells
-use Rattle.amqp_arrivals.specs.Cells.{emptied, frames_in, is_dead_cell, places_from, work_in}
 use Rattle.amqp_arrivals.proofs.Emptied.{emptied_taken}
 use Rattle.amqp_arrivals.proofs.Frames.{dead-fits, none_kept, took_first}
 use Rattle.amqp_arrivals.proofs.Placed.{dead-taken, places-first, work-below}

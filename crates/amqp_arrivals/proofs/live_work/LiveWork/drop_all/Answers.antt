@@ -1,5 +1,4 @@
-use Rattle.std.proofs.Common.{subst}
-use Rattle.amqp_arrivals.specs.Live.{LetsGo, Live}
+use Rattle.amqp_arrivals.proofs.Words.{LetsGo, Live, subst}
 use Rattle.amqp_arrivals.proofs.Counting.{lets_go, live_of}
 use Rattle.amqp_arrivals.proofs.Live.{agrees_ended}
 use Rattle.amqp_arrivals.proofs.live_work.LiveWork.drop_all.Goals as goal

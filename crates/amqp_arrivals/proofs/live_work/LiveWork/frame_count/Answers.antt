@@ -1,5 +1,4 @@
-use Rattle.std.proofs.Common.{ap, ◌∙◌}
-use Rattle.amqp_arrivals.specs.Live.{frame_count}
+use Rattle.amqp_arrivals.proofs.Words.{ap, frame_count, ◌∙◌}
 use Rattle.amqp_arrivals.proofs.Counting.{live_kept}
 use Rattle.amqp_arrivals.proofs.live_work.LiveWork.frame_count.Goals as goal
 

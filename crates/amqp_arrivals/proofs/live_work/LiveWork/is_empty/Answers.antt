@@ -1,6 +1,4 @@
-use Rattle.std.proofs.Common.{◌≡◌, None, subst, sym}
-use Rattle.amqp_txn_types.specs.declared.id.TransactionId.{TransactionId}
-use Rattle.amqp_arrivals.specs.Live.{Live, kept}
+use Rattle.amqp_arrivals.proofs.Words.{Live, None, TransactionId, kept, subst, sym, ◌≡◌}
 use Rattle.amqp_arrivals.proofs.Live.{none_kept, no_homes}
 use Rattle.amqp_arrivals.proofs.live_work.LiveWork.is_empty.Goals as goal
 

@@ -1,8 +1,4 @@
-use Rattle.amqp_txn_types.specs.Works.{frame_of_work}
-use Rattle.std.proofs.Common.{ap, subst, sym, ◌∙◌}
-use Rattle.std.specs.Prelude.{IfOk}
-use Rattle.amqp_arrivals.specs.Cells.{Log, arrived, is_opened}
-use Rattle.amqp_arrivals.specs.Live.{Agrees, Keeps, Live}
+use Rattle.amqp_arrivals.proofs.Words.{Agrees, Keeps, Live, Log, frame_of_work, subst, sym}
 use Rattle.amqp_arrivals.proofs.Counting.{agrees_arrived, keeps, live_of}
 use Rattle.amqp_arrivals.proofs.live_work.LiveWork.keep.Goals as goal
 

@@ -1,7 +1,4 @@
-use Rattle.std.proofs.Common.{◌+◌, ◌++◌, ◌≤◌, ap, length, map, subst, sym, ◌∙◌}
-use Rattle.std.specs.Prelude.{vec_capacity}
-use Rattle.amqp_txn_types.specs.Frames.{stripped}
-use Rattle.amqp_arrivals.specs.Live.{LetsGo, Live, frames_kept, kept}
+use Rattle.amqp_arrivals.proofs.Words.{LetsGo, Live, ap, frames_kept, kept, length, map, stripped, subst, sym, vec_capacity, ◌++◌, ◌+◌, ◌∙◌, ◌≤◌}
 use Rattle.amqp_arrivals.proofs.Counting.{lets_go, live_of}
 use Rattle.amqp_arrivals.proofs.Live.{agrees_ended, frames_are}
 use Rattle.amqp_arrivals.proofs.live_work.LiveWork.take_all.Goals as goal

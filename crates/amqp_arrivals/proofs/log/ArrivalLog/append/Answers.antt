@@ -1,5 +1,4 @@
-use Rattle.std.proofs.Common.{ap, ◌∙◌, ◌++◌, ◌∷◌, []}
-use Rattle.std.specs.Prelude.{length}
+use Rattle.amqp_arrivals.proofs.Words.{[], ap, length, ◌++◌, ◌∙◌, ◌∷◌}
 use Rattle.amqp_arrivals.specs.declared.cell.Cell.TheVariants as cells
 use Rattle.amqp_arrivals.proofs.Indexing.{indexed_arrived}
 use Rattle.amqp_arrivals.proofs.log.ArrivalLog.append.Goals as goal
@@ -7,5 +6,5 @@ use Rattle.amqp_arrivals.proofs.log.ArrivalLog.append.Goals as goal
 pub invariant_of-self-2 : goal.invariant_of-self-2
 invariant_of-self-2 c =
     indexed_arrived c.args.txn_id.now c.args.work c.self.inside.cells.cells _ c.self.inside.index.entries _ c.self.inside.dead c.len.result c.add_place.result
-    c.self.invariant c.add_place.ensures.places (cc (c.in-Ok-true.is, c.in-Ok-true.field-0-test)) (c.len.ensures ∙ ap length c.reserve.ensures.cells)
+    c.self.invariant c.add_place.ensures.written (cc (c.in-Ok-true.is, c.in-Ok-true.field-0-test)) (c.len.ensures ∙ ap length c.reserve.ensures.cells)
     (c.push.ensures ∙ ap (λ xs. xs ++ cells.Live c.args.txn_id.now c.args.work ∷ []) c.reserve.ensures.cells)

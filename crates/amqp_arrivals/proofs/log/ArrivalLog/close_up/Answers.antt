@@ -1,6 +1,4 @@
-use Rattle.std.proofs.Common.{ap, sym, ◌∙◌}
-use Rattle.std.specs.Prelude.{count_by}
-use Rattle.amqp_arrivals.specs.Cells.{is_dead_cell, places_from}
+use Rattle.amqp_arrivals.proofs.Words.{ap, count_by, is_dead_cell, places_from, sym, ◌∙◌}
 use Rattle.amqp_arrivals.proofs.Closing.{live_alone}
 use Rattle.amqp_arrivals.proofs.log.ArrivalLog.close_up.Goals as goal
 

@@ -1,5 +1,4 @@
-use Rattle.std.proofs.Common.{ap, ◌∙◌, length}
-use Rattle.amqp_arrivals.specs.Cells.{Log, frames_of}
+use Rattle.amqp_arrivals.proofs.Words.{Log, ap, frames_of, length, ◌∙◌}
 use Rattle.amqp_arrivals.proofs.Frames.{as_many}
 use Rattle.amqp_arrivals.proofs.log.ArrivalLog.count.Goals as goal
 

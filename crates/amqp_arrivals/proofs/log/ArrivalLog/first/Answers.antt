@@ -1,6 +1,4 @@
-use Rattle.std.proofs.Common.{ap, ◌∙◌}
-use Rattle.amqp_arrivals.specs.Cells.{places}
-use Rattle.std.specs.Prelude.{slice_get}
+use Rattle.amqp_arrivals.proofs.Words.{ap, places, slice_get, ◌∙◌}
 use Rattle.amqp_arrivals.proofs.Frames.{first_is_live}
 use Rattle.amqp_arrivals.proofs.log.ArrivalLog.first.Goals as goal
 

@@ -1,5 +1,4 @@
-use Rattle.std.proofs.Common.{ap, length, sym, ◌∙◌}
-use Rattle.amqp_arrivals.specs.Cells.{Log}
+use Rattle.amqp_arrivals.proofs.Words.{Log, ap, length, sym, ◌∙◌}
 use Rattle.amqp_arrivals.proofs.Kept.{length-homes}
 use Rattle.amqp_arrivals.proofs.log.ArrivalLog.is_empty.Goals as goal
 

@@ -1,8 +1,4 @@
-use Rattle.std.proofs.Common.{◌≡◌, ◌-◌, ap, ◌∙◌, arith, refl}
-use Rattle.std.specs.Prelude.{count_by}
-use Rattle.std.proofs.lemmas.List.Sums.{length-filter}
-use Rattle.std.proofs.lemmas.List.Filters.{length-filter_both}
-use Rattle.amqp_arrivals.specs.Cells.{is_dead_cell, is_live_cell, live_count}
+use Rattle.amqp_arrivals.proofs.Words.{ap, arith, count_by, is_dead_cell, is_live_cell, length-filter, length-filter_both, live_count, refl, ◌-◌, ◌∙◌, ◌≡◌}
 use Rattle.amqp_arrivals.proofs.log.ArrivalLog.live.Goals as goal
 
 pub returns : goal.returns

@@ -1,43 +1,27 @@
-use Rattle.std.proofs.Common.{ap, cond, subst, sym, Some, ◌∙◌, ◌++◌, ◌∷◌, []}
-use Rattle.std.specs.Prelude.{nat_eq}
+use Rattle.amqp_arrivals.proofs.Words.{Log, Opened, Some, [], ap, cond, homes_in, insert_entry-new, is_opened, lookup, nat_eq, places_in, pointwise, same_id, subst, sym, ◌++◌, ◌∙◌, ◌∷◌}
 use Rattle.std.specs.List.{IsDistinct}
-use Rattle.std.specs.Map.{keys_of, lookup}
-use Rattle.std.specs.Cmp.Lexicographic.{pointwise}
-use Rattle.indexmap.proofs.CallerLemmas.{insert_entry-new}
-use Rattle.amqp_txn_types.specs.Ids.{same_id}
-use Rattle.amqp_arrivals.specs.Cells.{Log, is_opened}
-use Rattle.amqp_arrivals.specs.declared.opened.Opened.{Opened}
-use Rattle.amqp_arrivals.specs.Index.{homes_in, places_in}
 use Rattle.amqp_arrivals.proofs.Frames.{no_frames}
-use Rattle.amqp_arrivals.proofs.Kept.{homes-append, homes_opened, keys-homes, kept_opened, keys_inserted, not_found}
+use Rattle.amqp_arrivals.proofs.Kept.{homes-append, homes_opened, keys-homes, kept_opened, not_opened}
 use Rattle.amqp_arrivals.proofs.log.ArrivalLog.open_on.Goals as goal
 
 pub invariant_of-self : goal.invariant_of-self
 invariant_of-self c =
     let one : Opened = record { home = c.args.home; places = c.new.result } in
     let old = c.self.inside.index.entries in
-    let none = not_found old c.args.txn_id (ap (λ log. is_opened log c.args.txn_id) c.self.view_is ∙ c.requires) in
+    let none = not_opened old c.args.txn_id (ap (λ log. is_opened log c.args.txn_id) c.self.view_is ∙ c.requires) in
     record {
       places = λ t. kept_opened old c.insert.new.self.entries c.args.txn_id one none c.in-Ok.ensures.updates.0 c.new.ensures.items t ∙ c.self.invariant.places t;
       gone = c.self.invariant.gone;
     }
 
-pub returns-in-Ok-clause-ok : goal.returns-in-Ok-clause-ok
-returns-in-Ok-clause-ok c =
-    let one : Opened = record { home = c.args.home; places = c.new.result } in
-    let old = c.self.inside.index.entries in
-    let none = not_found old c.args.txn_id (ap (λ log. is_opened log c.args.txn_id) c.self.view_is ∙ c.requires) in
-    let keys = ap keys_of c.in-Ok.ensures.entries ∙ keys_inserted (pointwise nat_eq) old c.args.txn_id one none in
-    keys ∙ ap (λ (log : Log). log.opened ++ c.args.txn_id ∷ []) c.self.view_is
-
 pub returns-in-Ok-clause-fresh : goal.returns-in-Ok-clause-fresh
 returns-in-Ok-clause-fresh c =
-    let none = not_found c.self.inside.index.entries c.args.txn_id (ap (λ log. is_opened log c.args.txn_id) c.self.view_is ∙ c.requires) in
+    let none = not_opened c.self.inside.index.entries c.args.txn_id (ap (λ log. is_opened log c.args.txn_id) c.self.view_is ∙ c.requires) in
     no_frames 0 c.args.txn_id c.self.inside.cells.cells (sym (c.self.invariant.places c.args.txn_id) ∙ ap places_in none)
 
 pub returns-clause-fresh : goal.returns-clause-fresh
 returns-clause-fresh c =
-    let none = not_found c.self.inside.index.entries c.args.txn_id (ap (λ log. is_opened log c.args.txn_id) c.self.view_is ∙ c.requires) in
+    let none = not_opened c.self.inside.index.entries c.args.txn_id (ap (λ log. is_opened log c.args.txn_id) c.self.view_is ∙ c.requires) in
     no_frames 0 c.args.txn_id c.self.inside.cells.cells (sym (c.self.invariant.places c.args.txn_id) ∙ ap places_in none)
 
 pub returns-in-Ok-clause-homes : goal.returns-in-Ok-clause-homes
@@ -45,7 +29,7 @@ returns-in-Ok-clause-homes c =
     let id = c.args.txn_id in
     let old = c.self.inside.index.entries in
     let one : Opened = record { home = c.args.home; places = c.new.result } in
-    let none = not_found old id (ap (λ log. is_opened log id) c.self.view_is ∙ c.requires) in
+    let none = not_opened old id (ap (λ log. is_opened log id) c.self.view_is ∙ c.requires) in
     ap homes_in (c.in-Ok.ensures.entries ∙ insert_entry-new (pointwise nat_eq) c.self.inside.index id one none) ∙ homes-append old id one
     ∙ ap (λ (log : Log). log.homes ++ (id, c.args.home) ∷ []) c.self.view_is
 

@@ -1,6 +1,4 @@
-use Rattle.std.proofs.Common.{◌≡◌, ◌<◌, cond, arith, ap, sym, ◌∙◌}
-use Rattle.amqp_arrivals.specs.Cells.{closed_up, dead_count, frames_of, live_count}
-use Rattle.std.proofs.lemmas.Bool.{lt-ltb}
+use Rattle.amqp_arrivals.proofs.Words.{ap, arith, closed_up, cond, dead_count, frames_of, live_count, lt-ltb, sym, ◌<◌, ◌∙◌, ◌≡◌}
 use Rattle.amqp_arrivals.proofs.Closing.{live_alone}
 use Rattle.amqp_arrivals.proofs.Frames.{live_stay, live-closed}
 use Rattle.amqp_arrivals.proofs.log.ArrivalLog.settle.Goals as goal

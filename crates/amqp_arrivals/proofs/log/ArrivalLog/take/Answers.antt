@@ -1,8 +1,4 @@
-use Rattle.std.proofs.Common.{arith, ◌+◌, ◌^◌, ◌<◌, ap, sym, subst, zero-add, ◌∙◌, cond}
-use Rattle.std.specs.Prelude.{count_by, is_some}
-use Rattle.amqp_txn_types.specs.Ids.{same_id}
-use Rattle.amqp_arrivals.specs.Cells.{Log, is_dead_cell, places_from, work_at, work_in}
-use Rattle.amqp_arrivals.specs.Index.{without_place}
+use Rattle.amqp_arrivals.proofs.Words.{Log, ap, arith, cond, count_by, is_dead_cell, is_some, places_from, same_id, subst, sym, without_place, work_at, work_in, zero-add, ◌+◌, ◌<◌, ◌^◌, ◌∙◌}
 use Rattle.amqp_arrivals.proofs.Frames.{dead-fits}
 use Rattle.amqp_arrivals.proofs.Placed.{places-taken, dead-taken, work-below}
 use Rattle.amqp_arrivals.proofs.log.ArrivalLog.take.Goals as goal
@@ -24,7 +20,7 @@ invariant_of-self g c =
     let after = c.take-txn_id.ensures.cells in
     record {
       places = λ t.
-          c.drop_place.ensures.places t
+          c.drop_place.ensures.written.places t
           ∙ ap (λ ms. cond (same_id t id) (without_place i ms) ms) (c.self.invariant.places t)
           ∙ ap (λ n. cond (same_id t id) (without_place n (places_from 0 t cs)) (places_from 0 t cs)) (sym (zero-add i))
           ∙ sym (places-taken 0 i t id work cs at)
