@@ -174,6 +174,7 @@ impl LiveWork {
 
     /// Takes the dead cells out where they are more than the frames that are kept: one look for
     /// each of these. It takes no memory.
+    #[inline(always)]
     pub fn settle<L: Ledger>(&mut self, looks: &mut Looks<L>)
         ensures same { SameKept self.old self.new }
         ensures ids { live_ids self.new ≡ live_ids self.old }

@@ -337,6 +337,7 @@ impl ArrivalLog {
     }
 
     /// Closes the log up where more cells are dead than live. It takes no memory.
+    #[inline(always)]
     pub fn settle<L: Ledger>(&mut self, looks: &mut Looks<L>)
         ensures log { self.new ≡ settled self.old }
         ensures frames { (t : Id) → frames_of self.new t ≡ frames_of self.old t }
