@@ -5,7 +5,8 @@ ghost use Rattle.std.specs.Prelude.{◌≡◌, ◌<◌};
 
 use crate::values::{id, work};
 use amqp_arrivals::{LiveWork, Looks};
-use amqp_txn_types::{Frame, strip};
+use amqp_txn_types::strip;
+use std::alloc::Global;
 use std::marker::Brand;
 use std::process::Abort;
 use std::sync::ledger::{Blank, Ledger};
@@ -80,17 +81,20 @@ fn dropped_id_leaves_the_other(rt: HostRuntime) {
     drop(live);
 }
 
-fn takes<L: Ledger, R: Abort>(rt: &R, live: &mut LiveWork, list: Vec<Frame>, blank: Blank)
+fn takes<L: Ledger, R: Abort>(rt: &R, live: &mut LiveWork, alloc: Global, blank: Blank)
     requires name { blank.name ≡ L.name }
     requires parts { blank.parts ≡ L.parts }
     requires some { 0 < blank.parts }
 {
+    let txn_id = id(1);
     let mut looks = Looks::<L>::new(blank);
-    assert!(rt; list.len() + live.count(&id(1)) <= list.capacity());
-    let taken = live.take_all(&id(1), list, &mut looks);
+    let Ok(list) = Vec::with_capacity(alloc, live.count(&txn_id)) else {
+        panic!(rt; "no memory");
+    };
+    let taken = live.take_all(&txn_id, list, &mut looks);
     let wanted = [strip(work(1)), strip(work(3))];
     assert!(rt; taken.as_slice() == wanted.as_slice());
-    assert!(rt; !live.is_live(&id(1)));
+    assert!(rt; !live.is_live(&txn_id));
     assert_eq!(rt; live.count(&id(2)), 1);
 }
 
@@ -98,8 +102,7 @@ fn takes<L: Ledger, R: Abort>(rt: &R, live: &mut LiveWork, list: Vec<Frame>, bla
 fn taken_work_is_in_order_and_stripped(rt: HostRuntime) {
     let mut live = LiveWork::new(rt.alloc());
     two_ids(&rt, &mut live);
-    let list = Vec::with_capacity(rt.alloc(), 2).expect(&rt, "an Ok");
-    takes::<Brand, HostRuntime>(&rt, &mut live, list, Blank::new(1));
+    takes::<Brand, HostRuntime>(&rt, &mut live, rt.alloc(), Blank::new(1));
     drop(live);
 }
 
