@@ -98,7 +98,7 @@ pub record RunsInput {S : Type 0} (input left : SourceTold) (output written : Si
     : Type 0 where
   pub reading : Reading
   pub read : Finds input left reading ⊎ ((ran.status ≡ 6) × IsNone ran.driven)
-  pub over : RunsReading output written told below ids reading ran
+  pub run : RunsReading output written told below ids reading ran
 
 -- a call for a command, none for words outside the table: over a recorder, of which `told` says
 -- what it tells, with what the source tells before and after, and the sink
