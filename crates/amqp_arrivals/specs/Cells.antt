@@ -11,8 +11,8 @@ use Rattle.amqp_txn_types.specs.Works.{frame_of_work}
 use Rattle.amqp_arrivals.specs.declared.cell.Cell.{Cell}
 use Rattle.amqp_arrivals.specs.declared.cell.Cell.TheVariants as cells
 
--- the log: its cells, in the order in which they came, the opened ids, each with the link that it was
--- declared on, if it was on one, and how many more can be opened without taking memory
+-- the log: its cells, in the order in which they came, the opened ids, each with the link that it
+-- was declared on, if it was on one, and how many more can be opened without taking memory
 pub record Log : Type 0 where
   pub cells : List Cell
   pub homes : List (TransactionId × Option ℕ)

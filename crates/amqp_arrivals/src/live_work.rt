@@ -143,8 +143,8 @@ impl LiveWork {
     }
 
     /// Ends an id and takes all that is kept for it out, in order, each without its transactional
-    /// state, into a list that has room for it. Where the id isn't live nothing changes. It takes no
-    /// memory.
+    /// state, into a list that has room for it. Where the id isn't live nothing changes. It takes
+    /// no memory.
     ///
     /// # Requires
     ///

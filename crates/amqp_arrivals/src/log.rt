@@ -173,8 +173,8 @@ impl ArrivalLog {
         self.open_on(txn_id, None)
     }
 
-    /// Opens an id that was declared on a link, if it was on one; there may be room for it. For want
-    /// of memory, the only error, nothing changes.
+    /// Opens an id that was declared on a link, if it was on one; there may be room for it. For
+    /// want of memory, the only error, nothing changes.
     ///
     /// # Requires
     ///
@@ -286,8 +286,8 @@ impl ArrivalLog {
     }
 
     /// Ends an id and takes all its work out, in order, each without its transactional state, into
-    /// a list that has room for it: one look for each. Where the id isn't opened nothing changes. It
-    /// takes no memory.
+    /// a list that has room for it: one look for each. Where the id isn't opened nothing changes.
+    /// It takes no memory.
     ///
     /// # Requires
     ///

@@ -1,5 +1,5 @@
-//! What a session keeps as one value: that its calls succeed where there is memory, and its clauses,
-//! seen on small values.
+//! What a session keeps as one value: that its calls succeed where there is memory, and its
+//! clauses, seen on small values.
 
 ghost use Rattle.std.specs.Prelude.{◌≡◌, ◌<◌};
 

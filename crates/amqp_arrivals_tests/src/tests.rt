@@ -1,5 +1,5 @@
-//! What no clause says: that the calls succeed where there is memory; and the clauses, seen on small
-//! logs.
+//! What no clause says: that the calls succeed where there is memory; and the clauses, seen on
+//! small logs.
 
 ghost use Rattle.std.specs.Prelude.{◌≡◌, ◌<◌};
 
