@@ -129,22 +129,20 @@ fn known<S: Session>(alloc: Global, session: &S) -> NameState {
 }
 
 /// Whether a link of this side is allocated and freed, and then one that the peer attached.
-fn allocates<S: Session>(alloc: Global, session: &mut S) -> bool {
-    let first = allocate(alloc, session) == Some(OutputHandle(0));
-    let waits = known(alloc, session) == NameState::Waiting;
+fn allocates<S: Session + Drop>(alloc: Global, mut session: S) -> bool {
+    let first = allocate(alloc, &mut session) == Some(OutputHandle(0));
+    let waits = known(alloc, &session) == NameState::Waiting;
     let freed = session.deallocate_link(OutputHandle(0));
-    let second = allocate_incoming(alloc, session) == Some(OutputHandle(0));
-    let taken = known(alloc, session) == NameState::Taken;
+    let second = allocate_incoming(alloc, &mut session) == Some(OutputHandle(0));
+    let taken = known(alloc, &session) == NameState::Taken;
+    drop(session);
     first && waits && freed && second && taken
 }
 
 #[test]
 fn links_are_allocated_and_freed(rt: HostRuntime) {
     let alloc = rt.alloc();
-    let mut session = at_once(alloc, SessionState::Mapped);
-    let found = allocates(alloc, &mut session);
-    drop(session);
-    assert!(rt; found);
+    assert!(rt; allocates(alloc, at_once(alloc, SessionState::Mapped)));
 }
 
 #[test]
@@ -202,20 +200,18 @@ fn continues<S: Session>(session: &mut S) -> bool {
 }
 
 /// Whether the session sends all frames of the link.
-fn sends<S: Session>(alloc: Global, session: &mut S) -> bool {
-    let passed = passes(alloc, session);
-    let granted = grants(session);
-    let continued = continues(session);
+fn sends<S: Session + Drop>(alloc: Global, mut session: S) -> bool {
+    let passed = passes(alloc, &mut session);
+    let granted = grants(&mut session);
+    let continued = continues(&mut session);
+    drop(session);
     passed && granted && continued
 }
 
 #[test]
 fn frames_of_a_link_are_sent(rt: HostRuntime) {
     let alloc = rt.alloc();
-    let mut session = at_once(alloc, SessionState::Mapped);
-    let sent = sends(alloc, &mut session);
-    drop(session);
-    assert!(rt; sent);
+    assert!(rt; sends(alloc, at_once(alloc, SessionState::Mapped)));
 }
 
 /// Whether the session keeps why it and its connection stopped.
@@ -235,33 +231,30 @@ fn ends<S: Session>(session: &mut S) -> bool {
 }
 
 /// Whether the session keeps its reasons, and then ends.
-fn stops<S: Session>(session: &mut S) -> bool {
-    let kept = keeps_reasons(session);
-    let ended = ends(session);
+fn stops<S: Session + Drop>(mut session: S) -> bool {
+    let kept = keeps_reasons(&mut session);
+    let ended = ends(&mut session);
+    drop(session);
     kept && ended
 }
 
 #[test]
 fn a_session_ends(rt: HostRuntime) {
-    let mut session = at_once(rt.alloc(), SessionState::Mapped);
-    let stopped = stops(&mut session);
-    drop(session);
-    assert!(rt; stopped);
+    assert!(rt; stops(at_once(rt.alloc(), SessionState::Mapped)));
 }
 
 /// Whether the session begins, and takes the peer's begin.
-fn begins<S: Session>(session: &mut S) -> bool {
+fn begins<S: Session + Drop>(mut session: S) -> bool {
     let sent = is_done(session.send_begin());
     let taken = is_done(session.on_incoming_begin(IncomingChannel(3), begin(7)));
-    sent && taken && session.local_state() == SessionState::Mapped
+    let state = session.local_state();
+    drop(session);
+    sent && taken && state == SessionState::Mapped
 }
 
 #[test]
 fn a_session_begins(rt: HostRuntime) {
-    let mut session = at_once(rt.alloc(), SessionState::Unmapped);
-    let begun = begins(&mut session);
-    drop(session);
-    assert!(rt; begun);
+    assert!(rt; begins(at_once(rt.alloc(), SessionState::Unmapped)));
 }
 
 #[test]

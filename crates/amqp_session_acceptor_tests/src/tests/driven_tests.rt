@@ -62,55 +62,27 @@ fn refuses<T: Drop, E: PartialEq + Drop>(answer: Result<T, E>, wanted: E) -> boo
     }
 }
 
-/// How many frames are to be sent for a frame; 100 where it was refused.
-fn given_for(engine: &mut Engine, frame: Frame) -> usize {
-    match taken(engine, frame) {
-        Ok(turn) => {
-            let count = turn.sent.given.len();
-            drop(turn);
-            count
-        }
-        Err(error) => {
-            drop(error);
-            100
-        }
-    }
+/// How many frames are to be sent for a frame; None where it was refused.
+fn given_for(engine: &mut Engine, frame: Frame) -> Option<usize> {
+    let turn = taken(engine, frame).ok()?;
+    let count = turn.sent.given.len();
+    drop(turn);
+    Some(count)
 }
 
-/// How many frames a commit handed; 100 where it was refused.
-fn committed(engine: &mut Engine, txn_id: TransactionId) -> usize {
-    match asked(engine, SessionControl::CommitTransaction { txn_id }) {
-        Ok(turn) => {
-            let count = match &turn.reply {
-                ControlReply::Committed(Ok(echoes)) => echoes.len(),
-                _ => 100,
-            };
-            drop(turn);
-            count
-        }
-        Err(error) => {
-            drop(error);
-            100
-        }
-    }
-}
-
-/// Whether a commit was vetoed, and rolled back.
-fn is_vetoed(engine: &mut Engine, txn_id: TransactionId) -> bool {
-    match asked(engine, SessionControl::CommitTransaction { txn_id }) {
-        Ok(turn) => {
-            let vetoed = matches!(
-                &turn.reply,
-                ControlReply::Committed(Err(TransactionError::Rollback))
-            );
-            drop(turn);
-            vetoed
-        }
-        Err(error) => {
-            drop(error);
-            false
-        }
-    }
+/// How many frames a commit handed, or how it ended otherwise; None where it was refused.
+fn committed(
+    engine: &mut Engine,
+    txn_id: TransactionId,
+) -> Option<Result<usize, TransactionError>> {
+    let turn = asked(engine, SessionControl::CommitTransaction { txn_id }).ok()?;
+    let found = match &turn.reply {
+        ControlReply::Committed(Ok(echoes)) => Some(Ok(echoes.len())),
+        ControlReply::Committed(Err(error)) => Some(Err(*error)),
+        _ => None,
+    };
+    drop(turn);
+    found
 }
 
 /// A session with a receiver of its own on the handle of the posts, and a live id.
@@ -132,11 +104,11 @@ fn a_post_on_a_handle_without_a_link_is_vetoed(rt: HostRuntime) {
     drop(asked(&mut engine, SessionControl::AllocateTransactionId));
     let id = numbered_id(1);
     let given = given_for(&mut engine, transfer(under(id)));
-    let vetoed = is_vetoed(&mut engine, id);
+    let vetoed = committed(&mut engine, id);
     let still_live = engine.session().is_live(&id);
     drop(engine);
-    assert_eq!(rt; given, 1);
-    assert!(rt; vetoed);
+    assert!(rt; given == Some(1));
+    assert!(rt; vetoed == Some(Err(TransactionError::Rollback)));
     assert!(rt; !still_live);
 }
 
@@ -150,8 +122,8 @@ fn a_post_is_kept_and_committed(rt: HostRuntime) {
     let still_live = engine.session().is_live(&id);
     drop(engine);
     assert!(rt; live);
-    assert_eq!(rt; given, 1);
-    assert_eq!(rt; handed, 1);
+    assert!(rt; given == Some(1));
+    assert!(rt; handed == Some(Ok(1)));
     assert!(rt; !still_live);
 }
 
@@ -165,7 +137,7 @@ fn a_plain_frame_is_handed(rt: HostRuntime) {
     drop(outcome);
     let waits = session.next_attach();
     drop(session);
-    assert_eq!(rt; given, 0);
+    assert!(rt; given == Some(0));
     assert!(rt; waits.is_some());
 }
 
@@ -191,6 +163,6 @@ fn a_control_link_is_opened(rt: HostRuntime) {
     );
     let opened = engine.session().links_opened();
     drop(engine);
-    assert_eq!(rt; given, 2);
+    assert!(rt; given == Some(2));
     assert_eq!(rt; opened, 1);
 }
