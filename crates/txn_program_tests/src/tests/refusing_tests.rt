@@ -148,7 +148,9 @@ fn each_frame_of_two_commits_may_be_vetoed(rt: HostRuntime) -> Result<(), Fail> 
     let one = "rejected rollback\nstop done\nhanded 0\ntaken transfer 1 2 true - 51\n";
     let both = "rejected rollback\nrejected rollback\nstop done\nhanded 0\n";
     assert_planned(&rt, ("--refuse", "1"), 6, (0, both))?;
+    assert_planned(&rt, ("--refuse", "2"), 7, (0, one))?;
     assert_planned(&rt, ("--refuse", "2,2"), 7, (0, one))?;
+    assert_planned(&rt, ("--refuse", "3"), 7, (0, one))?;
     assert_planned(&rt, ("--refuse", "18446744073709551615,3"), 7, (0, one))
 }
 
@@ -159,7 +161,9 @@ fn each_frame_of_two_commits_may_want_memory(rt: HostRuntime) -> Result<(), Fail
     let third = "stop below-no-memory\nhanded 1\ntaken transfer 1 2 true - 51\n\
                  taken transfer 1 1 true - 50\n";
     assert_planned(&rt, ("--starve", "1"), 6, (8, first))?;
+    assert_planned(&rt, ("--starve", "2"), 7, (8, second))?;
     assert_planned(&rt, ("--starve", "2,2"), 7, (8, second))?;
+    assert_planned(&rt, ("--starve", "3"), 7, (8, third))?;
     assert_planned(&rt, ("--starve", "18446744073709551615,3"), 7, (8, third))
 }
 
