@@ -13,7 +13,7 @@ use indexmap::IndexMap;
 use std::alloc::Global;
 use std::collections::VecDeque;
 
-/// The opened ids.
+/// The opened ids, each with its link and the places of its live cells.
 pub type Index = IndexMap<TransactionId, Opened>;
 
 /// The link of an opened id, if it was declared on one; `None` where it isn't opened.

@@ -209,9 +209,7 @@ impl ArrivalLog {
     pub fn end(&mut self, txn_id: &TransactionId)
         requires { frames_of self.old txn_id.now ≡ [] }
         ensures cells { self.new.cells ≡ self.old.cells }
-        ensures opened { (t : Id) → is_opened self.new t ≡ cond (same_id txn_id.now t) false
-            (is_opened self.old t) }
-        ensures room { self.old.room ≤ self.new.room }
+        ensures ended { EndsId txn_id.now self.old self.new }
     {
         let _places = take_id(&mut self.index, txn_id, self.alloc);
     }
