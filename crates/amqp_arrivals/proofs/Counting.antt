@@ -88,10 +88,7 @@ live-arrived log id w = sum_by-append (λ c. cond (is_live_cell c) 1 0) log.cell
 -- ---- what a change makes of the value
 
 -- the value of a log
-abbrev pub live_of : Log → Live
-live_of log = record { homes = log.homes; log = log; room = log.room }
-
-pub keeps : (old : Log) (id : TransactionId) (w : TxnWorkFrame) (result : Result Bool NoMemory) → Agrees old.homes old → IfOk result (λ opened. opened ≡ is_opened old id) → Keeps (live_of old) (live_of (arrived result old id w)) id (frame_of_work w) result
+pub keeps : (old : Log) (id : TransactionId) (w : TxnWorkFrame) (result : Result Bool NoMemory) → Agrees old.homes old → IfOk result (λ opened. opened ≡ is_opened old id) → Keeps old (arrived result old id w) id (frame_of_work w) result
 keeps old id w (Ok true) agrees opened =
     let live = sym (opened ∙ sym (is_some-lookup (same_id id) old.homes)) in (
       sym (is_kept (frames_of old id) (lookup (same_id id) old.homes)) ∙ live,
@@ -107,7 +104,7 @@ agrees_arrived old id w (Ok true) agrees opened = agrees_more old.homes old id w
 agrees_arrived old id w (Ok false) agrees opened = agrees
 agrees_arrived old id w (Err error) agrees opened = agrees
 
-pub lets_go : (id : TransactionId) (old new : Log) (looks now : ℕ) → Agrees old.homes old → EndsId id old new → now ≡ looks + length (frames_of old id) → LetsGo (live_of old) (live_of new) id looks now
+pub lets_go : (id : TransactionId) (old new : Log) (looks now : ℕ) → Agrees old.homes old → EndsId id old new → now ≡ looks + length (frames_of old id) → LetsGo old new id looks now
 lets_go id old new looks now agrees ends looked =
     let frames = ap length (frames_are old.homes old agrees id) in
     let after = live_kept new.homes new (agrees_ended id old new agrees ends) in
@@ -117,10 +114,10 @@ lets_go id old new looks now agrees ends looked =
     record {
       kept = kept_ended id old new ends;
       ids =
-          ap (λ n. n + (if is_some (kept (live_of old) id) then 1 else 0)) (length-keys new.homes)
+          ap (λ n. n + (if is_some (kept old id) then 1 else 0)) (length-keys new.homes)
           ∙ ap (λ b. length new.homes + (if b then 1 else 0)) (sym opened) ∙ ends.len ∙ sym (length-keys old.homes);
       looked = looked ∙ ap (λ n. looks + n) frames;
       dead = ap (λ cs. count_by is_dead_cell cs) ends.cells ∙ dead_emptied id old.cells ∙ ap (λ n. dead_count old + n) frames;
       frames = omega (arith, frames, after, before, live, live_emptied id old.cells);
-      room = record { homes = ends.room; log = ends.room };
+      room = ends.room;
     }

@@ -13,12 +13,9 @@ use Rattle.amqp_arrivals.specs.Cells.{Log, dead_count, frames_of}
 abbrev pub Homes : Type 0
 Homes = List (TransactionId × Option ℕ)
 
--- the live ids, the log of their work, and how many more ids can be added without taking memory,
--- as far as the homes go
-pub record Live : Type 0 where
-  pub homes : Homes
-  pub log : Log
-  pub room : ℕ
+-- the live ids with their work: a log, whose opened ids they are
+abbrev pub Live : Type 0
+Live = Log
 
 -- ---- one id
 
@@ -28,7 +25,7 @@ Kept = Option ℕ × List Frame
 
 -- what is kept for an id: nothing for one that isn't live
 abbrev pub kept : Live → TransactionId → Option Kept
-kept live t = option_map (λ home. (home, frames_of live.log t)) (lookup (same_id t) live.homes)
+kept live t = option_map (λ home. (home, frames_of live t)) (lookup (same_id t) live.homes)
 
 -- the link of what is kept
 abbrev pub home_of : Kept → Option ℕ
@@ -52,26 +49,23 @@ live_ids live = keys_of live.homes
 
 -- how many frames are kept for the live ids, all together
 abbrev pub frame_count : Live → ℕ
-frame_count live = sum_by (λ t. length (frames_of live.log t)) (live_ids live)
+frame_count live = sum_by (λ t. length (frames_of live t)) (live_ids live)
 
 -- how many dead cells are yet to be taken out of the log
 abbrev pub owed : Live → ℕ
-owed live = dead_count live.log
+owed live = dead_count live
 
 -- there is room for one more live id
-pub record HasPlace (live : Live) : Type 0 where
-  pub homes : 0 < live.room
-  pub log : 0 < live.log.room
+abbrev pub HasPlace : Live → Type 0
+HasPlace live = 0 < live.room
 
 -- at least as many more ids can be added without taking memory as before
-pub record KeepsPlaces (old new : Live) : Type 0 where
-  pub homes : old.room ≤ new.room
-  pub log : old.log.room ≤ new.log.room
+abbrev pub KeepsPlaces : Live → Live → Type 0
+KeepsPlaces old new = old.room ≤ new.room
 
 -- at most one fewer can be
-pub record UsesPlace (old new : Live) : Type 0 where
-  pub homes : old.room ≤ new.room + 1
-  pub log : old.log.room ≤ new.log.room + 1
+abbrev pub UsesPlace : Live → Live → Type 0
+UsesPlace old new = old.room ≤ new.room + 1
 
 -- what is kept is as it was
 pub record SameKept (old new : Live) : Type 0 where

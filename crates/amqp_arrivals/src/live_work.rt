@@ -27,11 +27,7 @@ impl Model for LiveWork {
 
     ghost Value = { Live };
 
-    ghost view = { λ work. record {
-      homes = work.log.homes;
-      log = work.log;
-      room = work.log.room;
-    } };
+    ghost view = { λ work. work.log };
 
     ghost invariant = { λ work. Agrees work.log.homes work.log };
 }

@@ -109,9 +109,9 @@ bare_in (cells.Dead ∷ cs) t = bare_in cs t
 pub kept-bare : (live : Live) (t : TransactionId) → list_all is_bare (map stripped (frames_kept (kept live t))) ≡ true
 kept-bare live t = by_case (lookup (same_id t) live.homes)
   where
-    by_case : (o : Option (Option ℕ)) → list_all is_bare (map stripped (frames_kept (option_map (λ home. (home, frames_of live.log t)) o))) ≡ true
+    by_case : (o : Option (Option ℕ)) → list_all is_bare (map stripped (frames_kept (option_map (λ home. (home, frames_of live t)) o))) ≡ true
     by_case None = refl
-    by_case (Some home) = bare_in live.log.cells t
+    by_case (Some home) = bare_in live.cells t
 
 -- ---- frames handed one after another
 

@@ -1,11 +1,15 @@
 -- What a step leaves, by whether it makes a call below.
 use Rattle.std.proofs.Common.{◌≡◌, ◌≤◌, ℕ, Bool, true, false, Option, Some, None, Result, Ok, Err, List, [], ◌∷◌, refl, sym, ◌∙◌, ap, arith, subst}
 use Rattle.std.specs.Prelude.{⊤, is_some, MatchBool, IfOk}
-use Rattle.amqp_resource.specs.Words.{Answers, CommitFault, Discharge, DrawnIds, Drew, Error, Frame, Held, NoMemory, Reply, Rose, SessionInnerError, Step, StepError, Told, TransactionId, Verdict, is_rollback, message_of}
+use Rattle.amqp_resource.specs.Words.{Answers, CommitFault, Discharge, DrawnIds, Drew, Error, Frame, Held, NoMemory, Reply, Rose, SessionInnerError, Step, StepError, Told, TransactionId, Verdict, is_plain_frame, is_rollback, message_of, txn}
 use Rattle.amqp_txn_types.specs.declared.small.TransactionError.TheVariants as transaction_errors
 use Rattle.amqp_txn_codec.specs.declared.message.ControlMessageBody.TheVariants as messages
 use Rattle.amqp_layer.specs.declared.verdict.Verdict.TheVariants as verdicts
+use Rattle.amqp_txn_types.specs.declared.performatives.Disposition.{Disposition}
+use Rattle.amqp_txn_types.specs.declared.performatives.Flow.{Flow}
+use Rattle.amqp_layer.specs.Taking.{ChecksAll}
 use Rattle.amqp_layer.specs.Told.{open_told}
+use Rattle.amqp_record.proofs.Whole.{plain_none}
 use Rattle.amqp_ids.proofs.Draws.{Drew-none}
 use Rattle.amqp_record.specs.declared.step.Step.TheVariants as steps
 use Rattle.amqp_record.specs.declared.reply.Reply.TheVariants as replies
@@ -16,7 +20,7 @@ use Rattle.amqp_resource.specs.Committing.{HandsSurely, OnNoEchoes}
 use Rattle.amqp_resource.specs.Transacting.{step_error_of}
 use Rattle.amqp_resource.specs.Keeping.{Fits, Keeps}
 use Rattle.amqp_resource.specs.Leaving.{LeavesHere, StepDraws, StepLeaves}
-use Rattle.amqp_resource.specs.Steps.{IfRefused, IfVeto, IsPost, OnNoCall, OnNoMemory, OnVeto, StepCause, StopsSurely, calls_nothing, has_error, is_unknown, local_end, nothing_drawn, remote_end, rolls_back_by, step_hands}
+use Rattle.amqp_resource.specs.Steps.{IfRefused, IfVeto, IsPost, OnNoCall, OnNoMemory, OnVeto, StepCause, StopsSurely, calls_nothing, has_error, is_unanswered, is_unknown, local_end, nothing_drawn, remote_end, rolls_back_by, step_hands}
 use Rattle.amqp_resource.specs.Views.{view_of_held}
 use Rattle.amqp_resource.proofs.Moved.{keeps_moved, same_moved}
 use Rattle.amqp_resource.proofs.Parts.{on_false}
@@ -34,10 +38,23 @@ no_call_holds s (Err (errors.Ended reason)) P x = x
 no_call_holds s (Err (errors.Stopped code)) P x = x
 no_call_holds s (Err errors.NoMemory) P x = x
 
--- an accepted commit may have called, but for one without an answer
+-- an accepted commit may have called, but for one without echoes
 pub commit_calls : (k : ℕ) (payload : List ℕ) (discharge : Discharge) (d : DrawnIds) (echoes : List Answers) (P : Type 0) → message_of payload ≡ Some (messages.Discharge discharge) → is_rollback discharge.fail ≡ false → OnNoEchoes (Ok (Ok echoes)) P → OnNoCall (steps.Control k payload) (Ok (d, replies.Accepted echoes)) P
 commit_calls k payload discharge d [] P m b idle = idle
 commit_calls k payload discharge d (echo ∷ echoes) P m b idle = subst (λ (c : Bool). MatchBool c P ⊤) (sym (ap rolls_back_by m ∙ b)) tt
+
+-- of a plain frame nothing is said
+pub plain_calls : (frame : Frame) (d : DrawnIds) (a : Answers) (P : Type 0) → is_plain_frame frame ≡ true → OnNoCall (steps.Frame frame) (Ok (d, replies.Frames a)) P
+plain_calls frame d a P plain = by_given a.given
+  where
+    by_given : (given : List Frame) → MatchBool (is_unanswered (steps.Frame frame) given) P ⊤
+    by_given [] = subst (λ (o : Option TransactionId). MatchBool (is_some o) P ⊤) (sym (plain_none frame plain)) tt
+    by_given (f ∷ given) = tt
+
+-- work that is kept calls the checks of its answer alone
+pub post_calls : {S : Type 0} (gives : S → S → Disposition → Result Unit SessionInnerError → Type 0) (old now : S) (frame : Frame) (d : DrawnIds) (given : List Frame) (window : Option Flow) → ChecksAll gives old given now → OnNoCall (steps.Frame frame) (Ok (d, replies.Frames (record { given = given; window = window }))) (now ≡ old)
+post_calls gives old now frame d [] window checks = on_either (now ≡ old) (is_some (txn frame)) checks
+post_calls gives old now frame d (f ∷ given) window checks = tt
 
 -- ---- vetoes
 

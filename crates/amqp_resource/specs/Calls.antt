@@ -42,8 +42,8 @@ abbrev pub counted_commit : Result (Result (List Answers) TransactionError) Comm
 counted_commit (Ok answer) count = counted answer count
 counted_commit (Err fault) count = one_more count
 
--- what a commit calls below beside the frames that it hands: a veto leaves what the review of its
--- frames left, and a commit without an answer, as one of no frames, calls nothing
+-- what a commit calls below that was vetoed, or has no frames: a veto leaves what the review of its
+-- frames left, and a commit without echoes, as one of no frames, calls nothing
 pub record CommitCalls {S : Type 0}
     (reviews : S → S → List Frame → Result Verdict NoMemory → Type 0) (below now : S)
     (frames : List Frame)

@@ -67,7 +67,7 @@ abbrev pub OnVetoed : Result (Result (List Answers) TransactionError) CommitFaul
 OnVetoed (Ok (Err transaction_errors.Rollback)) P = P
 OnVetoed _ P = ⊤
 
--- a commit that was accepted without an answer, as one of no frames, with a fact
+-- a commit that was accepted without echoes, as one of no frames, with a fact
 abbrev pub OnNoEchoes : Result (Result (List Answers) TransactionError) CommitFault → Type 0
     → Type 0
 OnNoEchoes (Ok (Ok [])) P = P

@@ -68,8 +68,7 @@ pub record StepSays {S G : Type 0} (told : S → Told) (sure : Bool)
   pub veto_rose : OnVeto result
       (Rose (told_of told old).reviews.vetoes (told_of told new).reviews.vetoes)
   pub counted : (told_of told old).reviews.vetoes ≤ (told_of told new).reviews.vetoes
-  -- A vetoed commit leaves below what the review of what the step hands left: no call comes after
-  -- it.
+  -- A vetoed commit leaves below what the review of its frames left: no other call is made.
   pub reviewed : OnVeto result
       (reviews (below_of old) (below_of new) (step_hands (view_of old) s) (Ok verdicts.Veto))
   -- An end is answered with its own value; a copy of its error may want memory.
@@ -77,8 +76,8 @@ pub record StepSays {S G : Type 0} (told : S → Told) (sure : Bool)
   pub ended_only : IfEnded result (λ reason. ended_by s ≡ Some reason)
   -- Want of memory leaves the session as it was.
   pub same : OnNoMemory result (SameSession old new)
-  -- An error that isn't a refusal below makes no call there. The count of refusals never
-  -- falls.
+  -- A reply that comes without a call below leaves that as it was, and so does an error that
+  -- isn't a refusal there. The count of refusals never falls.
   pub untouched : OnNoCall s result (below_of new ≡ below_of old)
   pub later : (told_of told old).refusals ≤ (told_of told new).refusals
   pub fixed : (told_of told new).fixed ≡ (told_of told old).fixed

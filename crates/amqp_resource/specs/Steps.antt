@@ -224,11 +224,17 @@ abbrev pub asks_rollback : Step → Bool
 asks_rollback (steps.Control k payload) = rolls_back_by (message_of payload)
 asks_rollback _ = false
 
+-- a frame under an id that is answered with no frame
+abbrev pub is_unanswered : Step → List Frame → Bool
+is_unanswered (steps.Frame frame) [] = is_some (txn frame)
+is_unanswered _ _ = false
+
 -- the replies that come without a call below: to the end of a link, to a message or an end on a
 -- link that isn't open, to a payload that closes its link, to a declare, to a message that is
--- rejected other than by a veto, to a rollback that is accepted, and to a commit that is accepted
--- without an answer, as one of no frames
+-- rejected other than by a veto, to a rollback that is accepted, to a commit that is accepted
+-- without echoes, as one of no frames, and to work that is kept and answered with no frame
 abbrev pub calls_nothing : Step → Reply → Bool
+calls_nothing s (replies.Frames answers) = is_unanswered s answers.given
 calls_nothing s replies.LinkEnded = true
 calls_nothing s replies.NoLink = true
 calls_nothing s (replies.LinkClosed error) = true

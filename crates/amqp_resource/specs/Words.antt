@@ -1,4 +1,5 @@
--- The words of the crates below that the definitions and proofs of this crate speak with.
+-- The words that the definitions and proofs of this crate speak with: those of the crates below,
+-- and what a session keeps.
 pub use Rattle.amqp_arrivals.specs.Live.{Live, frame_count, frames_kept, home_of, kept, owed, with_frame}
 pub use Rattle.amqp_ids.specs.Drawn.{DrawnIds}
 pub use Rattle.amqp_ids.specs.Ids.{AreNext, Drew}

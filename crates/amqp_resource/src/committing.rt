@@ -2,11 +2,6 @@
 
 ghost use Rattle.std.specs.Prelude.{◌≡◌, ◌≤◌, [], true, Ok, length, vec_capacity};
 ghost use Rattle.std.specs.List.{list_all};
-ghost use Rattle.std.specs.Option.{option_map};
-ghost use Rattle.amqp_txn_types.specs.declared.id.TransactionId.{TransactionId as Id};
-ghost use Rattle.amqp_txn_types.specs.Frames.{stripped};
-ghost use Rattle.amqp_txn_types.specs.Ids.{same_id};
-ghost use Rattle.amqp_arrivals.specs.Live.{frame_count, frames_kept, home_of, kept, owed};
 ghost use Rattle.amqp_layer.specs.Reviewing.{is_bare};
 ghost use Rattle.amqp_layer.specs.declared.verdict.Verdict.TheVariants as verdicts;
 ghost use Rattle.amqp_resource.specs.Committing.{HandsAll, HandsSurely, OnVetoed};
@@ -14,7 +9,7 @@ ghost use Rattle.amqp_resource.specs.Committing.{HandsAll, HandsSurely, OnVetoed
 use crate::outcomes::refused_after;
 use amqp_layer::{Answers, Echoes, LayerBelow, SessionInnerError, Verdict, take_frame};
 use amqp_sessions::CommitFault;
-use amqp_txn_types::{Frame, Frames, TransactionError};
+use amqp_txn_types::{Frames, TransactionError};
 
 /// Hands frames that the layer below accepted, in order, to the first for which it wants memory.
 /// Room for their answers is there.

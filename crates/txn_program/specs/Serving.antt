@@ -48,7 +48,7 @@ pub record Runs {S : Type 0} (output written : SinkTold) (told : Recorder S → 
   pub text : Wrote output.written written.written ran.status (text_by (told ran.below) ran.driven)
   pub entries : ran.entries ≡ None
 
--- a run over this recorder by the plans that it has, which it leaves, and its state
+-- a run over this recorder by its own plans; these and its state stay
 pub record RunsAsPlanned {S : Type 0} (output written : SinkTold) (told : Recorder S → Told)
     (below : Recorder S) (status_by : Option Driven → ℕ)
     (Of : ((ℕ → TransactionId) → List Step → Type 0) → Type 0)

@@ -1,8 +1,8 @@
-use Rattle.std.proofs.Common.{ap, subst, ◌∙◌, zero-add, Ok, Err}
+use Rattle.std.proofs.Common.{ap, subst, ◌∙◌, ◌≡◌, zero-add, Ok, Err}
 use Rattle.amqp_resource.specs.Words.{Frame, TakesFrame}
 use Rattle.amqp_resource.specs.Steps.{fault_of}
 use Rattle.amqp_resource.proofs.Keeping.{here-plain_wanting, keeps-plain, keeps-plain_refused, when_known}
-use Rattle.amqp_resource.proofs.Leaving.{leaves-frame, leaves-here}
+use Rattle.amqp_resource.proofs.Leaving.{leaves-frame, leaves-here, plain_calls}
 use Rattle.amqp_resource.proofs.frame_steps.plain_step.Goals as goal
 
 pub returns-in_default-clause-leaves : goal.returns-in_default-clause-leaves
@@ -14,7 +14,7 @@ returns-in-Ok-take_frame-clause-leaves g c =
     let new = g.S.Tells.told c.take_frame.new.below in
     let takes : TakesFrame old new c.args.frame.now (Ok c.in-Ok-take_frame.answers) = subst (λ (f : Frame). TakesFrame old new f (Ok c.in-Ok-take_frame.answers)) c.in-Ok.ensures.copy c.in-Ok-take_frame.ensures.told in
     leaves-frame _ _ _ _ _ c.args.below.now c.take_frame.new.below c.args.frame.now _ (λ f. keeps-plain c.args.held.now old new c.args.frame.now _ c.in-Ok-take_frame.answers c.no_draws.ensures c.requires takes f)
-    (tt, tt) tt tt tt takes.fixed takes.later takes.reviews
+    (tt, tt) tt (plain_calls c.args.frame.now c.no_draws.result c.in-Ok-take_frame.answers (c.take_frame.new.below ≡ c.args.below.now) c.requires) tt takes.fixed takes.later takes.reviews
 
 pub returns-in-Err-clause-leaves : goal.returns-in-Err-clause-leaves
 returns-in-Err-clause-leaves g c =

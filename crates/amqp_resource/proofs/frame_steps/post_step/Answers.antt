@@ -1,9 +1,10 @@
-use Rattle.std.proofs.Common.{ap, sym, subst, ◌∙◌, ◌≤◌, refl, List, Result, Ok, Err, length}
+use Rattle.std.proofs.Common.{ap, sym, subst, ◌∙◌, ◌≤◌, refl, List, Result, Ok, Err, length, None}
+use Rattle.amqp_layer.specs.Taking.{ChecksAll}
 use Rattle.amqp_resource.specs.Words.{Frame, NoMemory, answered_under, kept}
 use Rattle.amqp_resource.specs.Posting.{Posted}
 use Rattle.amqp_resource.proofs.Fitting.{fits-posted}
 use Rattle.amqp_resource.proofs.Keeping.{here-dead, here-post_wanting, keeps-post, keeps-post_refused, when_known}
-use Rattle.amqp_resource.proofs.Leaving.{leaves-frame, leaves-here}
+use Rattle.amqp_resource.proofs.Leaving.{leaves-frame, leaves-here, post_calls}
 use Rattle.amqp_resource.proofs.frame_steps.post_step.Goals as goal
 
 pub returns-in_default-clause-leaves : goal.returns-in_default-clause-leaves
@@ -26,7 +27,10 @@ returns-in-Ok-check_given-clause-leaves g c =
     let posted : P (Ok c.in-Ok.given) = subst P c.in-Ok.is c.in-Some.ensures.posted in
     let steady = c.in-Ok-check_given.ensures.told.steady in
     leaves-frame _ _ _ _ _ c.args.below.now c.check_given.new.below c.args.frame.now _ (λ f. rw posted.0 (keeps-post c.args.held.now _ (g.S.Tells.told c.args.below.now) (g.S.Tells.told c.check_given.new.below) c.args.frame.now c.args.id _ c.no_draws.ensures c.requires
-    (sym c.in-Some.ensures.live) posted.1 (λ k. refl) refl steady f)) (tt, tt) tt tt tt steady.fixed steady.later steady.reviews
+    (sym c.in-Some.ensures.live) posted.1 (λ k. refl) refl steady f)) (tt, tt) tt
+    (post_calls g.S.LayerBelow.check_gives c.args.below.now c.check_given.new.below c.args.frame.now c.no_draws.result c.in-Ok.given None
+    (subst (λ (fs : List Frame). ChecksAll g.S.LayerBelow.check_gives c.args.below.now fs c.check_given.new.below) c.as_slice.ensures c.in-Ok-check_given.ensures.checks))
+    tt steady.fixed steady.later steady.reviews
 
 pub returns-in-Err-clause-leaves : goal.returns-in-Err-clause-leaves
 returns-in-Err-clause-leaves g c =

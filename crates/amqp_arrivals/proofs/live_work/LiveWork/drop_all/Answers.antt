@@ -1,5 +1,5 @@
 use Rattle.amqp_arrivals.proofs.Words.{LetsGo, Live, subst}
-use Rattle.amqp_arrivals.proofs.Counting.{lets_go, live_of}
+use Rattle.amqp_arrivals.proofs.Counting.{lets_go}
 use Rattle.amqp_arrivals.proofs.Live.{agrees_ended}
 use Rattle.amqp_arrivals.proofs.live_work.LiveWork.drop_all.Goals as goal
 
@@ -8,5 +8,5 @@ invariant_of-self g c = agrees_ended c.args.txn_id.now c.self.inside.log c.drop_
 
 pub returns : goal.returns
 returns g c =
-    subst (λ (live : Live). LetsGo live (live_of c.drop_all.new.self) c.args.txn_id.now c.args.looks.now c.drop_all.new.looks) c.self.view_is
+    subst (λ (live : Live). LetsGo live c.drop_all.new.self c.args.txn_id.now c.args.looks.now c.drop_all.new.looks) c.self.view_is
     (lets_go c.args.txn_id.now c.self.inside.log c.drop_all.new.self c.args.looks.now c.drop_all.new.looks c.self.invariant c.drop_all.ensures.ended c.drop_all.ensures.looks)

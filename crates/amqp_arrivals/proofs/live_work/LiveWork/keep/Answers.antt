@@ -1,5 +1,5 @@
 use Rattle.amqp_arrivals.proofs.Words.{Agrees, Keeps, Live, Log, frame_of_work, subst, sym}
-use Rattle.amqp_arrivals.proofs.Counting.{agrees_arrived, keeps, live_of}
+use Rattle.amqp_arrivals.proofs.Counting.{agrees_arrived, keeps}
 use Rattle.amqp_arrivals.proofs.live_work.LiveWork.keep.Goals as goal
 
 pub invariant_of-self : goal.invariant_of-self
@@ -10,6 +10,6 @@ pub returns-clause-kept : goal.returns-clause-kept
 returns-clause-kept c =
     let id = c.args.txn_id.now in
     let frame = frame_of_work c.args.work in
-    subst (λ (live : Live). Keeps live (live_of c.keep.new.self) id frame c.keep.result) c.self.view_is
-    (subst (λ (log : Log). Keeps (live_of c.self.inside.log) (live_of log) id frame c.keep.result) (sym c.keep.ensures.log)
+    subst (λ (live : Live). Keeps live c.keep.new.self id frame c.keep.result) c.self.view_is
+    (subst (λ (log : Log). Keeps c.self.inside.log log id frame c.keep.result) (sym c.keep.ensures.log)
     (keeps c.self.inside.log id c.args.work c.keep.result c.self.invariant c.keep.ensures.opened))

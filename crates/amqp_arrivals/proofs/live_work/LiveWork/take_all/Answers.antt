@@ -1,5 +1,5 @@
 use Rattle.amqp_arrivals.proofs.Words.{LetsGo, Live, ap, frames_kept, kept, length, map, stripped, subst, sym, vec_capacity, ◌++◌, ◌+◌, ◌∙◌, ◌≤◌}
-use Rattle.amqp_arrivals.proofs.Counting.{lets_go, live_of}
+use Rattle.amqp_arrivals.proofs.Counting.{lets_go}
 use Rattle.amqp_arrivals.proofs.Live.{agrees_ended, frames_are}
 use Rattle.amqp_arrivals.proofs.live_work.LiveWork.take_all.Goals as goal
 
@@ -8,7 +8,7 @@ invariant_of-self g c = agrees_ended c.args.txn_id.now c.self.inside.log c.take_
 
 pub returns-clause-gone : goal.returns-clause-gone
 returns-clause-gone g c =
-    subst (λ (live : Live). LetsGo live (live_of c.take_all.new.self) c.args.txn_id.now c.args.looks.now c.take_all.new.looks) c.self.view_is
+    subst (λ (live : Live). LetsGo live c.take_all.new.self c.args.txn_id.now c.args.looks.now c.take_all.new.looks) c.self.view_is
     (lets_go c.args.txn_id.now c.self.inside.log c.take_all.new.self c.args.looks.now c.take_all.new.looks c.self.invariant c.take_all.ensures.ended c.take_all.ensures.looks)
 
 pub take_all-requires : goal.take_all-requires
