@@ -1,6 +1,6 @@
 //! Links and sessions that a peer begins, under one name.
 //!
-//! | from `amqp_acceptors` | |
+//! | from `amqp_accept_links` | |
 //! |---|---|
 //! | [`LinkAcceptor`], [`ControlLinkAcceptor`], [`Builder`] | what answers a peer's attach |
 //! | [`LocalSenderLinkAcceptor`] | what an acceptor gives its local senders |
@@ -10,12 +10,12 @@
 //! | [`LinkEndpoint`], [`AcceptorAttachError`] | a link that was accepted, and why one is not |
 //! | [`SessionHandle`] | the session that is lent for it |
 //!
-//! | from `amqp_listener`, `amqp_accepting` | |
+//! | from `amqp_accept_listener`, `amqp_accept_at_once` | |
 //! |---|---|
 //! | [`ListenerSession`] | a session whose peer's attaches wait to be accepted |
 //! | [`AcceptingListener`] | a listener that accepts each link as it comes |
 //!
-//! | from `amqp_endpoints` | |
+//! | from `amqp_below_connections` | |
 //! |---|---|
 //! | [`ListenerSessionEndpoint`], [`ConnectionEnd`] | the ends that acceptors work on |
 //! | [`MemoryConnection`] | a connection in memory |
@@ -34,16 +34,16 @@
 //! This crate has nothing of its own: it passes these on, and their definitions too.
 #![tactic(auto)]
 
-pub use amqp_accepting::AcceptingListener;
-pub use amqp_acceptors::{
+pub use amqp_accept_at_once::AcceptingListener;
+pub use amqp_accept_links::{
     Acceptor, AcceptorAttachError, Ask, Builder, ControlLinkAcceptor, CreditMode, LinkAcceptor,
     LinkEndpoint, ListenerSessionHandle, LocalEnds, LocalReceiverLinkAcceptor,
     LocalSenderLinkAcceptor, OnDynamic, OpenError, Opening, RejectDynamic, Reply, SessionHandle,
     SharedLinkAcceptorFields, SupportedReceiverSettleModes, SupportedSenderSettleModes, TargetKind,
     Terminus,
 };
-pub use amqp_endpoints::{
-    AllocSessionError, ConnectionEnd, IncomingSession, ListenerSessionEndpoint, MemoryConnection,
-    ReceiverAttachError, SenderAttachError,
+pub use amqp_accept_listener::ListenerSession;
+pub use amqp_below_connections::{
+    AllocSessionError, ConnectionEnd, IncomingSession, MemoryConnection,
 };
-pub use amqp_listener::ListenerSession;
+pub use amqp_below_sessions::{ListenerSessionEndpoint, ReceiverAttachError, SenderAttachError};

@@ -12,26 +12,27 @@
 //! | [`ByteSource`], [`SureSource`], [`MemorySource`] | where octets come from |
 //! | [`ByteSink`], [`SureSink`], [`MemorySink`] | where octets go |
 //!
-//! They are from `amqp_layer`, `amqp_sessions`, `amqp_endpoints`, `amqp_recorder`, `amqp_ids` and
-//! `amqp_streams`.
+//! They are from `amqp_below_layer`, `amqp_below_sessions`, `amqp_below_connections`, `amqp_below_recorder`, `amqp_below_ids` and
+//! `amqp_below_streams`.
 //!
 //! This crate has nothing of its own: it passes these on, and their definitions too.
 #![tactic(auto)]
 
-pub use amqp_endpoints::{
-    AllocSessionError, ConnectionEnd, IncomingSession, ListenerSessionEndpoint, MemoryConnection,
-    Progress, ReceiverAttachError, SenderAttachError,
+pub use amqp_below_connections::{
+    AllocSessionError, ConnectionEnd, IncomingSession, MemoryConnection,
 };
-pub use amqp_ids::{CountIds, Drawn, IdSource, ListIds, numbered_id};
-pub use amqp_layer::{
+pub use amqp_below_ids::{CountIds, Drawn, IdSource, ListIds, numbered_id};
+pub use amqp_below_layer::{
     Answers, Echoes, Exchanges, LayerBelow, OpenSession, Openings, Refusal, Refusals, Reviews,
     SessionInnerError, TakeError, Tells, Verdict, check_given, on_incoming_frame, take_frame,
 };
-pub use amqp_recorder::Recorder;
-pub use amqp_sessions::{
+pub use amqp_below_recorder::Recorder;
+pub use amqp_below_sessions::{
     AllocLinkError, AllocTxnIdError, BeginError, CommitFault, HandleDeclare, HandleDischarge,
-    NameState, PlainSession, Relay, Session,
+    ListenerSessionEndpoint, NameState, PlainSession, ReceiverAttachError, Relay,
+    SenderAttachError, Session,
 };
-pub use amqp_streams::{
+pub use amqp_below_streams::{
     ByteSink, ByteSource, Failed, MemorySink, MemorySource, SureSink, SureSource,
 };
+pub use amqp_links::{Poll, Progress};

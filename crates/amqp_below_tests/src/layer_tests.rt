@@ -1,8 +1,7 @@
 //! What no clause says: that the calls succeed where there is memory, and the texts of errors.
 
-use amqp_layer::*;
-use amqp_session_test_values::{judges, takes_work};
-use amqp_test_values::{detach, not_allowed, other_text, same};
+use amqp_below_layer::*;
+use amqp_test_values::{detach, judges, not_allowed, other_text, same, takes_work};
 use amqp_txn_types::{ConnectionStopReason, Frame, TryClone};
 
 #[test]

@@ -1,10 +1,13 @@
-//! The tests of `amqp_layer`, `amqp_endpoints` and `amqp_recorder`. They stand apart from these,
-//! since a crate with tests is proved twice.
+//! Tests of what a transactional session works on: the layer below, sessions, connections, the recorder.
 #![tactic(auto)]
 
 #[cfg(test)]
-mod endpoints_tests;
+mod connection_tests;
+#[cfg(test)]
+mod error_tests;
 #[cfg(test)]
 mod layer_tests;
+#[cfg(test)]
+mod plain_tests;
 #[cfg(test)]
 mod recorder_tests;

@@ -1,11 +1,13 @@
 //! What no clause says: that the calls succeed where there is memory.
 
-use amqp_ids::CountIds;
-use amqp_layer::{Exchanges, LayerBelow, OpenSession, SessionInnerError, Verdict};
-use amqp_recorder::*;
-use amqp_session_test_values::{judges, plain_session, relay, takes_work};
-use amqp_sessions::{AllocTxnIdError, HandleDeclare, HandleDischarge, NameState, Session};
-use amqp_test_values::{call_numbers, control_attach, detach, gives, refuses, transfer};
+use amqp_below_ids::CountIds;
+use amqp_below_layer::{Exchanges, LayerBelow, OpenSession, SessionInnerError, Verdict};
+use amqp_below_recorder::*;
+use amqp_below_sessions::{AllocTxnIdError, HandleDeclare, HandleDischarge, NameState, Session};
+use amqp_test_values::{
+    call_numbers, control_attach, detach, gives, judges, plain_session, refuses, relay, takes_work,
+    transfer,
+};
 use amqp_txn_types::{
     Frame, Frames, OutgoingChannel, Payload, Role, SessionState, SessionStopReason, Text,
     TransactionError, TransactionId,

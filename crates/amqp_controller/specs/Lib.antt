@@ -1,17 +1,17 @@
-pub use Rattle.amqp_control_calls.specs.Sending
-pub use Rattle.amqp_control_calls.specs.Polling
-pub use Rattle.amqp_control_calls.specs.Abandoning
-pub use Rattle.amqp_control_calls.specs.Errors as SendErrors
-pub use Rattle.amqp_posting.specs.Errors as PostErrors
-pub use Rattle.amqp_posting.specs.Posting
-pub use Rattle.amqp_posting.specs.Retiring
-pub use Rattle.amqp_transactions.specs.Begun
-pub use Rattle.amqp_transactions.specs.Locked
-pub use Rattle.amqp_transactions.specs.Declaring
-pub use Rattle.amqp_transactions.specs.Attaching
-pub use Rattle.amqp_transactions.specs.Owned
-pub use Rattle.amqp_transactions.specs.Transactions
-pub use Rattle.amqp_transactions.specs.Discharging
-pub use Rattle.amqp_acquisition.specs.Acquiring
-pub use Rattle.amqp_acquisition.specs.Acquisitions
-pub use Rattle.amqp_acquisition.specs.Ending
+pub use Rattle.amqp_controller_calls.specs.Sending
+pub use Rattle.amqp_controller_calls.specs.Polling
+pub use Rattle.amqp_controller_calls.specs.Abandoning
+pub use Rattle.amqp_controller_calls.specs.Errors as SendErrors
+pub use Rattle.amqp_controller_posting.specs.Errors as PostErrors
+pub use Rattle.amqp_controller_posting.specs.Posting
+pub use Rattle.amqp_controller_posting.specs.Retiring
+pub use Rattle.amqp_controller_transactions.specs.Begun
+pub use Rattle.amqp_controller_transactions.specs.Locked
+pub use Rattle.amqp_controller_transactions.specs.Declaring
+pub use Rattle.amqp_controller_transactions.specs.Attaching
+pub use Rattle.amqp_controller_transactions.specs.Owned
+pub use Rattle.amqp_controller_transactions.specs.Transactions
+pub use Rattle.amqp_controller_transactions.specs.Discharging
+pub use Rattle.amqp_controller_acquisition.specs.Acquiring
+pub use Rattle.amqp_controller_acquisition.specs.Acquisitions
+pub use Rattle.amqp_controller_acquisition.specs.Ending

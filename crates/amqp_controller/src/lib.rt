@@ -4,10 +4,10 @@
 //!
 //! | crate | has |
 //! |---|---|
-//! | `amqp_control_calls` | declares, discharges and abandons on a control link that is lent |
-//! | `amqp_posting` | posts and retirements under a transaction |
-//! | `amqp_transactions` | the controller over a lock, and transactions that borrow or own one |
-//! | `amqp_acquisition` | deliveries that are acquired under a transaction |
+//! | `amqp_controller_calls` | declares, discharges and abandons on a control link that is lent |
+//! | `amqp_controller_posting` | posts and retirements under a transaction |
+//! | `amqp_controller_transactions` | the controller over a lock, and transactions that borrow or own one |
+//! | `amqp_controller_acquisition` | deliveries that are acquired under a transaction |
 //!
 //! A client in ten lines:
 //!
@@ -40,19 +40,19 @@
 //! What is proved of each call stands with it. This crate has nothing of its own.
 #![tactic(auto)]
 
-pub use amqp_acquisition::{
+pub use amqp_controller_acquisition::{
     AcquisitionDischarging, TransactionAcquisition, TransactionExt, TxnAcquisition, TxnIdKey,
     acquire_on_link, clean_up_on_link,
 };
-pub use amqp_control_calls::{
+pub use amqp_controller_calls::{
     Abandoned, ControllerSendError, DeclareOnLink, DischargeOnLink, TransactionBase,
     abandon_on_link, declare_on_link, discharge_on_link,
 };
-pub use amqp_posting::{
+pub use amqp_controller_posting::{
     DeliveryFut, FromDeliveryFailure, FromDeliveryState, FromPreSettled, PostError, PostResult,
     TransactionPosting, TransactionRetirement,
 };
-pub use amqp_transactions::{
+pub use amqp_controller_transactions::{
     Attaching, Begun, Controller, ControllerBuilder, DEFAULT_ROLLBACK_ON_DROP_TRIALS, Declaring,
     Discharging, OwnedDeclareError, OwnedDeclaring, OwnedDeclaringOn, OwnedDischargeError,
     OwnedTransaction, Transaction, TransactionDischarge,

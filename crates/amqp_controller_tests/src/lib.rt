@@ -1,6 +1,7 @@
-//! The tests of `amqp_control_calls`, `amqp_posting` and `amqp_transactions`. They stand apart from
-//! these, since a crate with tests is proved twice.
+//! Tests of the controlling side.
 #![tactic(auto)]
 
+#[cfg(test)]
+mod acquisition_tests;
 #[cfg(test)]
 mod tests;

@@ -30,6 +30,7 @@ mod delivery;
 mod errors;
 mod messages;
 mod poll;
+mod progress;
 mod receiver;
 mod sendable;
 mod sender;
@@ -43,6 +44,7 @@ pub use errors::{
 };
 pub use messages::{Closes, ReceiverMessage, ReceiverMessages, SentMessage, SentMessages};
 pub use poll::Poll;
+pub use progress::Progress;
 pub use receiver::ReceiverLink;
 pub use sendable::{Sendable, Sent};
 pub use sender::{Answer, SenderLink};

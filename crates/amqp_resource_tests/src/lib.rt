@@ -1,6 +1,15 @@
-//! The tests of `amqp_resource`. They stand apart from it, since a crate with tests is proved
-//! twice.
+//! Tests of the record, the log, the coordinator and the transactional session.
 #![tactic(auto)]
 
 #[cfg(test)]
-mod tests;
+mod arrival_tests;
+#[cfg(test)]
+mod arrival_values;
+#[cfg(test)]
+mod coordinator_tests;
+#[cfg(test)]
+mod live_work_tests;
+#[cfg(test)]
+mod record_tests;
+#[cfg(test)]
+mod session_tests;

@@ -1,4 +1,5 @@
 pub mod Answers
 pub mod Frames
 pub mod Links
+pub mod Sessions
 pub mod Texts

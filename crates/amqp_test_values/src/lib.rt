@@ -8,6 +8,7 @@ mod answers;
 mod errors;
 mod frames;
 mod links;
+mod sessions;
 
 pub use answers::{gives, is_done, refuses, same};
 pub use errors::{not_allowed, other_text, plain_error, reads};
@@ -15,3 +16,4 @@ pub use frames::{
     begin, control_attach, detach, disposition, flow, sender_attach, transfer, under, work,
 };
 pub use links::{call_numbers, link_end};
+pub use sessions::{judges, plain_session, relay, takes_work};

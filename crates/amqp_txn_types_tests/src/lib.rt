@@ -1,6 +1,7 @@
-//! The tests of `amqp_txn_types`. They stand apart from it, since a crate with tests is proved
-//! twice.
+//! Tests of the types and of the codec of control messages.
 #![tactic(auto)]
 
+#[cfg(test)]
+mod codec_tests;
 #[cfg(test)]
 mod tests;

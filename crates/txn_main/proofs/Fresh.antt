@@ -1,10 +1,10 @@
 -- The recorder over a listener that a command asks for is fresh.
-use Rattle.amqp_layer.specs.Told.{Told}
-use Rattle.amqp_layer.specs.declared.open.OpenSession.{OpenSession}
-use Rattle.amqp_sessions.specs.declared.plain_session.PlainSession.{PlainSession}
-use Rattle.amqp_accepting.specs.declared.accepting.AcceptingListener.{AcceptingListener}
-use Rattle.amqp_recorder.specs.declared.recorder.Recorder.{Recorder}
-use Rattle.amqp_recorder.specs.Recording.{IsFresh, is_unused}
+use Rattle.amqp_below_layer.specs.Told.{Told}
+use Rattle.amqp_below_layer.specs.declared.open.OpenSession.{OpenSession}
+use Rattle.amqp_below_sessions.specs.declared.plain_session.PlainSession.{PlainSession}
+use Rattle.amqp_accept_at_once.specs.declared.accepting.AcceptingListener.{AcceptingListener}
+use Rattle.amqp_below_recorder.specs.declared.recorder.Recorder.{Recorder}
+use Rattle.amqp_below_recorder.specs.Recording.{IsFresh, is_unused}
 use Rattle.txn_program.specs.declared.words.Layer.{Layer}
 use Rattle.txn_program.specs.declared.words.Layer.TheVariants as layers
 use Rattle.txn_main.specs.Layers.{IsOver}

@@ -1,11 +1,11 @@
 -- A run from standard input to standard output that begins with them as they are at the start.
 use Rattle.std.proofs.Common.{◌≡◌, ℕ, Option, None, List, subst}
-use Rattle.amqp_layer.specs.Told.{Told}
-use Rattle.amqp_layer.specs.declared.open.OpenSession.{OpenSession}
-use Rattle.amqp_sessions.specs.declared.plain_session.PlainSession.{PlainSession}
-use Rattle.amqp_accepting.specs.declared.accepting.AcceptingListener.{AcceptingListener}
-use Rattle.amqp_recorder.specs.declared.recorder.Recorder.{Recorder}
-use Rattle.amqp_streams.specs.Streams.{SinkTold, SourceTold}
+use Rattle.amqp_below_layer.specs.Told.{Told}
+use Rattle.amqp_below_layer.specs.declared.open.OpenSession.{OpenSession}
+use Rattle.amqp_below_sessions.specs.declared.plain_session.PlainSession.{PlainSession}
+use Rattle.amqp_accept_at_once.specs.declared.accepting.AcceptingListener.{AcceptingListener}
+use Rattle.amqp_below_recorder.specs.declared.recorder.Recorder.{Recorder}
+use Rattle.amqp_below_streams.specs.Streams.{SinkTold, SourceTold}
 use Rattle.txn_program.specs.Serving.{Serves}
 use Rattle.txn_program.specs.declared.running.Ran.{Ran}
 use Rattle.txn_program.specs.declared.words.Command.{Command}

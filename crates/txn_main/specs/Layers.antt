@@ -2,19 +2,19 @@
 use Rattle.std.specs.Prelude.{◌≡◌, Option, Some, None, [], false}
 use Rattle.amqp_txn_types.specs.declared.small.InputHandle.{InputHandle}
 use Rattle.amqp_txn_types.specs.declared.small.SessionState.TheVariants as states
-use Rattle.amqp_layer.specs.Told.{Told}
-use Rattle.amqp_layer.specs.declared.open.OpenSession.{OpenSession}
-use Rattle.amqp_sessions.specs.declared.plain_session.PlainSession.{PlainSession}
-use Rattle.amqp_recorder.specs.Recording.{IsFresh, inner_of, is_unused, own_of as refused_by, own_vetoes_of as vetoed_by, plan_of, starved_of}
-use Rattle.amqp_recorder.specs.declared.recorder.Recorder.{Recorder}
-use Rattle.amqp_acceptors.specs.Fields.{default_shared}
-use Rattle.amqp_acceptors.specs.Receivers.{IsDefaultReceiver}
-use Rattle.amqp_acceptors.specs.Senders.{IsDefaultSender}
-use Rattle.amqp_accepting.specs.AtOnce.{Acceptor, acceptor_of, listener_of, own_of as accepting_own}
-use Rattle.amqp_accepting.specs.declared.accepting.AcceptingListener.{AcceptingListener}
-use Rattle.amqp_listener.specs.Listening.{control_of, held_of, inner_of as session_of, own_of, queue_of}
-use Rattle.amqp_listener.specs.declared.listener.ListenerSession.{ListenerSession}
-use Rattle.amqp_session_builder.specs.Builders.{IsNew, begin_built, default_builder}
+use Rattle.amqp_below_layer.specs.Told.{Told}
+use Rattle.amqp_below_layer.specs.declared.open.OpenSession.{OpenSession}
+use Rattle.amqp_below_sessions.specs.declared.plain_session.PlainSession.{PlainSession}
+use Rattle.amqp_below_recorder.specs.Recording.{IsFresh, inner_of, is_unused, own_of as refused_by, own_vetoes_of as vetoed_by, plan_of, starved_of}
+use Rattle.amqp_below_recorder.specs.declared.recorder.Recorder.{Recorder}
+use Rattle.amqp_accept_links.specs.Fields.{default_shared}
+use Rattle.amqp_accept_links.specs.Receivers.{IsDefaultReceiver}
+use Rattle.amqp_accept_links.specs.Senders.{IsDefaultSender}
+use Rattle.amqp_accept_at_once.specs.AtOnce.{Acceptor, acceptor_of, listener_of, own_of as accepting_own}
+use Rattle.amqp_accept_at_once.specs.declared.accepting.AcceptingListener.{AcceptingListener}
+use Rattle.amqp_accept_listener.specs.Listening.{control_of, held_of, inner_of as session_of, own_of, queue_of}
+use Rattle.amqp_accept_listener.specs.declared.listener.ListenerSession.{ListenerSession}
+use Rattle.amqp_engine_builder.specs.Builders.{IsNew, begin_built, default_builder}
 use Rattle.txn_program.specs.declared.words.Command.{Command}
 use Rattle.txn_program.specs.declared.words.Command.TheVariants as commands
 use Rattle.txn_program.specs.declared.words.Layer.{Layer}

@@ -3,11 +3,11 @@
 ghost use Rattle.std.specs.Prelude.{◌≡◌};
 ghost use Rattle.txn_main.specs.Layers.{IsNewListener, IsOver, layer_of};
 
-use amqp_accepting::AcceptingListener;
-use amqp_acceptors::{ControlLinkAcceptor, LinkAcceptor};
+use amqp_accept_at_once::AcceptingListener;
+use amqp_accept_links::{ControlLinkAcceptor, LinkAcceptor};
+use amqp_accept_listener::ListenerSession;
 use amqp_below::{OpenSession, PlainSession, Recorder, Tells};
-use amqp_listener::ListenerSession;
-use amqp_session_builder::Builder;
+use amqp_engine_builder::Builder;
 use amqp_txn_types::{OutgoingChannel, SessionState};
 use std::alloc::Global;
 use txn_program::{Command, Layer};

@@ -6,7 +6,7 @@
 
 ghost use Rattle.std.specs.Prelude.{◌≡◌, ◌⊎◌, IfErr, IfOk};
 ghost use Rattle.std.specs.Process.{exit_status};
-ghost use Rattle.amqp_recorder.specs.Recording.{IsFresh, is_unused};
+ghost use Rattle.amqp_below_recorder.specs.Recording.{IsFresh, is_unused};
 ghost use Rattle.txn_program.specs.Words.{IsWithin};
 ghost use Rattle.txn_main.specs.declared.fault.Fault.TheVariants as faults;
 ghost use Rattle.txn_main.specs.Serving.{EndsServed, RanOver, Served};
@@ -16,7 +16,7 @@ mod fault;
 
 use crate::below::{Below, below_of};
 use crate::fault::{Fault, exit_of};
-use amqp_accepting::AcceptingListener;
+use amqp_accept_at_once::AcceptingListener;
 use amqp_below::{LayerBelow, OpenSession, PlainSession, Recorder, Tells};
 use amqp_txn_types::{Items, Text};
 use std::alloc::{Alloc, Global};

@@ -1,21 +1,21 @@
 -- How a run ends during which the layer below counted no refusal.
 use Rattle.std.proofs.Common.{◌≡◌, ℕ, zero, suc, ◌+◌, ◌-◌, ◌≤◌, ◌^◌, ◌⊎◌, inl, inr, Bool, true, false, cond, Option, Some, None, List, ◌∷◌, refl, arith}
 use Rattle.std.specs.Prelude.{min, IfSome, IsSome}
-use Rattle.amqp_layer.specs.declared.inner_error.SessionInnerError.TheVariants as faults
-use Rattle.amqp_ids.specs.Ids.{AreNext}
-use Rattle.amqp_record.specs.declared.step.Step.{Step}
-use Rattle.amqp_record.specs.declared.entry.Entry.{Entry}
-use Rattle.amqp_record.specs.declared.stop.Stop.{Stop}
-use Rattle.amqp_record.specs.declared.stop.Stop.TheVariants as stops
-use Rattle.amqp_record.specs.declared.stop.Driven.{Driven}
-use Rattle.amqp_record.specs.Entries.{drawn_of}
-use Rattle.amqp_record.specs.Legal.{IsLegal}
-use Rattle.amqp_record.specs.Opened.{attach_refused_count}
-use Rattle.amqp_ids.specs.Counted.{ids_from}
+use Rattle.amqp_below_layer.specs.declared.inner_error.SessionInnerError.TheVariants as faults
+use Rattle.amqp_below_ids.specs.Ids.{AreNext}
+use Rattle.amqp_resource_record.specs.declared.step.Step.{Step}
+use Rattle.amqp_resource_record.specs.declared.entry.Entry.{Entry}
+use Rattle.amqp_resource_record.specs.declared.stop.Stop.{Stop}
+use Rattle.amqp_resource_record.specs.declared.stop.Stop.TheVariants as stops
+use Rattle.amqp_resource_record.specs.declared.stop.Driven.{Driven}
+use Rattle.amqp_resource_record.specs.Entries.{drawn_of}
+use Rattle.amqp_resource_record.specs.Legal.{IsLegal}
+use Rattle.amqp_resource_record.specs.Opened.{attach_refused_count}
+use Rattle.amqp_below_ids.specs.Counted.{ids_from}
 use Rattle.txn_program.specs.Made.{made}
-use Rattle.amqp_layer.specs.Told.{Told}
-use Rattle.amqp_resource.specs.Drive.{Left, RunRose, StopCause, is_refusal}
-use Rattle.amqp_resource.specs.Steps.{ended_by}
+use Rattle.amqp_below_layer.specs.Told.{Told}
+use Rattle.amqp_resource_session.specs.Drive.{Left, RunRose, StopCause, is_refusal}
+use Rattle.amqp_resource_session.specs.Steps.{ended_by}
 use Rattle.txn_program.specs.Running.{IsRun, stop_status}
 use Rattle.txn_program.specs.Writing.{EndsWith}
 use Rattle.txn_program.specs.Completing.{MadeEnds, NoneRose, RunEnds, StopsRun}

@@ -8,25 +8,25 @@ use Rattle.amqp_txn_types.specs.declared.performatives.Frame.{Frame}
 use Rattle.amqp_txn_types.specs.Frames.{is_coordinator_attach, txn}
 use Rattle.amqp_txn_codec.specs.declared.message.ControlMessageBody.TheVariants as messages
 use Rattle.amqp_txn_codec.specs.Canon.{canon}
-use Rattle.amqp_ids.specs.Ids.{AreNext}
-use Rattle.amqp_record.specs.declared.step.Step.{Step}
-use Rattle.amqp_record.specs.declared.step.Step.TheVariants as steps
-use Rattle.amqp_record.specs.declared.reply.Reply.{Reply}
-use Rattle.amqp_record.specs.declared.reply.Reply.TheVariants as replies
-use Rattle.amqp_record.specs.declared.entry.Entry.{Entry}
-use Rattle.amqp_record.specs.Entries.{declares, discharges, drawn_of, reply_declares, steps_of}
-use Rattle.amqp_record.specs.Links.{is_open}
-use Rattle.amqp_record.specs.Live.{is_live, since, undischarged}
-use Rattle.amqp_record.specs.Answers.{Answer, AnswerDeclare, AnswerDischarge, AnswerFrame}
-use Rattle.amqp_record.specs.Legal.{IsLegal, LegalAfter}
-use Rattle.amqp_record.specs.Opened.{attach_refused_count, is_attach_refused}
-use Rattle.amqp_record.proofs.Living.{ended_dead}
-use Rattle.amqp_record.proofs.Looking.{undischarged-other}
-use Rattle.amqp_record.proofs.Whole.{IsLegal-nil, is_open-attached}
-use Rattle.amqp_resource.specs.Steps.{IsDead, UnderDead, ended_by}
-use Rattle.amqp_resource.specs.Views.{view_of_record}
-use Rattle.amqp_resource.proofs.Views.{live-record}
-use Rattle.amqp_ids.specs.Counted.{id_of_number, ids_from}
+use Rattle.amqp_below_ids.specs.Ids.{AreNext}
+use Rattle.amqp_resource_record.specs.declared.step.Step.{Step}
+use Rattle.amqp_resource_record.specs.declared.step.Step.TheVariants as steps
+use Rattle.amqp_resource_record.specs.declared.reply.Reply.{Reply}
+use Rattle.amqp_resource_record.specs.declared.reply.Reply.TheVariants as replies
+use Rattle.amqp_resource_record.specs.declared.entry.Entry.{Entry}
+use Rattle.amqp_resource_record.specs.Entries.{declares, discharges, drawn_of, reply_declares, steps_of}
+use Rattle.amqp_resource_record.specs.Links.{is_open}
+use Rattle.amqp_resource_record.specs.Live.{is_live, since, undischarged}
+use Rattle.amqp_resource_record.specs.Answers.{Answer, AnswerDeclare, AnswerDischarge, AnswerFrame}
+use Rattle.amqp_resource_record.specs.Legal.{IsLegal, LegalAfter}
+use Rattle.amqp_resource_record.specs.Opened.{attach_refused_count, is_attach_refused}
+use Rattle.amqp_resource_record.proofs.Living.{ended_dead}
+use Rattle.amqp_resource_record.proofs.Looking.{undischarged-other}
+use Rattle.amqp_resource_record.proofs.Whole.{IsLegal-nil, is_open-attached}
+use Rattle.amqp_resource_session.specs.Steps.{IsDead, UnderDead, ended_by}
+use Rattle.amqp_resource_session.specs.Views.{view_of_record}
+use Rattle.amqp_resource_session.proofs.Views.{live-record}
+use Rattle.amqp_below_ids.specs.Counted.{id_of_number, ids_from}
 use Rattle.txn_program.specs.Made.{made, made_attach, made_declare, made_discharge, made_fail, made_from, made_post}
 use Rattle.txn_program.proofs.Midway.{Midway, canon-read, declare-reply, discharge-reply, held_live, midway-declare, midway-discharge, midway-post, on_link, short_number}
 

@@ -1,6 +1,6 @@
 -- The steps of made transactions, pair by pair.
 use Rattle.std.proofs.Common.{◌≡◌, ℕ, zero, suc, ◌+◌, ◌-◌, ◌≤◌, List, ◌++◌, sym, ◌∙◌, ap, append_assoc, arith}
-use Rattle.amqp_record.specs.declared.step.Step.{Step}
+use Rattle.amqp_resource_record.specs.declared.step.Step.{Step}
 use Rattle.txn_program.specs.Made.{made_from, made_pair}
 
 -- two of the transactions that are left come together

@@ -15,21 +15,21 @@ use Rattle.amqp_txn_codec.specs.Canon.{canon, HoldsShortIds}
 use Rattle.amqp_txn_codec.specs.Reading.{message_of}
 use Rattle.amqp_txn_codec.proofs.Messages.{canon-spells}
 use Rattle.amqp_txn_codec.proofs.Readings.{spelled-read}
-use Rattle.amqp_layer.specs.declared.answers.Answers.{Answers}
-use Rattle.amqp_ids.specs.Ids.{AreNext}
-use Rattle.amqp_record.specs.declared.step.Step.TheVariants as steps
-use Rattle.amqp_record.specs.declared.reply.Reply.{Reply}
-use Rattle.amqp_record.specs.declared.reply.Reply.TheVariants as replies
-use Rattle.amqp_record.specs.declared.reply.RejectText.TheVariants as texts
-use Rattle.amqp_record.specs.declared.entry.Entry.{Entry}
-use Rattle.amqp_record.specs.Entries.{attaches, closes, declares, discharges, message_discharges, reply_attaches, reply_declares, step_closes, step_discharges, step_link}
-use Rattle.amqp_record.specs.Links.{is_open}
-use Rattle.amqp_record.specs.Live.{home, is_held_on, is_link, is_live, is_open_at}
-use Rattle.amqp_record.specs.Answers.{Answer, AnswerControl, AnswerDeclare, AnswerDischarge, AnswerFrame, AnswerMessage}
-use Rattle.amqp_record.proofs.Ids.{same_id-eq, same_id-refl}
-use Rattle.amqp_record.proofs.Looking.{home-declared, home-other, is_open-other, undischarged-declared}
-use Rattle.amqp_record.proofs.Living.{live-at, live-same}
-use Rattle.amqp_ids.specs.Counted.{id_of_number}
+use Rattle.amqp_below_layer.specs.declared.answers.Answers.{Answers}
+use Rattle.amqp_below_ids.specs.Ids.{AreNext}
+use Rattle.amqp_resource_record.specs.declared.step.Step.TheVariants as steps
+use Rattle.amqp_resource_record.specs.declared.reply.Reply.{Reply}
+use Rattle.amqp_resource_record.specs.declared.reply.Reply.TheVariants as replies
+use Rattle.amqp_resource_record.specs.declared.reply.RejectText.TheVariants as texts
+use Rattle.amqp_resource_record.specs.declared.entry.Entry.{Entry}
+use Rattle.amqp_resource_record.specs.Entries.{attaches, closes, declares, discharges, message_discharges, reply_attaches, reply_declares, step_closes, step_discharges, step_link}
+use Rattle.amqp_resource_record.specs.Links.{is_open}
+use Rattle.amqp_resource_record.specs.Live.{home, is_held_on, is_link, is_live, is_open_at}
+use Rattle.amqp_resource_record.specs.Answers.{Answer, AnswerControl, AnswerDeclare, AnswerDischarge, AnswerFrame, AnswerMessage}
+use Rattle.amqp_resource_record.proofs.Ids.{same_id-eq, same_id-refl}
+use Rattle.amqp_resource_record.proofs.Looking.{home-declared, home-other, is_open-other, undischarged-declared}
+use Rattle.amqp_resource_record.proofs.Living.{live-at, live-same}
+use Rattle.amqp_below_ids.specs.Counted.{id_of_number}
 
 -- the one control link is open, the ids of the numbers from `low` on and below `high` are live and
 -- were declared there, and none from `high` on is live

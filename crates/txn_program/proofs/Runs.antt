@@ -3,18 +3,18 @@ use Rattle.std.proofs.Common.{◌≡◌, ℕ, ◌+◌, ◌↔◌, Option, Some, 
 use Rattle.amqp_txn_types.specs.declared.id.TransactionId.{TransactionId}
 use Rattle.amqp_txn_types.specs.declared.performatives.Attach.{Attach}
 use Rattle.amqp_txn_types.specs.declared.performatives.Frame.{Frame}
-use Rattle.amqp_layer.specs.declared.refusal.Refusal.{Refusal}
-use Rattle.amqp_ids.specs.Ids.{AreNext}
-use Rattle.amqp_layer.specs.Told.{Told}
+use Rattle.amqp_below_layer.specs.declared.refusal.Refusal.{Refusal}
+use Rattle.amqp_below_ids.specs.Ids.{AreNext}
+use Rattle.amqp_below_layer.specs.Told.{Told}
 use Rattle.amqp_txn_types.specs.Growing.{grown}
-use Rattle.amqp_record.specs.declared.step.Step.{Step}
-use Rattle.amqp_record.specs.declared.stop.Driven.{Driven}
-use Rattle.amqp_record.specs.declared.stop.Stop.TheVariants as stops
-use Rattle.amqp_record.specs.Entries.{drawn_of, steps_of}
-use Rattle.amqp_record.specs.Legal.{IsLegal}
-use Rattle.amqp_record.specs.Opened.{opens}
-use Rattle.amqp_record.specs.Vetoed.{vetoes}
-use Rattle.amqp_resource.specs.Drive.{RunTook, RunRefused, StopCause}
+use Rattle.amqp_resource_record.specs.declared.step.Step.{Step}
+use Rattle.amqp_resource_record.specs.declared.stop.Driven.{Driven}
+use Rattle.amqp_resource_record.specs.declared.stop.Stop.TheVariants as stops
+use Rattle.amqp_resource_record.specs.Entries.{drawn_of, steps_of}
+use Rattle.amqp_resource_record.specs.Legal.{IsLegal}
+use Rattle.amqp_resource_record.specs.Opened.{opens}
+use Rattle.amqp_resource_record.specs.Vetoed.{vetoes}
+use Rattle.amqp_resource_session.specs.Drive.{RunTook, RunRefused, StopCause}
 use Rattle.txn_program.specs.Running.{IsRun}
 
 -- the ids of a stream are those of another that gives the same at each place

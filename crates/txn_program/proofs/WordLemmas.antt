@@ -2,7 +2,7 @@
 use Rattle.std.proofs.Common.{◌≡◌, ℕ, zero, suc, ◌+◌, Option, Some, None, List, [], ◌∷◌, ◌++◌, refl, sym, ap, drop, append_assoc}
 use Rattle.std.specs.Borrow.{Bor}
 use Rattle.std.specs.Prelude.{length, slice_get}
-use Rattle.txn_lines.specs.LineWords.{◌>>=◌}
+use Rattle.txn_program_lines.specs.LineWords.{◌>>=◌}
 use Rattle.txn_program.specs.Words.{each}
 
 -- these, and then those of the words that are left

@@ -1,14 +1,14 @@
 -- How a call ends during which the layer below counted no refusal and the sink no fault.
 use Rattle.std.specs.Prelude.{ℕ, ◌≡◌, Option, Some, None, Result, Ok, Err, List, ◌⊎◌, IsSome}
 use Rattle.amqp_txn_types.specs.Counts.{Rose}
-use Rattle.amqp_record.specs.declared.step.Step.{Step}
-use Rattle.amqp_record.specs.declared.entry.Entry.{Entry}
-use Rattle.amqp_record.specs.declared.stop.Driven.{Driven}
-use Rattle.amqp_record.specs.Entries.{steps_of}
-use Rattle.amqp_resource.specs.Drive.{NextStep}
-use Rattle.amqp_resource.specs.Steps.{UnderDead, ended_by}
-use Rattle.amqp_resource.specs.Views.{view_of_record}
-use Rattle.txn_lines.specs.Lines.{input_steps}
+use Rattle.amqp_resource_record.specs.declared.step.Step.{Step}
+use Rattle.amqp_resource_record.specs.declared.entry.Entry.{Entry}
+use Rattle.amqp_resource_record.specs.declared.stop.Driven.{Driven}
+use Rattle.amqp_resource_record.specs.Entries.{steps_of}
+use Rattle.amqp_resource_session.specs.Drive.{NextStep}
+use Rattle.amqp_resource_session.specs.Steps.{UnderDead, ended_by}
+use Rattle.amqp_resource_session.specs.Views.{view_of_record}
+use Rattle.txn_program_lines.specs.Lines.{input_steps}
 use Rattle.txn_program.specs.declared.reading.Reading.{Reading}
 use Rattle.txn_program.specs.declared.reading.Reading.TheVariants as readings
 use Rattle.txn_program.specs.declared.words.Command.{Command}

@@ -9,14 +9,14 @@ use Rattle.amqp_txn_codec.specs.declared.message.ControlMessageBody.{ControlMess
 use Rattle.amqp_txn_codec.specs.declared.message.ControlMessageBody.TheVariants as messages
 use Rattle.amqp_txn_codec.specs.Canon.{canon}
 use Rattle.amqp_txn_codec.specs.Reading.{message_of}
-use Rattle.amqp_record.specs.declared.step.Step.{Step}
-use Rattle.amqp_record.specs.declared.step.Step.TheVariants as steps
-use Rattle.amqp_record.specs.declared.reply.Reply.{Reply}
-use Rattle.amqp_record.specs.declared.reply.Reply.TheVariants as replies
-use Rattle.amqp_record.specs.declared.entry.Entry.{Entry}
+use Rattle.amqp_resource_record.specs.declared.step.Step.{Step}
+use Rattle.amqp_resource_record.specs.declared.step.Step.TheVariants as steps
+use Rattle.amqp_resource_record.specs.declared.reply.Reply.{Reply}
+use Rattle.amqp_resource_record.specs.declared.reply.Reply.TheVariants as replies
+use Rattle.amqp_resource_record.specs.declared.entry.Entry.{Entry}
 use Rattle.amqp_txn_codec.specs.Discharges.{is_rollback}
-use Rattle.amqp_ids.specs.Counted.{id_of_number}
-use Rattle.txn_lines.specs.Lines.{attach_of, coordinator, transfer_of, state_under}
+use Rattle.amqp_below_ids.specs.Counted.{id_of_number}
+use Rattle.txn_program_lines.specs.Lines.{attach_of, coordinator, transfer_of, state_under}
 use Rattle.txn_program.specs.Report.{line}
 
 -- the attach of the one control link, as the line `attach c 0` spells it

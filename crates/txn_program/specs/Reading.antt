@@ -1,6 +1,6 @@
 -- What the reading of an input finds.
 use Rattle.std.specs.Prelude.{ℕ, ◌≡◌, ◌≤◌, ◌<◌, ◌+◌, ◌++◌, Option, Some, None, List, [], length, drop}
-use Rattle.amqp_streams.specs.Streams.{SourceTold}
+use Rattle.amqp_below_streams.specs.Streams.{SourceTold}
 use Rattle.amqp_txn_types.specs.Counts.{Rose}
 use Rattle.txn_program.specs.declared.std_streams.StdSource.{StdSource}
 use Rattle.txn_program.specs.declared.reading.TheConstants.{INPUT_LIMIT}

@@ -15,16 +15,16 @@ use Rattle.amqp_txn_types.specs.declared.performatives.Flow.{Flow}
 use Rattle.amqp_txn_types.specs.declared.performatives.Disposition.{Disposition}
 use Rattle.amqp_txn_types.specs.declared.performatives.Frame.{Frame}
 use Rattle.amqp_txn_types.specs.declared.performatives.Frame.TheVariants as frames
-use Rattle.amqp_layer.specs.declared.answers.Answers.{Answers}
-use Rattle.amqp_record.specs.declared.reply.Reply.{Reply}
-use Rattle.amqp_record.specs.declared.reply.Reply.TheVariants as replies
-use Rattle.amqp_record.specs.declared.reply.RejectText.{RejectText}
-use Rattle.amqp_record.specs.declared.reply.RejectText.TheVariants as texts
-use Rattle.amqp_record.specs.declared.entry.Entry.{Entry}
-use Rattle.amqp_record.specs.declared.stop.Driven.{Driven}
-use Rattle.amqp_record.specs.declared.stop.StopCode.{StopCode}
-use Rattle.amqp_record.specs.declared.stop.StopCode.TheVariants as stop_codes
-use Rattle.amqp_record.specs.Stops.{code_of, fault_code}
+use Rattle.amqp_below_layer.specs.declared.answers.Answers.{Answers}
+use Rattle.amqp_resource_record.specs.declared.reply.Reply.{Reply}
+use Rattle.amqp_resource_record.specs.declared.reply.Reply.TheVariants as replies
+use Rattle.amqp_resource_record.specs.declared.reply.RejectText.{RejectText}
+use Rattle.amqp_resource_record.specs.declared.reply.RejectText.TheVariants as texts
+use Rattle.amqp_resource_record.specs.declared.entry.Entry.{Entry}
+use Rattle.amqp_resource_record.specs.declared.stop.Driven.{Driven}
+use Rattle.amqp_resource_record.specs.declared.stop.StopCode.{StopCode}
+use Rattle.amqp_resource_record.specs.declared.stop.StopCode.TheVariants as stop_codes
+use Rattle.amqp_resource_record.specs.Stops.{code_of, fault_code}
 
 -- a line: the text and a line feed
 abbrev pub line : List ℕ → List ℕ

@@ -3,21 +3,21 @@ use Rattle.std.specs.Prelude.{ℕ, ◌≡◌, ◌↔◌, ◌++◌, Option, Some,
 use Rattle.std.specs.Fmt.{decimal}
 use Rattle.amqp_txn_types.specs.declared.id.TransactionId.{TransactionId}
 use Rattle.amqp_txn_types.specs.declared.performatives.Frame.{Frame}
-use Rattle.amqp_layer.specs.declared.inner_error.SessionInnerError.TheVariants as faults
-use Rattle.amqp_layer.specs.Told.{Fixed, Told}
-use Rattle.amqp_ids.specs.Ids.{AreNext}
-use Rattle.amqp_record.specs.declared.step.Step.{Step}
-use Rattle.amqp_record.specs.declared.stop.Stop.{Stop}
-use Rattle.amqp_record.specs.declared.stop.Stop.TheVariants as stops
-use Rattle.amqp_record.specs.declared.stop.Driven.{Driven}
-use Rattle.amqp_record.specs.Entries.{drawn_of, steps_of}
-use Rattle.amqp_record.specs.Legal.{IsLegal}
-use Rattle.amqp_record.specs.Opened.{opens}
-use Rattle.amqp_record.specs.Vetoed.{vetoes}
-use Rattle.amqp_resource.specs.Drive.{RunTook, RunRefused, StopCause}
-use Rattle.amqp_ids.specs.Counted.{ids_from}
-use Rattle.amqp_streams.specs.Streams.{SourceTold}
-use Rattle.txn_lines.specs.Lines.{input_steps}
+use Rattle.amqp_below_layer.specs.declared.inner_error.SessionInnerError.TheVariants as faults
+use Rattle.amqp_below_layer.specs.Told.{Fixed, Told}
+use Rattle.amqp_below_ids.specs.Ids.{AreNext}
+use Rattle.amqp_resource_record.specs.declared.step.Step.{Step}
+use Rattle.amqp_resource_record.specs.declared.stop.Stop.{Stop}
+use Rattle.amqp_resource_record.specs.declared.stop.Stop.TheVariants as stops
+use Rattle.amqp_resource_record.specs.declared.stop.Driven.{Driven}
+use Rattle.amqp_resource_record.specs.Entries.{drawn_of, steps_of}
+use Rattle.amqp_resource_record.specs.Legal.{IsLegal}
+use Rattle.amqp_resource_record.specs.Opened.{opens}
+use Rattle.amqp_resource_record.specs.Vetoed.{vetoes}
+use Rattle.amqp_resource_session.specs.Drive.{RunTook, RunRefused, StopCause}
+use Rattle.amqp_below_ids.specs.Counted.{ids_from}
+use Rattle.amqp_below_streams.specs.Streams.{SourceTold}
+use Rattle.txn_program_lines.specs.Lines.{input_steps}
 use Rattle.txn_program.specs.Made.{made, made_text}
 use Rattle.txn_program.specs.Reading.{Finds}
 use Rattle.txn_program.specs.declared.reading.Reading.{Reading}

@@ -1,13 +1,13 @@
 -- What a call of the program answers and leaves: the one contract of its top calls.
 use Rattle.std.specs.Prelude.{ℕ, ◌≡◌, ◌⊎◌, Option, Result, List, None, IsNone, IsOkAnd, IfSome}
 use Rattle.amqp_txn_types.specs.declared.id.TransactionId.{TransactionId}
-use Rattle.amqp_layer.specs.Told.{Told}
-use Rattle.amqp_recorder.specs.declared.recorder.Recorder.{Recorder}
-use Rattle.amqp_record.specs.declared.step.Step.{Step}
-use Rattle.amqp_record.specs.declared.stop.Driven.{Driven}
-use Rattle.amqp_resource.specs.Drive.{RunRose, RunVetoed}
-use Rattle.amqp_streams.specs.Streams.{SinkTold, SourceTold}
-use Rattle.amqp_ids.specs.Counted.{ids_from}
+use Rattle.amqp_below_layer.specs.Told.{Told}
+use Rattle.amqp_below_recorder.specs.declared.recorder.Recorder.{Recorder}
+use Rattle.amqp_resource_record.specs.declared.step.Step.{Step}
+use Rattle.amqp_resource_record.specs.declared.stop.Driven.{Driven}
+use Rattle.amqp_resource_session.specs.Drive.{RunRose, RunVetoed}
+use Rattle.amqp_below_streams.specs.Streams.{SinkTold, SourceTold}
+use Rattle.amqp_below_ids.specs.Counted.{ids_from}
 use Rattle.txn_program.specs.Made.{made}
 use Rattle.txn_program.specs.Reading.{Finds}
 use Rattle.txn_program.specs.Running.{IsRun, IsRunOf, IsSpelledBy, PlansLeft, ReadFor, Untouched, driven_status, input_status, input_text, run_text, spelled_status, spelled_text, status_of, summary_text, written_text}

@@ -10,9 +10,9 @@ use Rattle.txn_program.specs.declared.words.Layer.{Layer}
 use Rattle.txn_program.specs.declared.words.Layer.TheVariants as layers
 use Rattle.txn_program.specs.declared.words.Command.{Command}
 use Rattle.txn_program.specs.declared.words.Command.TheVariants as commands
-use Rattle.amqp_ids.specs.Listed.{listed}
-use Rattle.amqp_uuid_ids.specs.Seeded.{seeded}
-use Rattle.txn_lines.specs.LineWords.{◌>>=◌, octets_of, between, at_most, decimal_of, u64_of}
+use Rattle.amqp_below_ids.specs.Listed.{listed}
+use Rattle.amqp_below_uuid_ids.specs.Seeded.{seeded}
+use Rattle.txn_program_lines.specs.LineWords.{◌>>=◌, octets_of, between, at_most, decimal_of, u64_of}
 
 -- what each of the words means, where all mean something
 abbrev pub each : {A : Type 0} → (List ℕ → Option A) → List (List ℕ) → Option (List A)

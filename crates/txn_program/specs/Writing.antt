@@ -1,6 +1,6 @@
 -- What is written of a text.
 use Rattle.std.specs.Prelude.{ℕ, ◌≡◌, ◌==◌, ◌⊎◌, Option, List, [], take, if◌then◌else◌}
-use Rattle.amqp_streams.specs.Streams.{SinkTold}
+use Rattle.amqp_below_streams.specs.Streams.{SinkTold}
 use Rattle.amqp_txn_types.specs.Counts.{Rose}
 use Rattle.txn_program.specs.declared.std_streams.StdSink.{StdSink}
 use Rattle.amqp_txn_types.specs.Growing.{grown}

@@ -1,7 +1,7 @@
 //! The commands of the program.
 
 ghost use Rattle.std.specs.Prelude.{◌≡◌};
-ghost use Rattle.amqp_recorder.specs.Recording.{IsFresh, is_unused};
+ghost use Rattle.amqp_below_recorder.specs.Recording.{IsFresh, is_unused};
 ghost use Rattle.txn_program.specs.Words.{IsWithin, command_of};
 ghost use Rattle.txn_program.specs.Reading.{source_of};
 ghost use Rattle.txn_program.specs.Running.{told_under};

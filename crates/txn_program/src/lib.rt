@@ -40,5 +40,5 @@ pub use reading::{INPUT_LIMIT, Reading};
 pub use reporting::report;
 pub use running::Ran;
 pub use std_streams::{StdSink, StdSource};
-pub use txn_lines::{SpellError, spells};
+pub use txn_program_lines::{SpellError, spells};
 pub use words::{Command, Ids, Layer, Plans, TransactionIds, command_of};

@@ -4,11 +4,11 @@ ghost use Rattle.std.specs.Prelude.{◌≡◌, ◌≤◌, ◌+◌, ◌++◌, IfO
 ghost use Rattle.txn_program.specs.Made.{made, made_alone, made_attach, made_declare, made_discharge, made_fail, made_from, made_pair, made_post, two_posts};
 
 use amqp_below::numbered_id;
-use amqp_record::{Step, Steps};
+use amqp_resource_record::{Step, Steps};
 use amqp_txn_codec::{ControlMessageBody, Declare, Discharge};
 use amqp_txn_types::{Coordinator, Frame, NoMemory, Payload, Role, TargetArchetype};
 use std::alloc::Global;
-use txn_lines::{Delivery, attach_of, state_under, transfer_of};
+use txn_program_lines::{Delivery, attach_of, state_under, transfer_of};
 
 /// The steps of that many transactions: an attach, and then the transactions in pairs, of which
 /// each third is rolled back. The only error is want of memory.

@@ -4,7 +4,7 @@ ghost use Rattle.std.specs.Prelude.{◌≡◌, ◌≤◌, ◌++◌, ◌∷◌, d
 ghost use Rattle.hex.specs.Hex.{encode_lower};
 ghost use Rattle.txn_program.specs.Report.{bool_word, error_word, handle_word, number_word, optional_outcome_word, optional_state_word, outcome_word, payload_word, reject_words, role_word, settled_word, state_word, stop_word};
 
-use amqp_record::{RejectText, StopCode};
+use amqp_resource_record::{RejectText, StopCode};
 use amqp_txn_types::{
     DeliveryState, Handle, NoMemory, Outcome, Payload, Role, TransactionError, TransactionId,
 };

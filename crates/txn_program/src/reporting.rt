@@ -2,13 +2,13 @@
 
 ghost use Rattle.std.specs.Prelude.{◌≡◌, ◌++◌, codes, decimal, string_bytes, IfOk, OnOk};
 ghost use Rattle.std.specs.List.{flat_map};
-ghost use Rattle.amqp_record.specs.Stops.{code_of};
+ghost use Rattle.amqp_resource_record.specs.Stops.{code_of};
 ghost use Rattle.txn_program.specs.Report.{answer_frames, entry_lines, frame_text, line, out_line, reply_frames, reply_text, stop_word, taken_line, report_text, window_frames};
 
 use crate::frame_text::{put_flow, put_frame};
 use crate::report_words::{error_word, put, put_number, put_txn_id, reject_words, stop_word};
 use amqp_below::{Answers, Exchanges};
-use amqp_record::{Driven, Entry, Reply, Stop, code_of_fault};
+use amqp_resource_record::{Driven, Entry, Reply, Stop, code_of_fault};
 use amqp_txn_types::{Flow, Frame, Frames, NoMemory, Text};
 use std::alloc::Global;
 

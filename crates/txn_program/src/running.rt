@@ -1,9 +1,9 @@
 //! A run: steps through a session, and what is written of them.
 
 ghost use Rattle.std.specs.Prelude.{◌≡◌, ◌≤◌, Some, None, List, ℕ, IfOk, string_bytes};
-ghost use Rattle.amqp_recorder.specs.Recording.{IsFresh, is_unused};
-ghost use Rattle.amqp_resource.specs.Drive.{RunRose, RunVetoed};
-ghost use Rattle.txn_lines.specs.Lines.{input_steps};
+ghost use Rattle.amqp_below_recorder.specs.Recording.{IsFresh, is_unused};
+ghost use Rattle.amqp_resource_session.specs.Drive.{RunRose, RunVetoed};
+ghost use Rattle.txn_program_lines.specs.Lines.{input_steps};
 ghost use Rattle.txn_program.specs.Reading.{source_of};
 ghost use Rattle.txn_program.specs.Running.{IsRun, line_text, run_text, stop_status};
 ghost use Rattle.txn_program.specs.Serving.{DrivesNothing, RunsInput, RunsMade, RunsReading, RunsSpelled, RunsSteps};
@@ -21,12 +21,12 @@ use amqp_below::{
     ByteSink, ByteSource, CountIds, IdSource, LayerBelow, ListIds, Recorder, SessionInnerError,
     Tells,
 };
-use amqp_record::{Driven, Entries, Steps, Stop};
-use amqp_resource::{TxnSession, drive};
+use amqp_below_uuid_ids::seeded_ids;
+use amqp_resource_record::{Driven, Entries, Steps, Stop};
+use amqp_resource_session::{TxnSession, drive};
 use amqp_txn_types::{Binary, NoMemory};
-use amqp_uuid_ids::seeded_ids;
 use std::alloc::Global;
-use txn_lines::{SpellError, spells};
+use txn_program_lines::{SpellError, spells};
 
 /// What a call of the program left.
 #[derive(Drop)]

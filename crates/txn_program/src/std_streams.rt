@@ -4,7 +4,7 @@
 
 ghost use Rattle.std.specs.Prelude.{◌≡◌, ◌≤◌, None, length, IsOk, IfOk, OnOk};
 ghost use Rattle.std.specs.Io.KnownBytes.{Appends, ReadConsumes};
-ghost use Rattle.amqp_streams.specs.Streams.{Reads, Reserves, Writes};
+ghost use Rattle.amqp_below_streams.specs.Streams.{Reads, Reserves, Writes};
 ghost use Rattle.txn_program.specs.Reading.{reader_of, source_faults_of};
 ghost use Rattle.txn_program.specs.Writing.{sink_faults_of, spare_of, writer_of};
 

@@ -7,7 +7,7 @@ ghost use Rattle.txn_program.specs.Report.{line};
 ghost use Rattle.txn_program.specs.Made.{ends_by, ends_count, made_text, step_ends_by};
 
 use crate::report_words::{put, put_number};
-use amqp_record::{Entry, Reply, Step};
+use amqp_resource_record::{Entry, Reply, Step};
 use amqp_txn_codec::{ControlMessageBody, decode, rolls_back};
 use amqp_txn_types::NoMemory;
 use std::alloc::Global;

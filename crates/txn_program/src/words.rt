@@ -2,13 +2,13 @@
 
 ghost use Rattle.std.specs.Prelude.{◌≡◌, ◌≤◌, ◌==◌, IfOk, IfSome};
 ghost use Rattle.std.specs.List.{slice_split};
-ghost use Rattle.txn_lines.specs.LineWords.{between};
+ghost use Rattle.txn_program_lines.specs.LineWords.{between};
 ghost use Rattle.txn_program.specs.Words.{AreSome, IsWithin, call_of, command_of, count_of, each, id_of, call_list_of, id_words, list_words, make_words, refusing_words, run_of, run_words, seed_words, some_few, starving_or, starving_words};
 
 use amqp_txn_types::{CallNumbers, Items, NoMemory, Text, TransactionId};
 use hex::FromHexError;
 use std::alloc::Global;
-use txn_lines::{cut_at, is_text, number_of};
+use txn_program_lines::{cut_at, is_text, number_of};
 
 /// Ids, in order.
 pub type TransactionIds = Items<TransactionId>;

@@ -1,6 +1,11 @@
-//! The tests of `txn_program`. They stand apart from it, since a crate with tests is proved
-//! twice.
+//! Tests of the program, over layers, sources and sinks of their own.
 #![tactic(auto)]
 
+#[cfg(test)]
+mod listen_tests;
+#[cfg(test)]
+mod run_over;
+#[cfg(test)]
+mod seed_tests;
 #[cfg(test)]
 mod tests;

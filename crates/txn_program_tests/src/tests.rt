@@ -8,7 +8,7 @@ mod stream_tests;
 mod worked_tests;
 
 use amqp_below::Exchanges;
-use amqp_record::{Driven, Entries, Step, Steps, Stop};
+use amqp_resource_record::{Driven, Entries, Step, Steps, Stop};
 use amqp_txn_types::{Frames, NoMemory, Text, TryClone};
 use std::alloc::Global;
 use std::test::Fail;

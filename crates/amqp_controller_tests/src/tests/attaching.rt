@@ -5,13 +5,12 @@ use crate::tests::links::assert_put;
 use crate::tests::values::{
     GLOBAL_DECLARE, declaration, end, id, name, passed, pending, ready, refused, same,
 };
-use amqp_control_calls::{Abandoned, TransactionBase};
-use amqp_endpoints::SenderAttachError;
-use amqp_layer::LayerBelow;
+use amqp_below_layer::LayerBelow;
+use amqp_below_sessions::{AllocLinkError, PlainSession, SenderAttachError, Session};
+use amqp_controller_calls::{Abandoned, TransactionBase};
+use amqp_controller_transactions::{Attaching, Controller, OwnedTransaction, TransactionDischarge};
 use amqp_links::WireSender;
-use amqp_sessions::{AllocLinkError, PlainSession, Session};
 use amqp_test_values::{begin, sender_attach};
-use amqp_transactions::{Attaching, Controller, OwnedTransaction, TransactionDischarge};
 use amqp_txn_types::{
     Coordinator, DeliveryState, OutgoingChannel, Role, SenderSettleMode, SessionState,
     SessionStopReason, Token,

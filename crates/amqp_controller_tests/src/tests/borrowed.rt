@@ -9,8 +9,8 @@ use crate::tests::rows::{
 use crate::tests::values::{
     ROLLBACK, declaration, declares, id, pending, ready, refused, rejection, same,
 };
-use amqp_control_calls::{Abandoned, ControllerSendError, TransactionBase};
-use amqp_transactions::{
+use amqp_controller_calls::{Abandoned, ControllerSendError, TransactionBase};
+use amqp_controller_transactions::{
     Controller, DEFAULT_ROLLBACK_ON_DROP_TRIALS, Transaction, TransactionDischarge,
 };
 use amqp_txn_types::DeliveryState;

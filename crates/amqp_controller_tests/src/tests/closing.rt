@@ -2,8 +2,8 @@
 
 use crate::tests::links::{Lent, assert_counts, counting, late};
 use crate::tests::values::{passed, plain_error, refused, same};
+use amqp_controller_transactions::Controller;
 use amqp_links::{DetachError, SenderLink};
-use amqp_transactions::Controller;
 use amqp_txn_types::{AmqpError, Error, ErrorCondition};
 use std::process::Abort;
 use std::sync::Wait;

@@ -6,11 +6,10 @@ use crate::tests::links::{assert_put, illegal};
 use crate::tests::values::{
     COMMIT, DECLARE, GLOBAL_DECLARE, ROLLBACK, declaration, id, pending, same, unknown_id, wire,
 };
-use amqp_control_calls::{
+use amqp_controller_calls::{
     Abandoned, ControllerSendError, abandon_on_link, declare_on_link, discharge_on_link,
 };
-use amqp_endpoints::Progress;
-use amqp_links::WireSender;
+use amqp_links::{Progress, WireSender};
 use amqp_txn_types::{Accepted, Declared, DeliveryState, Token, TransactionId};
 use std::process::Abort;
 

@@ -4,8 +4,8 @@ use crate::tests::links::{assert_counts, counting, illegal};
 use crate::tests::rows::{gives_up, unfound_row};
 use crate::tests::values::{passed, ready, refused, same};
 use crate::tests::{borrowed, owned};
-use amqp_control_calls::Abandoned;
-use amqp_transactions::{OwnedDischargeError, OwnedTransaction, Transaction};
+use amqp_controller_calls::Abandoned;
+use amqp_controller_transactions::{OwnedDischargeError, OwnedTransaction, Transaction};
 use std::process::Abort;
 use std::sync::Wait;
 

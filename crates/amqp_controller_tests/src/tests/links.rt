@@ -1,11 +1,11 @@
 //! Links that count what is done to them.
 
 use crate::tests::values::wire;
-use amqp_control_calls::ControllerSendError;
+use amqp_controller_calls::ControllerSendError;
+use amqp_controller_transactions::Controller;
 use amqp_links::{
     DetachError, LinkStateError, Poll, SendError, Sendable, SenderLink, Sent, WireSender,
 };
-use amqp_transactions::Controller;
 use amqp_txn_types::{Declared, DeliveryState, Error, Payload, Token};
 use std::process::Abort;
 use std::sync::Wait;

@@ -3,8 +3,8 @@
 use crate::tests::links::{CountingLink, assert_counts, counting, fill};
 use crate::tests::rows::gives_up;
 use crate::tests::values::{id, passed, pending, ready};
-use amqp_control_calls::{Abandoned, TransactionBase};
-use amqp_transactions::{Controller, Declaring, Transaction, TransactionDischarge};
+use amqp_controller_calls::{Abandoned, TransactionBase};
+use amqp_controller_transactions::{Controller, Declaring, Transaction, TransactionDischarge};
 use amqp_txn_types::{Declared, DeliveryState, TransactionId};
 use std::process::Abort;
 use std::sync::Wait;

@@ -10,9 +10,11 @@ use crate::tests::rows::{
 use crate::tests::values::{
     declaration, declares, id, passed, pending, ready, refused, rejection, same,
 };
-use amqp_control_calls::{Abandoned, TransactionBase};
+use amqp_controller_calls::{Abandoned, TransactionBase};
+use amqp_controller_transactions::{
+    Controller, OwnedDischargeError, OwnedTransaction, TransactionDischarge,
+};
 use amqp_links::DetachError;
-use amqp_transactions::{Controller, OwnedDischargeError, OwnedTransaction, TransactionDischarge};
 use amqp_txn_types::DeliveryState;
 use std::process::Abort;
 use std::sync::Wait;

@@ -1,15 +1,14 @@
 //! Posts and retirements under a transaction.
 
 use crate::tests::values::{end, id, pending, same, wire};
-use amqp_control_calls::TransactionBase;
-use amqp_endpoints::Progress;
-use amqp_links::{
-    DeliveryInfo, DetachError, DispositionError, IllegalLinkStateError, LinkStateError, SendError,
-    Sendable, WireReceiver, WireSender,
-};
-use amqp_posting::{
+use amqp_controller_calls::TransactionBase;
+use amqp_controller_posting::{
     DeliveryFut, FromDeliveryFailure, FromDeliveryState, PostError, PostResult, TransactionPosting,
     TransactionRetirement,
+};
+use amqp_links::{
+    DeliveryInfo, DetachError, DispositionError, IllegalLinkStateError, LinkStateError, Progress,
+    SendError, Sendable, WireReceiver, WireSender,
 };
 use amqp_txn_types::{
     Binary, DeliveryState, Modified, Outcome, Payload, Role, SenderSettleMode, SessionStopReason,

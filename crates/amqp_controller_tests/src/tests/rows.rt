@@ -2,8 +2,8 @@
 
 use crate::tests::links::{CountingLink, assert_counts, assert_last, fill};
 use crate::tests::values::{COMMIT, ROLLBACK, passed, pending, ready, refused, same, unknown_id};
-use amqp_control_calls::Abandoned;
-use amqp_transactions::{
+use amqp_controller_calls::Abandoned;
+use amqp_controller_transactions::{
     Controller, Discharging, OwnedTransaction, Transaction, TransactionDischarge,
 };
 use amqp_txn_types::DeliveryState;

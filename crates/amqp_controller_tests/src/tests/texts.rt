@@ -1,13 +1,13 @@
 //! The texts of errors, and the names under which one error becomes another.
 
 use crate::tests::values::same;
-use amqp_control_calls::ControllerSendError;
-use amqp_endpoints::SenderAttachError;
+use amqp_below_sessions::SenderAttachError;
+use amqp_controller_calls::ControllerSendError;
+use amqp_controller_posting::PostError;
+use amqp_controller_transactions::{OwnedDeclareError, OwnedDischargeError};
 use amqp_links::{
     DetachError, IllegalLinkStateError, LinkStateError, MessageSizeExceeded, SendError,
 };
-use amqp_posting::PostError;
-use amqp_transactions::{OwnedDeclareError, OwnedDischargeError};
 use amqp_txn_types::Rejected;
 use std::fmt::Display;
 use std::process::Abort;

@@ -1,8 +1,7 @@
 //! Values that several tests use, and what a call or a wait must have given.
 
-use amqp_control_calls::ControllerSendError;
-use amqp_endpoints::Progress;
-use amqp_links::WireSender;
+use amqp_controller_calls::ControllerSendError;
+use amqp_links::{Progress, WireSender};
 use amqp_txn_types::{
     CallNumbers, Declared, Error, ErrorCondition, LinkEnd, OutputHandle, ReceiverSettleMode,
     Rejected, Role, SenderSettleMode, Text, TransactionError, TransactionId,

@@ -2,7 +2,7 @@
 
 use crate::tests::run_tests::{A, ran};
 use amqp_below::{Answers, Echoes, SureSink};
-use amqp_record::{Entry, Reply, Step, is_legal};
+use amqp_resource_record::{Entry, Reply, Step, is_legal};
 use amqp_txn_types::{Frames, NoMemory, TransactionId};
 use std::alloc::Global;
 use std::test::Fail;

@@ -1,9 +1,9 @@
-//! Long runs, whose records agree with the slow program of `amqp_record` entry by entry.
+//! Long runs, whose records agree with the slow program of `amqp_resource_record` entry by entry.
 
 ghost use Rattle.std.specs.Prelude.{◌<◌};
 
 use amqp_below::{Exchanges, OpenSession, Recorder, SureSink, SureSource};
-use amqp_record::{Entry, Step, hands, is_entry_after};
+use amqp_resource_record::{Entry, Step, hands, is_entry_after};
 use amqp_txn_types::{Binary, Frame, Items, NoMemory, Text};
 use std::alloc::{Alloc, Global};
 use std::process::Abort;

@@ -1,7 +1,7 @@
 //! Whole runs: what the program answers to words and lines, with ample memory.
 
 use amqp_below::{OpenSession, Recorder, SureSink, SureSource};
-use amqp_record::is_legal;
+use amqp_resource_record::is_legal;
 use amqp_txn_types::{Binary, Items, NoMemory, Text};
 use std::alloc::{Alloc, Global};
 use std::process::Abort;

@@ -1,6 +1,6 @@
 use Rattle.std.proofs.Common.{◌≡◌, ◌==◌}
 use Rattle.std.specs.List.{slice_split}
-use Rattle.txn_lines.specs.Cutting.{pieces_left}
+use Rattle.txn_program_lines.specs.Cutting.{pieces_left}
 use Rattle.txn_program.specs.Words.{each, call_of}
 use Rattle.txn_program.proofs.WordLemmas.{octets_left, with_more}
 use Rattle.txn_program.proofs.words.calls_of.Given as goal

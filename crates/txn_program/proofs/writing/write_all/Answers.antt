@@ -1,5 +1,5 @@
 use Rattle.std.proofs.Common.{◌+◌, subst, arith}
-use Rattle.amqp_streams.specs.Streams.{WriteGave}
+use Rattle.amqp_below_streams.specs.Streams.{WriteGave}
 use Rattle.txn_program.proofs.Streaming.{longer-front, longer_within, rest_fits, rest-rest}
 use Rattle.txn_program.proofs.writing.write_all.Goals as goal
 

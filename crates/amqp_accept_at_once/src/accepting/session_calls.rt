@@ -1,0 +1,202 @@
+//! The calls of an accepting listener beside those of a layer below: each is its listener's.
+
+use crate::accepting::AcceptingListener;
+use amqp_accept_listener::{ListenerSession, count_answer};
+use amqp_below_layer::{LayerBelow, SessionInnerError, Tells};
+use amqp_below_sessions::{AllocLinkError, BeginError, NameState, Relay, Session};
+use amqp_txn_types::{
+    Attach, Begin, ConnectionStopReason, Detach, End, Error, Flow, IncomingChannel, InputHandle,
+    LinkFlow, OutgoingChannel, OutputHandle, SessionStopReason, Text, Transfer,
+};
+
+impl<S: Session> Session for AcceptingListener<S> {
+    ghost use Rattle.std.specs.Prelude.{is_some, true};
+    ghost use Rattle.amqp_below_sessions.specs.SessionStates.{begin_received, begin_sent, end_received, end_sent};
+    ghost use Rattle.amqp_accept_at_once.specs.AtOnce.{AcceptsOver, PassesCheck, PassesMove, PassesSame, listener_of};
+    ghost use Rattle.amqp_accept_listener.specs.Listening.{inner_of};
+    ghost use Rattle.amqp_accept_listener.specs.ListenerLaws.{heard-leaves as listener-leaves};
+    ghost use Rattle.amqp_accept_at_once.specs.AtOnceLaws.{heard-leaves};
+
+    ghost kept = { λ l. ⟦<ListenerSession<S> as Session>⟧.kept (listener_of l) };
+
+    ghost names = { λ l. ⟦<ListenerSession<S> as Session>⟧.names (listener_of l) };
+
+    ghost accepts_at_once = { true };
+
+    ghost stop_gives = { λ old new reason. PassesSame ⟦<ListenerSession<S> as Tells>⟧.told
+        (λ a b. ⟦<ListenerSession<S> as Session>⟧.stop_gives a b reason) old new };
+
+    ghost connection_stop_gives = { λ old new reason. PassesSame
+        ⟦<ListenerSession<S> as Tells>⟧.told (λ a b.
+        ⟦<ListenerSession<S> as Session>⟧.connection_stop_gives a b reason) old new };
+
+    ghost allocate_link_gives = { λ old new name relay answer. PassesCheck
+        ⟦<ListenerSession<S> as Tells>⟧.told (λ a b.
+        ⟦<ListenerSession<S> as Session>⟧.allocate_link_gives a b name relay answer)
+        old new answer };
+
+    ghost allocate_incoming_link_gives = { λ old new name relay input answer. PassesCheck
+        ⟦<ListenerSession<S> as Tells>⟧.told (λ a b.
+        ⟦<ListenerSession<S> as Session>⟧.allocate_incoming_link_gives a b name relay input answer)
+        old new answer };
+
+    ghost deallocate_link_gives = { λ old new output answer. PassesSame
+        ⟦<ListenerSession<S> as Tells>⟧.told (λ a b.
+        ⟦<ListenerSession<S> as Session>⟧.deallocate_link_gives a b output answer) old new };
+
+    ghost begin_received_gives = { λ old new channel begin answer. PassesMove
+        ⟦<ListenerSession<S> as Tells>⟧.told begin_received (λ a b.
+        ⟦<ListenerSession<S> as Session>⟧.begin_received_gives a b channel begin answer) old new
+        answer };
+
+    ghost end_received_gives = { λ old new channel end answer. PassesMove
+        ⟦<ListenerSession<S> as Tells>⟧.told end_received (λ a b.
+        ⟦<ListenerSession<S> as Session>⟧.end_received_gives a b channel end answer) old new
+        answer };
+
+    ghost begin_sent_gives = { λ old new answer. PassesMove ⟦<ListenerSession<S> as Tells>⟧.told
+        begin_sent (λ a b. ⟦<ListenerSession<S> as Session>⟧.begin_sent_gives a b answer)
+        old new answer };
+
+    ghost end_sent_gives = { λ old new error answer. PassesMove ⟦<ListenerSession<S> as Tells>⟧.told
+        (end_sent (is_some error)) (λ a b. ⟦<ListenerSession<S> as Session>⟧.end_sent_gives a b
+        error answer) old new answer };
+
+    ghost outgoing_attach_gives = { λ old new attach answer. PassesCheck
+        ⟦<ListenerSession<S> as Tells>⟧.told (λ a b.
+        ⟦<ListenerSession<S> as Session>⟧.outgoing_attach_gives a b attach answer) old new answer };
+
+    ghost outgoing_flow_gives = { λ old new flow answer. PassesCheck
+        ⟦<ListenerSession<S> as Tells>⟧.told (λ a b.
+        ⟦<ListenerSession<S> as Session>⟧.outgoing_flow_gives a b flow answer) old new answer };
+
+    ghost outgoing_transfer_gives = { λ old new input before after is_first answer. PassesCheck
+        ⟦<ListenerSession<S> as Tells>⟧.told (λ a b.
+        ⟦<ListenerSession<S> as Session>⟧.outgoing_transfer_gives a b input before after is_first
+        answer) old new answer };
+
+    ghost outgoing_detach_gives = { λ old new detach answer. PassesCheck
+        ⟦<ListenerSession<S> as Tells>⟧.told (λ a b.
+        ⟦<ListenerSession<S> as Session>⟧.outgoing_detach_gives a b detach answer) old new answer };
+
+    ghost incoming_leaves = { λ old new frame answer gives. heard-leaves
+        ⟦<ListenerSession<S> as Tells>⟧.told ⟦<ListenerSession<S> as Session>⟧.kept
+        ⟦<ListenerSession<S> as Session>⟧.names S.accepts_at_once
+        ⟦<ListenerSession<S> as LayerBelow>⟧.incoming_gives
+        (λ a b came given gave. listener-leaves S.told S.kept S.names S.accepts_at_once
+        S.incoming_gives S.incoming_leaves a b came given gave)
+        (AcceptsOver ⟦<ListenerSession<S> as Session>⟧.kept
+        ⟦<ListenerSession<S> as Session>⟧.allocate_incoming_link_gives
+        ⟦<ListenerSession<S> as Session>⟧.outgoing_flow_gives
+        ⟦<ListenerSession<S> as Session>⟧.deallocate_link_gives) old new frame answer gives };
+
+    ghost opening_leaves = { λ old new attach answer gives. gives.gave.leaves };
+
+    ghost check_leaves = { λ old new disposition answer gives. S.check_leaves
+        (inner_of (listener_of old)) (inner_of (listener_of new)) disposition answer
+        gives.gave.gave };
+
+    ghost review_leaves = { λ old new list answer gives. S.review_leaves
+        (inner_of (listener_of old)) (inner_of (listener_of new)) list answer gives.gave.gave };
+
+    ghost window_leaves = { λ old new flow gives. S.window_leaves
+        (inner_of (listener_of old)) (inner_of (listener_of new)) flow gives.gave.gave };
+
+    fn session_stop_reason(&self) -> Option<&SessionStopReason> {
+        self.listener.session_stop_reason()
+    }
+
+    fn set_session_stop_reason(&mut self, reason: SessionStopReason) {
+        self.listener.set_session_stop_reason(reason);
+    }
+
+    fn connection_stop_reason(&self) -> Option<&ConnectionStopReason> {
+        self.listener.connection_stop_reason()
+    }
+
+    fn set_connection_stop_reason(&mut self, reason: ConnectionStopReason) {
+        self.listener.set_connection_stop_reason(reason);
+    }
+
+    fn outgoing_channel(&self) -> OutgoingChannel {
+        self.listener.outgoing_channel()
+    }
+
+    fn name_state(&self, name: &Text) -> NameState {
+        self.listener.name_state(name)
+    }
+
+    fn allocate_link(&mut self, name: Text, relay: Relay) -> Result<OutputHandle, AllocLinkError> {
+        let answer = self.listener.allocate_link(name, relay);
+        count_answer(&mut self.refusals, answer)
+    }
+
+    fn allocate_incoming_link(
+        &mut self,
+        name: Text,
+        relay: Relay,
+        input: InputHandle,
+    ) -> Result<OutputHandle, AllocLinkError> {
+        let answer = self.listener.allocate_incoming_link(name, relay, input);
+        count_answer(&mut self.refusals, answer)
+    }
+
+    fn deallocate_link(&mut self, output: OutputHandle) -> bool {
+        self.listener.deallocate_link(output)
+    }
+
+    fn on_incoming_begin(
+        &mut self,
+        channel: IncomingChannel,
+        begin: Begin,
+    ) -> Result<(), SessionInnerError> {
+        let answer = self.listener.on_incoming_begin(channel, begin);
+        count_answer(&mut self.refusals, answer)
+    }
+
+    fn on_incoming_end(
+        &mut self,
+        channel: IncomingChannel,
+        end: &End,
+    ) -> Result<(), SessionInnerError> {
+        let answer = self.listener.on_incoming_end(channel, end);
+        count_answer(&mut self.refusals, answer)
+    }
+
+    fn send_begin(&mut self) -> Result<Begin, BeginError> {
+        let answer = self.listener.send_begin();
+        count_answer(&mut self.refusals, answer)
+    }
+
+    fn send_end(&mut self, error: Option<Error>) -> Result<End, SessionInnerError> {
+        let answer = self.listener.send_end(error);
+        count_answer(&mut self.refusals, answer)
+    }
+
+    fn on_outgoing_attach(&mut self, attach: &Attach) -> Result<(), SessionInnerError> {
+        let answer = self.listener.on_outgoing_attach(attach);
+        count_answer(&mut self.refusals, answer)
+    }
+
+    fn on_outgoing_flow(&mut self, flow: LinkFlow) -> Result<Flow, SessionInnerError> {
+        let answer = self.listener.on_outgoing_flow(flow);
+        count_answer(&mut self.refusals, answer)
+    }
+
+    fn on_outgoing_transfer(
+        &mut self,
+        input: InputHandle,
+        transfer: &mut Transfer,
+        is_first: bool,
+    ) -> Result<(), SessionInnerError> {
+        let answer = self
+            .listener
+            .on_outgoing_transfer(input, transfer, is_first);
+        count_answer(&mut self.refusals, answer)
+    }
+
+    fn on_outgoing_detach(&mut self, detach: &Detach) -> Result<(), SessionInnerError> {
+        let answer = self.listener.on_outgoing_detach(detach);
+        count_answer(&mut self.refusals, answer)
+    }
+}

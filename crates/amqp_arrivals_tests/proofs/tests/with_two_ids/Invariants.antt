@@ -1,4 +1,0 @@
-use Rattle.amqp_arrivals_tests.proofs.tests.with_two_ids.Given as goal
-
-abbrev pub ghosts-run_case : goal.ghosts-run_case
-ghosts-run_case g a = record { name = a.blank.name; parts = a.blank.parts }

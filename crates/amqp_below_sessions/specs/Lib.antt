@@ -1,0 +1,16 @@
+pub mod Links
+pub mod Agreement
+pub mod Transacting
+pub mod SessionStates
+pub mod Names
+pub mod Sessions
+pub mod AttachErrors
+pub mod Queues
+pub mod Plain
+pub mod Numbers
+pub mod LinkMoves
+pub mod PlainSessions
+pub mod TakenWork
+pub mod PlainFrames
+pub mod PlainReviewing
+pub mod PlainCalls

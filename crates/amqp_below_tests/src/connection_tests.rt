@@ -1,0 +1,121 @@
+//! What no clause says: that the calls succeed where there is memory, and the texts of errors.
+
+use amqp_below_connections::*;
+use amqp_below_layer::SessionInnerError;
+use amqp_below_sessions::{AllocLinkError, BeginError};
+use amqp_links::Poll;
+use amqp_test_values::{begin, other_text, same};
+use amqp_txn_types::{ConnectionStopReason, OutgoingChannel, SessionStopReason, TryClone};
+
+fn incoming(channel: u16) -> IncomingSession {
+    IncomingSession {
+        channel,
+        begin: begin(7),
+    }
+}
+
+#[test]
+fn sessions_come_in_order(rt: HostRuntime) {
+    let mut connection = MemoryConnection::new(rt.alloc(), 1);
+    assert!(rt; same(connection.next_incoming_session(), Poll::Pending));
+    connection.push_session(incoming(3)).expect(&rt, "an Ok");
+    connection.push_session(incoming(4)).expect(&rt, "an Ok");
+    assert!(rt;
+        same(
+            connection.next_incoming_session(),
+            Poll::Ready(Some(incoming(3)))
+        )
+    );
+    assert!(rt;
+        connection.next_incoming_session()
+            == Poll::Ready(Some(incoming(4).try_clone().expect(&rt, "an Ok")))
+    );
+    connection.set_stop_reason(ConnectionStopReason::Closed);
+    assert!(rt; same(connection.next_incoming_session(), Poll::Ready(None)));
+}
+
+#[test]
+fn channels_are_given_once(rt: HostRuntime) {
+    let mut connection = MemoryConnection::new(rt.alloc(), 1);
+    assert!(rt; same(connection.allocate_session(), Ok(OutgoingChannel(0))));
+    assert!(rt; same(connection.allocate_session(), Ok(OutgoingChannel(1))));
+    assert!(rt;
+        same(
+            connection.allocate_session(),
+            Err(AllocSessionError::ChannelMaxReached)
+        )
+    );
+    connection.set_stop_reason(ConnectionStopReason::RemoteClosed);
+    let stopped = AllocSessionError::ConnectionStopped(ConnectionStopReason::RemoteClosed);
+    assert!(rt; same(connection.allocate_session(), Err(stopped)));
+}
+
+#[test]
+fn refusals_go_on_by_name(rt: HostRuntime) {
+    let closed = ConnectionStopReason::Closed;
+    assert!(rt;
+        BeginError::from(AllocSessionError::ChannelMaxReached) == BeginError::LocalChannelMaxReached
+    );
+    assert!(rt;
+        BeginError::from(AllocSessionError::ConnectionStopped(closed))
+            == BeginError::ConnectionStopped(ConnectionStopReason::Closed)
+    );
+    assert!(rt;
+        SenderAttachError::from(AllocLinkError::HandleInUse)
+            == SenderAttachError::Alloc(AllocLinkError::HandleInUse)
+    );
+    assert!(rt;
+        ReceiverAttachError::from(AllocLinkError::NoMemory) == ReceiverAttachError::NoMemory
+    );
+}
+
+#[test]
+fn errors_of_channels_have_their_texts(rt: HostRuntime) {
+    let stopped = AllocSessionError::ConnectionStopped(ConnectionStopReason::Closed);
+    let table = [
+        (AllocSessionError::ChannelMaxReached, "no channel is left"),
+        (stopped, "the connection stopped: Closed"),
+        (AllocSessionError::NoMemory, "out of memory"),
+    ];
+    assert_eq!(rt; other_text(rt.alloc(), &table).expect(&rt, "an Ok"), None);
+}
+
+#[test]
+fn errors_of_senders_have_their_texts(rt: HostRuntime) {
+    let table = [
+        (
+            SenderAttachError::Alloc(AllocLinkError::HandleMaxReached),
+            "the link is not allocated: no handle is left",
+        ),
+        (
+            SenderAttachError::SessionStopped(SessionStopReason::Ended),
+            "the session stopped: Ended",
+        ),
+        (
+            SenderAttachError::Session(SessionInnerError::IllegalState),
+            "the session refused: the state does not allow it",
+        ),
+        (SenderAttachError::NoMemory, "out of memory"),
+    ];
+    assert_eq!(rt; other_text(rt.alloc(), &table).expect(&rt, "an Ok"), None);
+}
+
+#[test]
+fn errors_of_receivers_have_their_texts(rt: HostRuntime) {
+    let table = [
+        (
+            ReceiverAttachError::Alloc(AllocLinkError::DuplicatedLinkName),
+            "the link is not allocated: the link name is in use",
+        ),
+        (
+            ReceiverAttachError::Session(SessionInnerError::IllegalState),
+            "the session refused: the state does not allow it",
+        ),
+        (
+            ReceiverAttachError::CoordinatorIsNotImplemented,
+            "the target is of a kind that is not taken here",
+        ),
+        (ReceiverAttachError::NoMemory, "out of memory"),
+    ];
+    assert_eq!(rt; other_text(rt.alloc(), &table).expect(&rt, "an Ok"), None);
+}

@@ -1,0 +1,100 @@
+//! Discharging a transaction on a control link that is lent.
+
+ghost use Rattle.std.specs.Prelude.{◌≡◌};
+ghost use Rattle.amqp_txn_codec.specs.declared.message.ControlMessageBody.TheVariants as messages;
+ghost use Rattle.amqp_links.specs.declared.sendable.Sent.TheVariants as sendings;
+ghost use Rattle.amqp_controller_calls.specs.Sending.{OneSend, SendsControl};
+ghost use Rattle.amqp_controller_calls.specs.Polling.{LooksOnce, accepted_by, found_of, outcome_of};
+
+use crate::errors::ControllerSendError;
+use crate::sending::send_control;
+use amqp_links::{Answer, Poll, Progress, SenderLink, Sent};
+use amqp_txn_codec::{ControlMessageBody, Discharge};
+use amqp_txn_types::{Accepted, DeliveryState, TransactionId};
+use std::alloc::Global;
+use std::marker::Model;
+
+/// A discharge that was sent, and whose outcome is awaited. A contract sees how it was sent.
+#[derive(Debug, Drop, PartialEq)]
+pub struct DischargeOnLink {
+    sent: Sent,
+}
+
+impl Model for DischargeOnLink {
+    ghost use Rattle.amqp_links.specs.declared.sendable.Sent.{Sent as HowSent};
+
+    ghost Value = { HowSent };
+
+    ghost view = { λ d. d.sent };
+
+    ghost inverse = { λ sent. record { sent = sent } };
+}
+
+/// Ends a transaction: puts one discharge, unsettled, without a state, not batchable. Part 4 of the
+/// standard, section 4.3 (discharging a transaction).
+///
+/// A `fail` of `Some(true)` asks for a rollback, `Some(false)` and `None` for a commit. Errors:
+/// what the link's `send` answered, by its name; `NoMemory` also where there is none for the
+/// octets, and nothing is put then.
+pub fn discharge_on_link<L: SenderLink>(
+    alloc: Global,
+    link: &mut L,
+    txn_id: &TransactionId,
+    fail: Option<bool>,
+) -> Result<DischargeOnLink, ControllerSendError>
+    ensures { SendsControl (OneSend L.send_gives L.told) link.old link.new
+        (messages.Discharge (record { txn_id = txn_id.now; fail = fail })) result }
+{
+    let message = ControlMessageBody::Discharge(Discharge {
+        txn_id: *txn_id,
+        fail,
+    });
+    let sent = send_control(alloc, link, &message)?;
+    Ok(DischargeOnLink { sent })
+}
+
+impl DischargeOnLink {
+    /// What is awaited of a discharge that wasn't sent, since the transaction was discharged
+    /// before: nothing. A poll of it looks at no link.
+    pub fn unsent() -> Self
+        ensures { result ≡ sendings.Settled }
+    {
+        DischargeOnLink {
+            sent: Sent::Settled,
+        }
+    }
+
+    /// Looks once for the outcome. It is `Pending` exactly where the link has no answer yet.
+    ///
+    /// `Ok` exactly where the answer is `Accepted`. Errors: `Rejected` where the coordinator
+    /// rejected the discharge, `NonTerminalDeliveryState` where no state was answered,
+    /// `LinkStateError` where the link answered one, and `IllegalDeliveryState` at every other
+    /// state, or where the discharge was sent settled.
+    pub fn poll<L: SenderLink>(
+        self,
+        link: &mut L,
+    ) -> Progress<DischargeOnLink, Result<Accepted, ControllerSendError>>
+        ensures looks { LooksOnce L.outcome_gives L.told link.old link.new self }
+        ensures answer { result ≡ found_of accepted_by (L.told link.old) self }
+    {
+        let Sent::Unsettled(token) = self.sent else {
+            return Progress::Ready(Err(ControllerSendError::IllegalDeliveryState));
+        };
+        match link.outcome(&token) {
+            Poll::Pending => Progress::Pending(self),
+            Poll::Ready(answer) => Progress::Ready(accepted(answer)),
+        }
+    }
+}
+
+/// The outcome of a discharge, by its answer.
+fn accepted(answer: Answer) -> Result<Accepted, ControllerSendError>
+    ensures { result ≡ outcome_of accepted_by answer }
+{
+    match answer? {
+        None => Err(ControllerSendError::NonTerminalDeliveryState),
+        Some(DeliveryState::Accepted) => Ok(Accepted),
+        Some(DeliveryState::Rejected(rejected)) => Err(ControllerSendError::Rejected(rejected)),
+        Some(_) => Err(ControllerSendError::IllegalDeliveryState),
+    }
+}

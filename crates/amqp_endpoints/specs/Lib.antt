@@ -1,4 +1,0 @@
-pub mod AttachErrors
-pub mod Queues
-pub mod Connections
-pub mod MemoryConnections

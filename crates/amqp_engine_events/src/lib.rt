@@ -1,0 +1,71 @@
+//! The engine of a session: each event by one call, which answers what is to be sent.
+//!
+//! | item | is |
+//! |---|---|
+//! | [`SessionEngine`] | a session that is run by its events |
+//! | [`ClientBegin`] | a session of this side whose begin was sent, until the peer's comes |
+//! | [`SessionFrame`] | a frame as it comes |
+//! | [`SessionControl`], [`ConnectionControl`] | what is asked of a session and of a connection |
+//! | [`Turn`], [`Running`], [`ControlReply`] | what an event is answered: frames and a reply |
+//!
+//! ```text
+//! let (begun, begin) = SessionEngine::begin_client_session(alloc, session)?; // send the begin
+//! let mut engine = begun.on_frame(frame)?; // the peer's begin
+//! let turn = match engine.on_incoming(frame) {
+//!     Ok(turn) => turn,
+//!     Err(fault) => engine.on_error(&fault)?,
+//! };
+//! // send turn.sent, then turn.ended; after `Running::Stop`:
+//! let (session, outcome) = engine.finish(Ok(()));
+//! ```
+//!
+//! The states of a session (part 2 of the standard, section 2.5.5), and the calls that move it:
+//!
+//! ```text
+//!  begin_client_session                     begin_listener_session
+//!           │                                         │
+//!       Unmapped ──── on_incoming: begin ─────► BeginReceived
+//!           │ a begin is sent                         │ a begin is sent
+//!           ▼                                         │
+//!       BeginSent ─── on_frame, or ────────► Mapped ◄─┘
+//!                     on_incoming: begin     │    │
+//!                                            │    │
+//!      on_incoming: end. A reason is kept,   │    │  on_control: End (a reason is kept),
+//!      and an end is sent                    │    │  on_error, end_session: an end is sent
+//!                      ┌─────────────────────┘    ├───────────────┐
+//!                      ▼                          ▼ no error      ▼ with an error
+//!                 EndReceived                  EndSent        Discarding      Waiting: what comes
+//!                      │                          │               │           is dropped, until
+//!                      │ at once, or              └───────┬───────┘           the peer's end
+//!                      │ end_session                      │ on_incoming: end
+//!                      ▼                                  │
+//!                  Unmapped ◄─────────────────────────────┘
+//!                    Stop
+//! ```
+//!
+//! That the peer's end is awaited is the state `EndSent` or `Discarding`, and nothing else. In
+//! `BeginSent` and `BeginReceived` a session may be told to end as in `Mapped`. The first reason to
+//! stop is kept, of the session and of its connection.
+//!
+//! Contracts say of each event which of the session's own calls was made and what it answered, by
+//! the relations of its traits, over any session. Below stand the sessions of `amqp_below_sessions`,
+//! `take_frame` of `amqp_below_layer` and the ends of `amqp_below_connections`. The promise that this crate
+//! carries: a session is run by the table of its events. 'The standard' is OASIS AMQP 1.0.
+#![tactic(auto)]
+
+mod beginning;
+mod controlling;
+mod controls;
+mod ending;
+mod engine;
+mod faults;
+mod incoming;
+mod outgoing;
+mod reasons;
+mod states;
+mod turn;
+
+pub use beginning::ClientBegin;
+pub use controls::{ConnectionControl, ControlReply, SessionControl};
+pub use engine::SessionEngine;
+pub use turn::{Running, SessionFrame, SessionFrameBody, Turn};

@@ -1,0 +1,167 @@
+//! A transactional session over a listener, driven by its engine: a post is kept and handed at its
+//! commit, one on a handle without a link is vetoed there, a plain frame is handed at once, an id
+//! that isn't live stops it.
+
+use crate::tests::test_values::{Listening, incoming, transactional, transfer};
+use amqp_below_ids::CountIds;
+use amqp_below_layer::SessionInnerError;
+use amqp_below_sessions::ListenerSessionEndpoint;
+use amqp_engine_events::{
+    ControlReply, SessionControl, SessionEngine, SessionFrame, SessionFrameBody, Turn,
+};
+use amqp_resource_accepted::*;
+use amqp_resource_session::{StopCode, numbered_id};
+use amqp_test_values::{control_attach, relay, sender_attach, under};
+use amqp_txn_types::{
+    Frame, InputHandle, OutgoingChannel, Role, Text, TransactionError, TransactionId,
+};
+use std::alloc::Global;
+
+type Engine = SessionEngine<Listening>;
+
+/// A session that was accepted.
+fn accepted(alloc: Global) -> Option<Engine> {
+    let acceptor = transactional();
+    let answer = acceptor.accept_incoming_session(alloc, incoming(), OutgoingChannel(4));
+    drop(acceptor);
+    let (session, begin) = answer.ok()?;
+    drop(begin);
+    match session {
+        AcceptedSession::Transactional(engine) => Some(engine),
+        AcceptedSession::Plain(engine) => {
+            drop(engine);
+            None
+        }
+    }
+}
+
+/// What the engine answers to a frame. Like those below it says nothing of the session, so that
+/// each call of the engine is proved once.
+fn taken(engine: &mut Engine, frame: Frame) -> Result<Turn, SessionInnerError> {
+    engine.on_incoming(SessionFrame {
+        channel: 3,
+        body: SessionFrameBody::Link(frame),
+    })
+}
+
+/// What the engine answers to a control.
+fn asked(engine: &mut Engine, control: SessionControl) -> Result<Turn, SessionInnerError> {
+    engine.on_control(control, &mut CountIds::new())
+}
+
+/// Whether the answer is this Err. It says nothing of it, so that no proof of a test looks into the
+/// error.
+fn refuses<T: Drop, E: PartialEq + Drop>(answer: Result<T, E>, wanted: E) -> bool {
+    match answer {
+        Ok(value) => {
+            drop(value);
+            false
+        }
+        Err(error) => error == wanted,
+    }
+}
+
+/// How many frames are to be sent for a frame; None where it was refused.
+fn given_for(engine: &mut Engine, frame: Frame) -> Option<usize> {
+    let turn = taken(engine, frame).ok()?;
+    let count = turn.sent.given.len();
+    drop(turn);
+    Some(count)
+}
+
+/// How many frames a commit handed, or how it ended otherwise; None where it was refused.
+fn committed(
+    engine: &mut Engine,
+    txn_id: TransactionId,
+) -> Option<Result<usize, TransactionError>> {
+    let turn = asked(engine, SessionControl::CommitTransaction { txn_id }).ok()?;
+    let found = match &turn.reply {
+        ControlReply::Committed(Ok(echoes)) => Some(Ok(echoes.len())),
+        ControlReply::Committed(Err(error)) => Some(Err(*error)),
+        _ => None,
+    };
+    drop(turn);
+    found
+}
+
+/// A session with a receiver of its own on the handle of the posts, and a live id.
+fn receiving(alloc: Global) -> Option<Engine> {
+    let mut engine = accepted(alloc)?;
+    let control = SessionControl::AllocateIncomingLink {
+        link_name: Text::new(alloc),
+        link_relay: relay(alloc, Role::Receiver),
+        input_handle: InputHandle(5),
+    };
+    drop(asked(&mut engine, control));
+    drop(asked(&mut engine, SessionControl::AllocateTransactionId));
+    Some(engine)
+}
+
+#[test]
+fn a_post_on_a_handle_without_a_link_is_vetoed(rt: HostRuntime) {
+    let mut engine = accepted(rt.alloc()).expect(&rt, "a session");
+    drop(asked(&mut engine, SessionControl::AllocateTransactionId));
+    let id = numbered_id(1);
+    let given = given_for(&mut engine, transfer(under(id)));
+    let vetoed = committed(&mut engine, id);
+    let still_live = engine.session().is_live(&id);
+    drop(engine);
+    assert!(rt; given == Some(1));
+    assert!(rt; vetoed == Some(Err(TransactionError::Rollback)));
+    assert!(rt; !still_live);
+}
+
+#[test]
+fn a_post_is_kept_and_committed(rt: HostRuntime) {
+    let mut engine = receiving(rt.alloc()).expect(&rt, "a session");
+    let id = numbered_id(1);
+    let live = engine.session().is_live(&id);
+    let given = given_for(&mut engine, transfer(under(id)));
+    let handed = committed(&mut engine, id);
+    let still_live = engine.session().is_live(&id);
+    drop(engine);
+    assert!(rt; live);
+    assert!(rt; given == Some(1));
+    assert!(rt; handed == Some(Ok(1)));
+    assert!(rt; !still_live);
+}
+
+#[test]
+fn a_plain_frame_is_handed(rt: HostRuntime) {
+    let alloc = rt.alloc();
+    let mut engine = accepted(alloc).expect(&rt, "a session");
+    let link = sender_attach(Text::new(alloc), 1, None);
+    let given = given_for(&mut engine, Frame::Attach(link));
+    let (mut session, outcome) = engine.finish(Ok(()));
+    drop(outcome);
+    let waits = session.next_attach();
+    drop(session);
+    assert!(rt; given == Some(0));
+    assert!(rt; waits.is_some());
+}
+
+#[test]
+fn an_id_that_is_not_live_stops_the_session(rt: HostRuntime) {
+    let mut engine = accepted(rt.alloc()).expect(&rt, "a session");
+    let answer = taken(&mut engine, transfer(under(numbered_id(1))));
+    let code = engine.session().stop_code();
+    let after = taken(&mut engine, transfer(None));
+    drop(engine);
+    assert!(rt; refuses(answer, SessionInnerError::UnknownTxnId));
+    assert!(rt; code == Some(StopCode::UnknownTxnId));
+    assert!(rt; refuses(after, SessionInnerError::IllegalState));
+}
+
+#[test]
+fn a_control_link_is_opened(rt: HostRuntime) {
+    let alloc = rt.alloc();
+    let mut engine = accepted(alloc).expect(&rt, "a session");
+    let given = given_for(
+        &mut engine,
+        Frame::Attach(control_attach(Text::new(alloc), 0)),
+    );
+    let opened = engine.session().links_opened();
+    drop(engine);
+    assert!(rt; given == Some(2));
+    assert_eq!(rt; opened, 1);
+}

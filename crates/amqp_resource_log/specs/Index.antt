@@ -1,0 +1,64 @@
+-- The index of the log: for each opened id, the places of its live cells.
+use Rattle.std.specs.Prelude.{ℕ, ◌≡◌, ◌==◌, Bool, true, cond, Option, Some, None, Result, Ok, List, [], ◌∷◌, ◌++◌, ◌+◌, count_by, if◌then◌else◌, is_some, length}
+use Rattle.std.specs.List.{IsDistinct}
+use Rattle.std.specs.Map.{keys_of, lookup}
+use Rattle.amqp_txn_types.specs.declared.items.NoMemory.{NoMemory}
+use Rattle.amqp_txn_types.specs.declared.id.TransactionId.{TransactionId}
+use Rattle.amqp_txn_types.specs.Ids.{same_id}
+use Rattle.amqp_resource_log.specs.declared.cell.Cell.{Cell}
+use Rattle.amqp_resource_log.specs.declared.opened.Opened.{Opened}
+use Rattle.amqp_resource_log.specs.Cells.{is_dead_cell, places_from}
+
+-- the opened ids, each with its link and its places
+abbrev pub Index : Type 0
+Index = List (TransactionId × Opened)
+
+-- the places that a look-up found
+abbrev pub places_in : Option Opened → List ℕ
+places_in None = []
+places_in (Some found) = found.places.items
+
+-- the places that are kept for an id
+abbrev pub places_kept : Index → TransactionId → List ℕ
+places_kept index t = places_in (lookup (same_id t) index)
+
+-- the opened ids, each with its link
+abbrev pub homes_in : Index → List (TransactionId × Option ℕ)
+homes_in [] = []
+homes_in (e ∷ es) = (e.0, e.1.home) ∷ homes_in es
+
+-- with this place after the others, where it was added
+abbrev pub places_added : Result Bool NoMemory → ℕ → List ℕ → List ℕ
+places_added (Ok true) n ms = ms ++ n ∷ []
+places_added _ n ms = ms
+
+-- without the first of some places that is this one
+abbrev pub without_place : ℕ → List ℕ → List ℕ
+without_place n [] = []
+without_place n (m ∷ ms) = cond (m == n) ms (m ∷ without_place n ms)
+
+-- without the first place, and with this one after the others
+abbrev pub moved_to : ℕ → List ℕ → List ℕ
+moved_to n [] = []
+moved_to n (m ∷ ms) = ms ++ n ∷ []
+
+-- the places of one id are what this makes of them, and all else is as it was
+pub record Written (f : List ℕ → List ℕ) (id : TransactionId) (old new : Index) : Type 0 where
+  pub places : (t : TransactionId) → places_kept new t
+      ≡ cond (same_id t id) (f (places_kept old t)) (places_kept old t)
+  pub homes : homes_in new ≡ homes_in old
+
+-- an id was taken out, with its places
+pub record Without (id : TransactionId) (old new : Index) : Type 0 where
+  pub places : (t : TransactionId) → places_kept new t ≡ cond (same_id t id) [] (places_kept old t)
+  pub homes : (t : TransactionId) → lookup (same_id t) (homes_in new)
+      ≡ cond (same_id id t) None (lookup (same_id t) (homes_in old))
+  pub distinct : IsDistinct same_id (keys_of (homes_in new))
+  pub len : length (homes_in new) + (if is_some (lookup (same_id id) (homes_in old)) then 1 else 0)
+      ≡ length (homes_in old)
+
+-- the index gives, for each opened id, the places of its live cells, and no cell is live with
+-- another id; so many cells are dead
+pub record Indexed (cs : List Cell) (index : Index) (dead : ℕ) : Type 0 where
+  pub places : (t : TransactionId) → places_kept index t ≡ places_from 0 t cs
+  pub gone : dead ≡ count_by is_dead_cell cs

@@ -1,0 +1,29 @@
+-- When a step is answered well.
+use Rattle.std.specs.Prelude.{ℕ, ◌≡◌, Result, Ok, Err, List, length}
+use Rattle.amqp_resource_session.specs.Words.{AreNext, DrawnIds, Entry, Reply, Rose, Step, StepError, Told, TransactionId, Valid}
+use Rattle.amqp_resource_record.specs.declared.reply.Reply.TheVariants as replies
+use Rattle.amqp_resource_record.specs.declared.stop.StepError.TheVariants as errors
+
+-- one of the five replies that do what was asked
+abbrev pub DoesIt : Reply → Type 0
+DoesIt (replies.Frames a) = Unit {0}
+DoesIt (replies.Attached link given) = Unit {0}
+DoesIt replies.LinkEnded = Unit {0}
+DoesIt (replies.Declared t) = Unit {0}
+DoesIt (replies.Accepted echoes) = Unit {0}
+DoesIt _ = ⊥
+
+-- such a reply, or want of memory
+abbrev pub Completed : Result (DrawnIds × Reply) StepError → Type 0
+Completed (Ok out) = DoesIt out.1
+Completed (Err errors.NoMemory) = Unit {0}
+Completed (Err _) = ⊥
+
+-- the premises: the step is valid, and neither a refusal nor a veto was counted
+pub record InOrder (old new : Told) (ids : ℕ → TransactionId) (r : List Entry) (s : Step)
+    (n : List TransactionId) : Type 0 where
+  pub next : AreNext ids 0 n
+  pub count : length n ≡ 16
+  pub valid : Valid r s n
+  pub quiet : Rose old.refusals new.refusals → ⊥
+  pub calm : Rose old.reviews.vetoes new.reviews.vetoes → ⊥

@@ -1,0 +1,91 @@
+-- What driving a list of steps leaves.
+use Rattle.std.specs.Prelude.{ℕ, ◌≡◌, ◌≤◌, ◌+◌, ◌-◌, ◌^◌, ◌⊎◌, Bool, true, false, not, min, Option, Some, None, List, ◌∷◌, ◌++◌, length, take, MatchBool, if◌then◌else◌}
+use Rattle.std.specs.List.{sum_by}
+use Rattle.amqp_resource_session.specs.Words.{Entry, Frame, Refusal, SessionInnerError, Step, StepError, Stop, TookFrames, TxnSession, attach_refused_count, grown, hands, pairs, refuses, steps_of, veto_count}
+use Rattle.amqp_resource_record.specs.declared.stop.Stop.TheVariants as stops
+use Rattle.amqp_resource_record.specs.declared.stop.StepError.TheVariants as errors
+use Rattle.amqp_resource_record.specs.Stops.{code_of}
+use Rattle.amqp_resource_session.specs.Steps.{is_unknown, ended_by, takes_memory, StopsSurely, UnderDead, MayFault, AddsRefusal}
+use Rattle.amqp_resource_session.specs.Views.{view_of_record}
+use Rattle.amqp_resource_session.specs.Looking.{frames_added}
+use Rattle.amqp_resource_session.specs.Session.{StandsFor, stop_of}
+
+-- the steps are those of the entries, and then these
+abbrev pub Left : List Step → List Entry → List Step → Type 0
+Left all r rest = all ≡ steps_of r ++ rest
+
+-- how many frames of transactional work there are among the entries
+abbrev pub work_count : List Entry → ℕ
+work_count r = sum_by (λ (e : Entry). frames_added e.step) r
+
+-- there is a step after those of the entries, with a fact of it
+abbrev pub NextStep : List Step → List Entry → (Step → Type 0) → Type 0
+NextStep all r P = (s : Step) × (rest : List Step) × Left all r (s ∷ rest) × P s
+
+-- the stop is a refusal of the layer below
+abbrev pub is_refusal : Stop → Bool
+is_refusal (stops.Fault error) = not (is_unknown error)
+is_refusal _ = false
+
+-- a stop that is a refusal below, with a fact of its error
+abbrev pub IfRefusal : Stop → Type 0 → (SessionInnerError → Type 0) → Type 0
+IfRefusal (stops.Fault error) P Q = MatchBool (is_unknown error) P (Q error)
+IfRefusal _ P Q = P
+
+-- why the run stopped: every step has its entry, or the next step is what stopped it
+abbrev pub StopCause : List Step → List Entry → Stop → Type 0
+StopCause all r stops.Done = steps_of r ≡ all
+StopCause all r (stops.Fault error) =
+    NextStep all r (λ s. MatchBool (is_unknown error) (UnderDead (view_of_record r) s)
+    (MayFault (view_of_record r) s (hands r s) error))
+StopCause all r (stops.Ended reason) = NextStep all r (λ s. ended_by s ≡ Some reason)
+StopCause all r stops.NoMemory = NextStep all r (λ s. takes_memory (view_of_record r) s ≡ true)
+
+-- what was taken: the pairs of the record, and after a refusal below the first frames of the next
+-- step's
+abbrev pub RunTook : Option (List (Frame × List Frame)) → Option (List (Frame × List Frame))
+    → List Step → List Entry → Stop → ℕ → Type 0
+RunTook old new all r stop handed =
+    IfRefusal stop ((new ≡ grown old (pairs r)) × (handed ≡ 0))
+    (λ error. NextStep all r (λ s. (handed ≤ length (hands r s))
+    × TookFrames (grown old (pairs r)) new (take handed (hands r s))))
+
+-- what was refused: what the record says, and after a refusal below what the next step adds
+abbrev pub RunRefused : Option (List Refusal) → Option (List Refusal) → List Step → List Entry
+    → Stop → ℕ → Type 0
+RunRefused old new all r stop handed =
+    IfRefusal stop (new ≡ grown old (refuses r))
+    (λ error. NextStep all r (λ s. (more : List Refusal)
+    × AddsRefusal s (hands r s) handed error more × (new ≡ grown old (refuses r ++ more))))
+
+-- a refusal below in a commit, over a sure layer: no frame of it was taken
+abbrev pub RunStopsSurely : Bool → List Step → List Entry → Stop → ℕ → Type 0
+RunStopsSurely sure all r stop handed =
+    IfRefusal stop (Unit {0}) (λ error. NextStep all r (λ s. StopsSurely sure s handed))
+
+-- the session after the run: it stands for the record, or keeps the code of its stop
+abbrev pub RunLeaves : {S : Type 0} → TxnSession S → List Entry → Stop → Type 0
+RunLeaves x r stops.Done = StandsFor x r × (stop_of x ≡ None)
+RunLeaves x r stops.NoMemory = StandsFor x r × (stop_of x ≡ None)
+RunLeaves x r stop = stop_of x ≡ Some (code_of stop)
+
+-- the count of refusals rose by one for each refused attach, and by one for a refusal that stopped
+-- the run, or stands at its last value
+abbrev pub RunRose : ℕ → ℕ → List Entry → Stop → Type 0
+RunRose before now r stop =
+    min (before + attach_refused_count r + (if is_refusal stop then 1 else 0)) (2 ^ 64 - 1) ≤ now
+
+-- the count of vetoes rose by one for each veto, or stands at its last value
+abbrev pub RunVetoed : ℕ → ℕ → List Entry → Type 0
+RunVetoed before now r = min (before + veto_count r) (2 ^ 64 - 1) ≤ now
+
+-- the stop, or want of memory
+abbrev pub StopsWith : Stop → Stop → Type 0
+StopsWith stop wanted = (stop ≡ wanted) ⊎ (stop ≡ stops.NoMemory)
+
+-- the stop of a step's error, with the number handed
+abbrev pub StopsBy : StepError → Stop → ℕ → Type 0
+StopsBy (errors.Fault error n) stop handed = (stop ≡ stops.Fault error) × (handed ≡ n)
+StopsBy (errors.Ended reason) stop handed = (stop ≡ stops.Ended reason) × (handed ≡ 0)
+StopsBy (errors.Stopped code) stop handed = ⊥
+StopsBy errors.NoMemory stop handed = (stop ≡ stops.NoMemory) × (handed ≡ 0)

@@ -1,0 +1,100 @@
+-- The parts of a session that clauses speak of.
+use Rattle.std.specs.Prelude.{ℕ, ◌≡◌, Bool, Option, Some, None, Result, Ok, Err, List, []}
+use Rattle.amqp_resource_session.specs.Words.{DrawnIds, Entry, Held, Reply, StepError, StopCode, Told, TransactionId, TxnSession, fault_code, frame_count, owed}
+use Rattle.amqp_txn_types.specs.declared.small.SessionState.TheVariants.{Mapped}
+use Rattle.amqp_resource_record.specs.declared.stop.StepError.TheVariants as errors
+use Rattle.amqp_resource_record.specs.Stops.{ended_code}
+use Rattle.amqp_resource_session.specs.Held.{Stands, SameHeld}
+use Rattle.amqp_resource_session.specs.Keeping.{Fits}
+use Rattle.amqp_resource_session.specs.Views.{View, view_of_held}
+use Rattle.amqp_resource_session.specs.Draws.{is_kept}
+
+-- what a session keeps
+abbrev pub held_of : {S : Type 0} → TxnSession S → Held
+held_of x = x.held
+
+-- the view of what it keeps
+abbrev pub view_of : {S : Type 0} → TxnSession S → View
+view_of x = view_of_held (held_of x)
+
+-- the layer below
+abbrev pub below_of : {S : Type 0} → TxnSession S → S
+below_of x = x.below
+
+-- what the layer below tells
+abbrev pub told_of : {S : Type 0} → (S → Told) → TxnSession S → Told
+told_of told x = told x.below
+
+-- the code of its stop, once it has stopped
+abbrev pub stop_of : {S : Type 0} → TxnSession S → Option StopCode
+stop_of x = x.stop
+
+-- how often its own calls, those of its traits, refused
+abbrev pub refusals_of : {S : Type 0} → TxnSession S → ℕ
+refusals_of x = x.refusals
+
+-- how often it vetoed a review
+abbrev pub vetoes_of : {S : Type 0} → TxnSession S → ℕ
+vetoes_of x = x.vetoes
+
+-- what a session tells of itself: none of the lists, its own counts, and what its layer below never
+-- changes
+abbrev pub own_told : {S : Type 0} → (S → Told) → TxnSession S → Told
+own_told told x = record {
+  taken = None;
+  opened = None;
+  refused = None;
+  refusals = refusals_of x;
+  reviews = record { vetoes = vetoes_of x; vetoed = None };
+  fixed = (told (below_of x)).fixed;
+}
+
+-- the looks that its log owes, for frames that were taken
+abbrev pub owed_of : {S : Type 0} → TxnSession S → ℕ
+owed_of x = owed x.held.work
+
+-- how many frames it keeps for live ids
+abbrev pub frame_count_of : {S : Type 0} → TxnSession S → ℕ
+frame_count_of x = frame_count x.held.work
+
+-- how many control links it has opened
+abbrev pub opened_of : {S : Type 0} → TxnSession S → ℕ
+opened_of x = x.held.opened
+
+-- what the session keeps fits together, as in a new one; each call of its own leaves it so
+abbrev pub FitsTogether : {S : Type 0} → TxnSession S → Type 0
+FitsTogether x = Fits (held_of x)
+
+-- the id is live on the session
+abbrev pub is_live_on : {S : Type 0} → TxnSession S → TransactionId → Bool
+is_live_on x t = is_kept x.held.work t
+
+-- a session stands for a record: the record is legal, and the session's live ids with their frames
+-- and holders, and its links, are those of the record
+abbrev pub StandsFor : {S : Type 0} → TxnSession S → List Entry → Type 0
+StandsFor x r = Stands (held_of x) r
+
+-- a session is as it was: its live ids with their links and frames, its open links, how many were
+-- opened so far, the layer below and the stop
+pub record SameSession {S : Type 0} (old new : TxnSession S) : Type 0 where
+  pub held : SameHeld (held_of old) (held_of new)
+  pub below : below_of new ≡ below_of old
+  pub stop : stop_of new ≡ stop_of old
+
+-- a fresh session: no live id, no link opened so far, not stopped, and mapped below
+pub record IsFresh {S : Type 0} (told : S → Told) (x : TxnSession S) : Type 0 where
+  pub stands : StandsFor x []
+  pub runs : stop_of x ≡ None
+  pub mapped : (told (below_of x)).fixed.state ≡ Mapped
+
+-- the code that is kept after an answer
+abbrev pub StopAfter : Result (DrawnIds × Reply) StepError → Option StopCode → Type 0
+StopAfter (Ok out) stop = stop ≡ None
+StopAfter (Err (errors.Fault error handed)) stop = stop ≡ Some (fault_code error)
+StopAfter (Err (errors.Ended reason)) stop = stop ≡ Some (ended_code reason)
+StopAfter (Err (errors.Stopped code)) stop = stop ≡ Some code
+StopAfter (Err errors.NoMemory) stop = stop ≡ None
+
+-- a fact of each record that a session stands for which hasn't stopped
+abbrev pub ForEachRecord : {S : Type 0} → TxnSession S → (List Entry → Type 0) → Type 0
+ForEachRecord x P = stop_of x ≡ None → (r : List Entry) → StandsFor x r → P r

@@ -1,0 +1,4 @@
+use Rattle.amqp_resource_tests.proofs.arrival_tests.with_two_ids.Given as goal
+
+abbrev pub ghosts-run_case : goal.ghosts-run_case
+ghosts-run_case g a = record { name = a.blank.name; parts = a.blank.parts }
