@@ -143,7 +143,7 @@ abbrev pub AcceptsLeaves : Names → Names → Text → Result (List Frame) Sess
 AcceptsLeaves old new name (Ok given) = OpensLink old new name
 AcceptsLeaves old new name (Err error) = SameNames old new
 
--- an Err comes only where the listener's count rose: but for want of memory, where a stop reason
+-- an Err comes only where the listener's count rose: but where memory runs out, where a stop reason
 -- is kept, or where the target is a coordinator
 abbrev pub AttachCause : Option SessionStopReason → Attach → Told → Told → SessionInnerError
     → Type 0

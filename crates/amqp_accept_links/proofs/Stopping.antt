@@ -6,7 +6,7 @@ use Rattle.amqp_txn_types.specs.declared.small.Role.TheVariants as roles
 use Rattle.amqp_accept_links.specs.declared.endpoint.AcceptorAttachError.{AcceptorAttachError}
 use Rattle.amqp_accept_links.specs.LinkAcceptors.{LinkToldStop, OnLinkRefusal, TellsStop, no_memory_for}
 
--- want of memory at a local end
+-- out of memory at a local end
 no_memory-uncounted : (A : Type 0) (role : Role) (P : Type 0)
     → OnLinkRefusal {A = A} (Err (no_memory_for role)) P
 no_memory-uncounted A roles.Sender P = tt
@@ -19,7 +19,7 @@ pub stop-uncounted : (A : Type 0) (reason : SessionStopReason) (role : Role)
 stop-uncounted A reason role error P (inl told) = rw told tt
 stop-uncounted A reason role error P (inr lacks) = rw lacks (no_memory-uncounted A role P)
 
--- want of memory at a local end tells no stop
+-- out of memory at a local end tells no stop
 no_memory-tells : (stop : Option SessionStopReason) (role : Role)
     → LinkToldStop stop (no_memory_for role)
 no_memory-tells stop roles.Sender = tt

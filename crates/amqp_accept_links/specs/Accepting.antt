@@ -19,13 +19,13 @@ use Rattle.amqp_accept_links.specs.declared.opening.Opening.{Opening}
 use Rattle.amqp_accept_links.specs.declared.opening.OpenError.{OpenError}
 use Rattle.amqp_accept_links.specs.declared.opening.OpenError.TheVariants as errors
 
--- why a receiving end isn't attached whose link isn't opened: want of memory stays that
+-- why a receiving end isn't attached whose link isn't opened: out of memory stays that
 abbrev pub receiver_refusal : OpenError → ReceiverAttachError
 receiver_refusal (errors.Alloc error) = receiver_error error
 receiver_refusal (errors.Session faults.NoMemory) = receivers.NoMemory
 receiver_refusal (errors.Session error) = receivers.Session error
 
--- why a sending end isn't attached whose link isn't opened: want of memory stays that
+-- why a sending end isn't attached whose link isn't opened: out of memory stays that
 abbrev pub sender_refusal : OpenError → SenderAttachError
 sender_refusal (errors.Alloc error) = sender_error error
 sender_refusal (errors.Session faults.NoMemory) = senders.NoMemory
@@ -42,7 +42,7 @@ AcceptsBy Ready Opens answer no_memory old new result =
     ⊎ ((opening : Opening) × (opened : Result (OutputHandle × List Frame) OpenError)
     × Ready opening × Opens old new opening opened × (result ≡ answer opening opened))
 
--- the fact holds where a receiving end was refused but for want of memory or its kind of target
+-- the fact holds where a receiving end was refused but where memory runs out or its kind of target
 abbrev pub OnReceiverRefusal : {A : Type 0} → Result A ReceiverAttachError → Type 0 → Type 0
 OnReceiverRefusal (Err (receivers.Alloc error)) P = P
 OnReceiverRefusal (Err (receivers.Session error)) P = P

@@ -31,8 +31,8 @@ next_of (attach ∷ rest) closed = polls.Ready (Some attach)
 abbrev pub next_incoming : Queue → Poll (Option Attach)
 next_incoming queue = next_of queue.waiting queue.closed
 
--- the session stopped: for the reason that is kept, whose copy may want memory as a local receiver
--- does; or because it ended, where none is kept
+-- the session stopped: for the reason that is kept, whose copy may run out of memory as a local
+-- receiver does; or because it ended, where none is kept
 abbrev pub TellsStopOrEnd : Option SessionStopReason → AcceptorAttachError → Type 0
 TellsStopOrEnd (Some reason) error = TellsStop reason roles.Sender error
 TellsStopOrEnd None error = error ≡ errors.SessionStopped reasons.Ended
@@ -76,7 +76,7 @@ NextStoppedBy (polls.Ready (Some attach)) stop (polls.Ready answer) =
     AcceptStoppedBy LinkToldStop stop answer
 NextStoppedBy next stop result = Unit {0}
 
--- the fact holds where a local end was refused but for want of memory or its kind of target
+-- the fact holds where a local end was refused but where memory runs out or its kind of target
 abbrev pub OnNextRefusal : {A : Type 0} → Poll (Result A AcceptorAttachError) → Type 0 → Type 0
 OnNextRefusal polls.Pending P = Unit {0}
 OnNextRefusal (polls.Ready answer) P = OnLinkRefusal answer P

@@ -51,7 +51,7 @@ end_output (endpoints.Receiver wire) = wire.end.output
 abbrev pub link_output : LinkEndpoint × List Frame → OutputHandle
 link_output accepted = end_output accepted.0
 
--- want of memory at the local end, by the peer's role
+-- out of memory at the local end, by the peer's role
 abbrev pub no_memory_for : Role → AcceptorAttachError
 no_memory_for roles.Sender = errors.LocalReceiver receivers.NoMemory
 no_memory_for roles.Receiver = errors.LocalSender senders.NoMemory
@@ -118,7 +118,7 @@ LinkToldStop stop (errors.SessionStopped reason) = stop ≡ Some reason
 LinkToldStop stop (errors.LocalSender error) = SenderToldStop stop error
 LinkToldStop stop (errors.LocalReceiver error) = ReceiverToldStop stop error
 
--- the fact holds where a local end was refused but for want of memory or its kind of target
+-- the fact holds where a local end was refused but where memory runs out or its kind of target
 abbrev pub OnLinkRefusal : {A : Type 0} → Result A AcceptorAttachError → Type 0 → Type 0
 OnLinkRefusal {A} (Err (errors.LocalSender error)) P = OnSenderRefusal {A = A} (Err error) P
 OnLinkRefusal {A} (Err (errors.LocalReceiver error)) P = OnReceiverRefusal {A = A} (Err error) P

@@ -71,7 +71,7 @@ AcceptsSource decides capabilities shared delivery_count remote Opens old new re
     (SenderReady (LocalSource decides capabilities remote.source) shared delivery_count remote)
     Opens sender_answer refusals.NoMemory old new result
 
--- the fact holds where a sending end was refused but for want of memory
+-- the fact holds where a sending end was refused but where memory runs out
 abbrev pub OnSenderRefusal : {A : Type 0} → Result A SenderAttachError → Type 0 → Type 0
 OnSenderRefusal (Ok accepted) P = Unit {0}
 OnSenderRefusal (Err refusals.NoMemory) P = Unit {0}

@@ -76,7 +76,7 @@ impl ControlLinkAcceptor {
         }
     }
 
-    /// A control link, ready to be opened. The only error is want of memory.
+    /// A control link, ready to be opened. The only error is out of memory.
     pub fn prepare(&self, alloc: Global, remote: &Attach) -> Result<Opening, NoMemory>
         ensures { IfOk result (λ opening. opening ≡ control_opening self.now remote.now) }
     {
@@ -94,8 +94,8 @@ impl ControlLinkAcceptor {
     /// link).
     ///
     /// Errors: `Alloc` where the session doesn't allocate the link; `Session` where the session
-    /// refuses the flow, and the output handle that it allocated is then freed; `NoMemory` for want
-    /// of memory, of the session too. It is never `CoordinatorIsNotImplemented`.
+    /// refuses the flow, and the output handle that it allocated is then freed; `NoMemory` where
+    /// memory runs out, of the session too. It is never `CoordinatorIsNotImplemented`.
     ///
     /// # Requires
     ///

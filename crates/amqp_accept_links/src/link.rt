@@ -148,7 +148,7 @@ impl<FS: OnDynamic<Source>, FT: OnDynamic<Target>> LinkAcceptor<FS, FT> {
     ///
     /// Errors: `SessionStopped` where the session keeps a reason why it stopped; else
     /// `LocalReceiver` with `CoordinatorIsNotImplemented` where the target is a coordinator,
-    /// whatever the peer's role; else that of the local end, by the peer's role. Want of memory is
+    /// whatever the peer's role; else that of the local end, by the peer's role. Out of memory is
     /// that of the local end.
     ///
     /// # Requires
@@ -193,7 +193,7 @@ impl<FS: OnDynamic<Source>, FT: OnDynamic<Target>> LinkAcceptor<FS, FT> {
     ///
     /// Errors: `SessionStopped` where the queue is closed and empty, with the reason that the
     /// session keeps, or `Ended` where it keeps none; else those of
-    /// [`LinkAcceptor::accept_incoming_attach`], and the attach is then out of the queue. Want of
+    /// [`LinkAcceptor::accept_incoming_attach`], and the attach is then out of the queue. Out of
     /// memory to copy the kept reason is that of a local receiver.
     ///
     /// # Requires
@@ -272,7 +272,7 @@ impl<FS: OnDynamic<Source>, FT: OnDynamic<Target>> LinkAcceptor<FS, FT> {
     }
 }
 
-/// That the session had stopped: for the reason that is kept, or want of memory at a local receiver
+/// That the session had stopped: for the reason that is kept, or out of memory at a local receiver
 /// to tell it; or because it ended, where none is kept.
 fn stopped_or_ended(reason: Option<&SessionStopReason>) -> AcceptorAttachError
     ensures { TellsStopOrEnd (option_copied reason.entry) result }
@@ -283,7 +283,7 @@ fn stopped_or_ended(reason: Option<&SessionStopReason>) -> AcceptorAttachError
     }
 }
 
-/// That the session had stopped; or want of memory at the local end, by the peer's role.
+/// That the session had stopped; or out of memory at the local end, by the peer's role.
 fn stopped(reason: &SessionStopReason, role: Role) -> AcceptorAttachError
     ensures { TellsStop reason.now role result }
 {

@@ -58,7 +58,7 @@ impl Opening {
     ghost use Rattle.amqp_accept_links.specs.Opening.{end_of, opening_of};
 
     /// The peer's link with this side's terminus in its place, ready to be opened. The only error
-    /// is want of memory.
+    /// is out of memory.
     pub(crate) fn new(
         alloc: Global,
         shared: &SharedLinkAcceptorFields,
@@ -84,7 +84,7 @@ impl Opening {
         })
     }
 
-    /// What the link's end will know of itself under an output handle. The only error is want of
+    /// What the link's end will know of itself under an output handle. The only error is out of
     /// memory.
     pub(crate) fn end(&self, output: OutputHandle) -> Result<LinkEnd, NoMemory>
         ensures { IfOk result (λ end. end ≡ end_of self.now output) }

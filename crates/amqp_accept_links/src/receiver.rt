@@ -110,7 +110,7 @@ impl<T: TargetKind, F: OnDynamic<T>> LocalReceiverLinkAcceptor<T, F> {
     ghost use Rattle.amqp_accept_links.specs.Receivers.{AcceptsReceiver, ReceiverReady, receiver_answer};
     ghost use Rattle.amqp_accept_links.specs.Termini.{LocalTerminus};
 
-    /// The link, ready to be opened. The only error is want of memory.
+    /// The link, ready to be opened. The only error is out of memory.
     fn prepare(
         &self,
         alloc: Global,
@@ -139,8 +139,8 @@ impl<T: TargetKind, F: OnDynamic<T>> LocalReceiverLinkAcceptor<T, F> {
     ///
     /// Errors: `CoordinatorIsNotImplemented` exactly where there is a target and it is of another
     /// kind; else `Alloc` where the session doesn't allocate the link; `Session` where the session
-    /// refuses the flow, and the output handle that it allocated is then freed; `NoMemory` for want
-    /// of memory, of the session too.
+    /// refuses the flow, and the output handle that it allocated is then freed; `NoMemory` where
+    /// memory runs out, of the session too.
     ///
     /// # Requires
     ///

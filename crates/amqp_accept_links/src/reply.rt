@@ -37,7 +37,7 @@ impl Model for Reply {
 }
 
 impl Reply {
-    /// The reply with these frames. The only error is want of memory.
+    /// The reply with these frames. The only error is out of memory.
     pub(crate) fn new(
         alloc: Global,
         attach: Attach,
@@ -111,7 +111,7 @@ fn grant<S: Session>(
 }
 
 /// The attach that answers the peer's, still with the peer's handle and termini. The only error is
-/// want of memory.
+/// out of memory.
 pub(crate) fn reply_to(
     shared: &SharedLinkAcceptorFields,
     remote: Attach,

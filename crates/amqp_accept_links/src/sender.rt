@@ -63,7 +63,7 @@ impl<F: OnDynamic<Source>> LocalSenderLinkAcceptor<F> {
     ghost use Rattle.amqp_accept_links.specs.Opening.{OpensThrough};
     ghost use Rattle.amqp_accept_links.specs.Senders.{AcceptsSource, LocalSource, SenderReady, SenderTold, sender_output};
 
-    /// The link, ready to be opened. The only error is want of memory.
+    /// The link, ready to be opened. The only error is out of memory.
     fn prepare(
         &self,
         alloc: Global,
@@ -90,8 +90,8 @@ impl<F: OnDynamic<Source>> LocalSenderLinkAcceptor<F> {
     /// 2 of the standard, section 2.6.3 (establishing a link). The peer's target is answered as it
     /// is.
     ///
-    /// Errors: `Alloc` where the session doesn't allocate the link; `NoMemory` for want of memory,
-    /// of the session too. It is never `SessionStopped` or `Session`.
+    /// Errors: `Alloc` where the session doesn't allocate the link; `NoMemory` where memory runs
+    /// out, of the session too. It is never `SessionStopped` or `Session`.
     ///
     /// # Requires
     ///

@@ -157,7 +157,7 @@ pub(crate) fn kind_of_target<T: TargetKind>(target: Option<TargetArchetype>) -> 
 }
 
 /// The local terminus for the peer's, with this side's capabilities: a dynamic one is what the rule
-/// answers. The only error is want of memory.
+/// answers. The only error is out of memory.
 pub(crate) fn local_terminus<T: Terminus, F: OnDynamic<T>>(
     rule: &F,
     terminus: Option<T>,

@@ -38,7 +38,7 @@ abbrev pub control_answer : Result (OutputHandle × List Frame) OpenError
 control_answer (Ok opened) = Ok opened.1
 control_answer (Err error) = Err (control_refusal error)
 
--- a refusal but for want of memory comes only where the session's count rose
+-- a refusal but where memory runs out comes only where the session's count rose
 abbrev pub CausedBelow : SessionInnerError → Told → Told → Type 0
 CausedBelow error old new = is_no_memory error ≡ false → Rose old.refusals new.refusals
 

@@ -24,7 +24,7 @@ abbrev pub unqueued_fault : NameState → SessionInnerError
 unqueued_fault Taken = faults.HandleInUse
 unqueued_fault _ = faults.UnattachedHandle
 
--- why an attach isn't queued: the queue is closed, else for want of memory
+-- why an attach isn't queued: the queue is closed, else where memory runs out
 abbrev pub why_unqueued : Bool → NameState → SessionInnerError
 why_unqueued true state = unqueued_fault state
 why_unqueued false state = faults.NoMemory

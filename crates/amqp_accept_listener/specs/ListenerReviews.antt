@@ -27,7 +27,7 @@ lasts-weakened : {T : Type 0} (sure : Bool) (left more : Type 0)
 lasts-weakened sure left more (Ok value) then lasts = then lasts
 lasts-weakened sure left more (Err error) then lasts = (lasts.0, refl)
 
--- want of memory isn't let pass
+-- out of memory isn't let pass
 want-let_pass : (sure : Bool) (left : Type 0) (error : SessionInnerError) → OnlyNoMemory sure error
     → Lasts false left (let_pass (Err error))
 want-let_pass sure left faults.NoMemory only = (refl, refl)

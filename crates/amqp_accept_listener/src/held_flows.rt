@@ -32,7 +32,7 @@ impl HeldFlows {
         }
     }
 
-    /// Room for one more flow of a handle. The only error is want of memory.
+    /// Room for one more flow of a handle. The only error is out of memory.
     fn make_room(&mut self, input: InputHandle) -> Result<(), NoMemory>
         ensures same { SameHeld (flows_for self.old) (flows_for self.new) }
         ensures room { OnOk result (HasRoom self.new input) }
@@ -45,7 +45,7 @@ impl HeldFlows {
     }
 
     /// A copy of the part of a flow that is about one link, with room to hold it; `None` where the
-    /// flow names no link. The only error is want of memory.
+    /// flow names no link. The only error is out of memory.
     pub fn prepare(&mut self, flow: &Flow) -> Result<Option<LinkFlow>, NoMemory>
         ensures same { SameHeld (flows_for self.old) (flows_for self.new) }
         ensures copy { IfOk result (λ copy. copy ≡ link_flow_in flow.now) }
@@ -85,7 +85,7 @@ impl HeldFlows {
     }
 
     /// The relay with copies of the flows that are held for a handle, in the order in which they
-    /// came, after its own. The only error is want of memory.
+    /// came, after its own. The only error is out of memory.
     pub fn replay(&self, input: InputHandle, mut relay: Relay) -> Result<Relay, NoMemory>
         ensures { IfOk result (λ now. now ≡ replaying (flows_for self.now input) relay) }
     {
@@ -103,7 +103,7 @@ impl HeldFlows {
     }
 }
 
-/// Room for one more flow in the list of a handle that has one. The only error is want of memory.
+/// Room for one more flow in the list of a handle that has one. The only error is out of memory.
 fn grow_list(flows: &mut FlowsByHandle, input: InputHandle) -> Result<(), NoMemory>
     requires { IsSome (entry_of same_input flows.old input) }
     ensures same { SameLists flows.old flows.new }
@@ -115,7 +115,7 @@ fn grow_list(flows: &mut FlowsByHandle, input: InputHandle) -> Result<(), NoMemo
     Ok(())
 }
 
-/// A list with room for one flow, for a handle that has none. The only error is want of memory.
+/// A list with room for one flow, for a handle that has none. The only error is out of memory.
 fn start_list(flows: &mut FlowsByHandle, alloc: Global, input: InputHandle) -> Result<(), NoMemory>
     requires { entry_of same_input flows.old input ≡ None }
     ensures same { SameLists flows.old flows.new }
@@ -138,7 +138,7 @@ fn remove_empty(flows: &mut FlowsByHandle, input: InputHandle)
     }
 }
 
-/// Appends copies of some flows, in their order. The only error is want of memory.
+/// Appends copies of some flows, in their order. The only error is out of memory.
 fn append_copies(flows: &mut LinkFlows, more: &[LinkFlow]) -> Result<(), NoMemory>
     ensures { OnOk result (flows.new ≡ flows.old ++ more.now) }
 {

@@ -42,7 +42,7 @@ session_taken connection = record connection { waiting = drop 1 connection.waiti
 abbrev pub failed_once : InMemory → InMemory
 failed_once connection = record connection { faults = one_more connection.faults }
 
--- the fault of a connection that stopped; its reason may want memory for its copy
+-- the fault of a connection that stopped; its reason may run out of memory for its copy
 abbrev pub IsStopFault : ConnectionStopReason → AllocSessionError → Type 0
 IsStopFault reason refusals.ChannelMaxReached = ⊥
 IsStopFault reason (refusals.ConnectionStopped told) = told ≡ reason

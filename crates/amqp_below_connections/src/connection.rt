@@ -37,7 +37,7 @@ pub enum AllocSessionError {
     /// The connection stopped.
     #[error("the connection stopped: {0:?}")]
     ConnectionStopped(ConnectionStopReason),
-    /// Want of memory.
+    /// Out of memory.
     #[error("out of memory")]
     NoMemory,
 }

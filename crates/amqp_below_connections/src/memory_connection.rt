@@ -59,8 +59,8 @@ impl MemoryConnection {
         }
     }
 
-    /// Has a session wait after those that do. For want of memory it comes back, and the connection
-    /// is as it was.
+    /// Has a session wait after those that do. Where memory runs out it comes back, and the
+    /// connection is as it was.
     pub fn push_session(
         &mut self,
         session: IncomingSession,
@@ -82,7 +82,7 @@ impl MemoryConnection {
     }
 }
 
-/// The stop reason as the fault of an allocation. The only other answer is want of memory.
+/// The stop reason as the fault of an allocation. The only other answer is out of memory.
 fn stop_fault(reason: &ConnectionStopReason) -> AllocSessionError
     ensures { IsStopFault reason.now result }
 {

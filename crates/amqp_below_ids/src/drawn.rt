@@ -53,7 +53,7 @@ impl Drawn {
         self.ids.get(index)
     }
 
-    /// Makes room for 16 ids in all. The only error is want of memory.
+    /// Makes room for 16 ids in all. The only error is out of memory.
     pub fn make_room(&mut self) -> Result<(), NoMemory>
         ensures ids { self.new.ids ≡ self.old.ids }
         ensures room { OnOk result (16 ≤ length self.new.ids + self.new.spare) }

@@ -16,7 +16,7 @@ pub struct ListIds {
 }
 
 impl ListIds {
-    /// A copy of the list, at its first id. The only error is want of memory.
+    /// A copy of the list, at its first id. The only error is out of memory.
     ///
     /// # Requires
     ///

@@ -31,7 +31,7 @@ all-stay-on takes sure check stays list old new (frame ∷ given) passed t =
     all-stay-on takes sure check stays list passed.0 new given passed.2
     (frame-stays-on takes sure check stays list old passed.0 frame passed.1 t)
 
--- a frame didn't pass the check: it wanted memory
+-- a frame didn't pass the check: it ran out of memory
 frame-wants : {S : Type 0} (takes : S → List Frame → Type 0) (sure : Bool) (check : S → S → Disposition → Result Unit SessionInnerError → Type 0)
     (stays : (old new : S) (d : Disposition) (answer : Result Unit SessionInnerError) → check old new d answer → StaysOn takes sure old new answer)
     (list : List Frame) (old new : S) (frame : Frame) (error : SessionInnerError)

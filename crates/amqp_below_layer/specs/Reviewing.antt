@@ -19,7 +19,7 @@ is_bare (frames.Transfer transfer payload) = not (is_under_txn transfer.state)
 is_bare (frames.Disposition d) = not (is_under_txn d.state)
 is_bare _ = false
 
--- the one answer beside Ok is want of memory, and a sure layer doesn't give that either
+-- the one answer beside Ok is out of memory, and a sure layer doesn't give that either
 abbrev pub OnlyNoMemory : Bool → SessionInnerError → Type 0
 OnlyNoMemory sure error = (is_no_memory error ≡ true) × (sure ≡ false)
 
@@ -28,12 +28,12 @@ abbrev pub OnAccept : Result Verdict NoMemory → Type 0 → Type 0
 OnAccept (Ok verdicts.Accept) promise = promise
 OnAccept _ promise = Unit {0}
 
--- a call after an Accept: an Ok leaves this, and an Err is want of memory
+-- a call after an Accept: an Ok leaves this, and an Err is out of memory
 abbrev pub Lasts : {T : Type 0} → Bool → Type 0 → Result T SessionInnerError → Type 0
 Lasts sure left (Ok value) = left
 Lasts sure left (Err error) = OnlyNoMemory sure error
 
--- the frame through the layer after an Accept: an Ok leaves this, and an Err is want of memory
+-- the frame through the layer after an Accept: an Ok leaves this, and an Err is out of memory
 abbrev pub LastsThrough : Bool → Type 0 → Result Answers TakeError → Type 0
 LastsThrough sure left (Ok answers) = left
 LastsThrough sure left (Err refusal) = OnlyNoMemory sure refusal.error
@@ -49,7 +49,7 @@ pub record StaysWanting (sure : Bool) (left : Type 0) (error : SessionInnerError
   pub stays : left
   pub wants : OnlyNoMemory sure error
 
--- a check after an Accept: this stays, and an Err is want of memory
+-- a check after an Accept: this stays, and an Err is out of memory
 abbrev pub Stays : Bool → Type 0 → Result Unit SessionInnerError → Type 0
 Stays sure left (Ok done) = left
 Stays sure left (Err error) = StaysWanting sure left error

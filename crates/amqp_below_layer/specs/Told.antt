@@ -15,8 +15,8 @@ use Rattle.amqp_below_layer.specs.declared.verdict.Verdict.{Verdict}
 use Rattle.amqp_below_layer.specs.declared.verdict.Verdict.TheVariants as verdicts
 
 -- what no call of a layer changes: the state of its session, and the numbers of the incoming frame
--- calls that it is planned to refuse, and of those that it is planned to answer with want of
--- memory, none but in a recorder
+-- calls that it is planned to refuse, and of those that it is planned to answer with out of memory,
+-- none but in a recorder
 pub record Fixed : Type 0 where
   pub state : SessionState
   pub plan : List ℕ
@@ -56,11 +56,11 @@ open_told = record {
 abbrev pub planned : List ℕ → Told → Told
 planned numbers told = record told { fixed = record told.fixed { plan = numbers } }
 
--- the same told, with another plan of the calls that want memory
+-- the same told, with another plan of the calls that run out of memory
 abbrev pub starving : List ℕ → Told → Told
 starving numbers told = record told { fixed = record told.fixed { starved = numbers } }
 
--- a refusal with its frame, and nothing for want of memory
+-- a refusal with its frame, and nothing where memory runs out
 abbrev pub refusal_of : Frame → SessionInnerError → List Refusal
 refusal_of frame error = cond (is_no_memory error) [] (record { frame = frame; error = error } ∷ [])
 
@@ -76,7 +76,7 @@ abbrev pub opened_after : Option (List (Attach × List Frame)) → Attach
 opened_after before attach (Ok given) = grown before ((attach, given) ∷ [])
 opened_after before attach (Err error) = before
 
--- an Err adds its frame and error, want of memory nothing
+-- an Err adds its frame and error, out of memory nothing
 abbrev pub refused_after : {T : Type 0} → Option (List Refusal) → Frame
     → Result T SessionInnerError → Option (List Refusal)
 refused_after before frame (Ok given) = before
@@ -125,7 +125,7 @@ abbrev pub vetoed_after : Option (List (List Frame)) → List Frame → Result V
 vetoed_after before list (Ok verdicts.Veto) = grown before (list ∷ [])
 vetoed_after before list _ = before
 
--- a Veto comes only where the vetoes rose, want of memory only where the refusals did
+-- a Veto comes only where the vetoes rose, out of memory only where the refusals did
 abbrev pub ReviewCause : Told → Told → Result Verdict NoMemory → Type 0
 ReviewCause old new (Ok verdicts.Accept) = Unit {0}
 ReviewCause old new (Ok verdicts.Veto) = Rose old.reviews.vetoes new.reviews.vetoes

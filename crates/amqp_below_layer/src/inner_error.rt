@@ -36,13 +36,13 @@ pub enum SessionInnerError {
     /// The transaction isn't known (`amqp:transaction:unknown-id`).
     #[error("the transaction id is not known")]
     UnknownTxnId,
-    /// Want of memory.
+    /// Out of memory.
     #[error("out of memory")]
     NoMemory,
 }
 
 impl SessionInnerError {
-    /// Whether it is want of memory.
+    /// Whether it is out of memory.
     pub fn is_no_memory(&self) -> bool
         ensures { result ≡ is_no_memory self.now }
     {

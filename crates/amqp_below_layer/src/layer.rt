@@ -14,7 +14,8 @@ use amqp_txn_types::{
 /// of refusals rose in the call, or stands at its last value, 2^64 - 1.
 ///
 /// Frames that belong together are reviewed before the first of them is handed. After an Accept
-/// each is taken in its turn, or refused for want of memory; a layer that is `sure` takes them all.
+/// each is taken in its turn, or refused where memory runs out; a layer that is `sure` takes them
+/// all.
 pub trait LayerBelow: Tells {
     ghost use Rattle.std.specs.Prelude.{◌≡◌, Bool, true, List, Option, Result};
     ghost use Rattle.std.specs.List.{list_all};
@@ -55,13 +56,13 @@ pub trait LayerBelow: Tells {
     ghost sure: { Bool };
 
     /// The incoming call of the first of some frames that it takes is Ok, and then it takes the
-    /// rest; or it wants memory.
+    /// rest; or it runs out of memory.
     ghost goes_on: { (old new : Self) (frame : Came) (answer : Result (List Came) Fault)
         → Self.incoming_gives old new frame answer
         → GoesOn Self.takes Self.sure old new frame answer };
 
     /// The check of a disposition among frames that it takes is Ok, and then it takes them still;
-    /// or it wants memory.
+    /// or it runs out of memory.
     ghost stays_on: { (old new : Self) (disposition : Settling) (answer : Result Unit Fault)
         → Self.check_gives old new disposition answer
         → StaysOn Self.takes Self.sure old new answer };
@@ -133,7 +134,7 @@ pub trait LayerBelow: Tells {
 
     /// Whether these frames, which are about to be handed one after another, would all be taken.
     /// None of them is handed by that. A Veto comes only where the count of vetoes rose in the
-    /// call, or stands at its last value, 2^64 - 1; want of memory counts as a refusal.
+    /// call, or stands at its last value, 2^64 - 1; out of memory counts as a refusal.
     ///
     /// # Requires
     ///

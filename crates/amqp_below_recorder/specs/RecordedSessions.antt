@@ -16,7 +16,7 @@ use Rattle.amqp_below_layer.specs.declared.verdict.Verdict.{Verdict}
 use Rattle.amqp_below_layer.specs.declared.verdict.Verdict.TheVariants as verdicts
 use Rattle.amqp_below_recorder.specs.Vetoing.{RecordsReview}
 
--- what a refusal leaves is what want of memory may leave
+-- what a refusal leaves is what out of memory may leave
 left-weakened : {Done Same : Type 0} (error : SessionInnerError) → LeftBy Done Same (Err error)
     → Done ⊎ Same
 left-weakened faults.UnattachedHandle same = inr same

@@ -43,7 +43,7 @@ inner_of r = r.session
 abbrev pub plan_of : {S : Type 0} → Recorder S → List ℕ
 plan_of r = r.plan
 
--- the numbers of the calls that a recorder answers with want of memory
+-- the numbers of the calls that a recorder answers with out of memory
 abbrev pub starved_of : {S : Type 0} → Recorder S → List ℕ
 starved_of r = r.starved
 
@@ -95,8 +95,8 @@ StartsOver inner told = told ≡ record {
   fixed = record { state = inner.fixed.state; plan = []; starved = [] };
 }
 
--- a refusal is kept with its frame, but for want of memory; an error that can't be copied is given
--- as want of memory
+-- a refusal is kept with its frame, but where memory runs out; an error that can't be copied is
+-- given as out of memory
 abbrev pub KeepsRefusal : List Refusal → List Refusal → Frame → SessionInnerError
     → SessionInnerError → Type 0
 KeepsRefusal before after frame error answer =

@@ -89,13 +89,13 @@ planned-among true refused planned = absurd (cc planned)
 planned-among false true planned = refl
 planned-among false false planned = absurd (cc planned)
 
--- want of memory that a layer may have is one that a recorder may have
+-- out of memory that a layer may have is one that a recorder may have
 only-weakened : (sure : Bool) (error : SessionInnerError) → OnlyNoMemory sure error
     → OnlyNoMemory false error
 only-weakened sure error only = (only.0, refl)
 
 module _ {S : Type 0} (takes : S → List Frame → Type 0) (sure : Bool) where
-  -- why a call that no plan refuses was answered an Err: want of memory
+  -- why a call that no plan refuses was answered an Err: out of memory
   why-only : (old new : S) (frame : Frame) (rest : List Frame)
       (Inner : Result (List Frame) SessionInnerError → Type 0)
       → ((answer : Result (List Frame) SessionInnerError) → Inner answer

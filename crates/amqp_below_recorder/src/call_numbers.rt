@@ -12,7 +12,7 @@ pub enum Planned {
     Made,
     /// It is refused.
     Refused,
-    /// It wants memory.
+    /// It runs out of memory.
     Starved,
 }
 
@@ -23,7 +23,7 @@ fn is_among(numbers: &CallNumbers, number: u64) -> bool
     numbers.as_slice().contains(&number)
 }
 
-/// What the plans say of the call of a number. One in both wants memory.
+/// What the plans say of the call of a number. One in both runs out of memory.
 pub(crate) fn planned_for(refused: &CallNumbers, starved: &CallNumbers, number: u64) -> Planned
     ensures { result ≡ planned_for refused.now starved.now number }
 {

@@ -9,7 +9,7 @@ use amqp_below_layer::{Refusal, SessionInnerError};
 use amqp_txn_types::{Frame, Frames, NoMemory, TryClone, refuse};
 use std::alloc::Global;
 
-/// A copy of what comes, and room for one more item of each list. The only error is want of memory.
+/// A copy of what comes, and room for one more item of each list. The only error is out of memory.
 #[inline(always)]
 pub(crate) fn prepare<F: TryClone>(
     item: &F,
@@ -27,7 +27,7 @@ pub(crate) fn prepare<F: TryClone>(
     item.try_clone()
 }
 
-/// A copy of the frames that are vetoed, and room for one more such list. The only error is want of
+/// A copy of the frames that are vetoed, and room for one more such list. The only error is out of
 /// memory.
 pub(crate) fn prepare_review(frames: &Frames, vetoed: &mut Vec<Frames>) -> Result<Frames, NoMemory>
     ensures copy { IfOk result (λ copy. copy ≡ frames.now) }
@@ -71,7 +71,7 @@ pub(crate) fn before_call(
 }
 
 /// Keeps what the layer answered to a frame, and gives what is answered for it. A refusal of its
-/// own, for want of memory, is counted.
+/// own, where memory runs out, is counted.
 #[inline(always)]
 pub(crate) fn after_call(
     alloc: Global,
@@ -108,7 +108,7 @@ fn copied(alloc: Global, frames: &Frames) -> Result<Frames, NoMemory>
 }
 
 /// Keeps what was taken with a copy of the frames given back for it, and gives these. The only
-/// error is want of memory for the copy, where there are such frames.
+/// error is out of memory for the copy, where there are such frames.
 #[inline(always)]
 pub(crate) fn keep_taken<F: Drop>(
     alloc: Global,
@@ -127,7 +127,7 @@ pub(crate) fn keep_taken<F: Drop>(
     Ok(given)
 }
 
-/// Keeps what was refused with a copy of the error, and gives the error. Want of memory isn't kept,
+/// Keeps what was refused with a copy of the error, and gives the error. Out of memory isn't kept,
 /// and is what is given where the error can't be copied.
 pub(crate) fn keep_refusal(
     refused: &mut Vec<Refusal>,

@@ -21,7 +21,7 @@
 //! ```
 //!
 //! A review of frames that would make such a call is vetoed. Calls of another plan, the starved
-//! ones, are answered with want of memory, which no review foresees.
+//! ones, are answered with out of memory, which no review foresees.
 //!
 //! Below stand the layer of `amqp_below_layer`, the sessions of `amqp_below_sessions` and the ids of
 //! `amqp_below_ids`. The promise that this crate carries: a recorder's exchanges are the pairs of the

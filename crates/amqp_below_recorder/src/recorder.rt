@@ -97,7 +97,7 @@ impl<S: LayerBelow> Recorder<S> {
         self.plan = plan;
     }
 
-    /// The numbers of the incoming frame calls that are answered with want of memory.
+    /// The numbers of the incoming frame calls that are answered with out of memory.
     pub fn starved(&self) -> &CallNumbers
         ensures kept { result.now ≡ starved_of self.now }
         ensures told { result.now ≡ (⟦<Recorder<S> as Tells>⟧.told self.now).fixed.starved }
@@ -105,7 +105,7 @@ impl<S: LayerBelow> Recorder<S> {
         &self.starved
     }
 
-    /// Sets the numbers of the incoming frame calls that are answered with want of memory.
+    /// Sets the numbers of the incoming frame calls that are answered with out of memory.
     ///
     /// # Requires
     ///
@@ -133,7 +133,7 @@ impl<S: LayerBelow> Recorder<S> {
         &self.opened
     }
 
-    /// What was refused: each frame with the error, in order. Want of memory isn't listed.
+    /// What was refused: each frame with the error, in order. Out of memory isn't listed.
     pub fn refused(&self) -> &Refusals
         ensures { Some result.now ≡ (⟦<Recorder<S> as Tells>⟧.told self.now).refused }
     {

@@ -1,10 +1,10 @@
--- A call is refused exactly with its fault: each Err but want of memory is an equivalence.
+-- A call is refused exactly with its fault: each Err but out of memory is an equivalence.
 use Rattle.std.proofs.Common.{◌≡◌, ◌↔◌, Option, Some, None, Result, Ok, Err, true, false, ap, sym, ◌∙◌}
 use Rattle.amqp_below_layer.specs.declared.inner_error.SessionInnerError.{SessionInnerError}
 use Rattle.amqp_below_layer.specs.Faults.{is_no_memory}
 use Rattle.amqp_below_sessions.specs.Plain.{RefusedBy, RefusedOnlyBy}
 
--- an Err that isn't want of memory is answered exactly where it is the fault
+-- an Err that isn't out of memory is answered exactly where it is the fault
 pub refused-exactly : {T : Type 0} (fault : Option SessionInnerError) (result : Result T SessionInnerError) → RefusedBy fault result → (error : SessionInnerError) → is_no_memory error ≡ false → (result ≡ Err error) ↔ (fault ≡ Some error)
 refused-exactly (Some fault) (Ok value) held error other = absurd held
 refused-exactly (Some fault) (Err given) held error other = (λ p. (let e : given ≡ error = cc p in ap (λ x. Some x) (sym held ∙ e)), λ q. (let e : fault ≡ error = cc q in ap (λ x. Err x) (held ∙ e)))

@@ -111,7 +111,7 @@ FrameLeaves at_once old new (frames.Attach attach) =
 FrameLeaves at_once old new (frames.Detach detach) = MayFree old new
 FrameLeaves at_once old new frame = SameNames old new
 
--- a refusal leaves all as it was; want of memory may come after the call was done
+-- a refusal leaves all as it was; out of memory may come after the call was done
 abbrev pub LeftBy : Type 0 → Type 0 → Result (List Frame) SessionInnerError → Type 0
 LeftBy Done Same (Ok given) = Done
 LeftBy Done Same (Err faults.NoMemory) = Done ⊎ Same

@@ -20,7 +20,7 @@ use Rattle.amqp_below_sessions.specs.declared.relay.NameState.{NameState}
 use Rattle.amqp_below_sessions.specs.declared.relay.NameState.TheVariants.{Unknown, Waiting}
 use Rattle.amqp_below_sessions.specs.Links.{LinkTable, link_mapped, name_state_of, output_mapped}
 
--- exactly this fault where there is one; where there is none, an Ok or want of memory
+-- exactly this fault where there is one; where there is none, an Ok or out of memory
 abbrev pub RefusedBy : {T : Type 0} → Option SessionInnerError → Result T SessionInnerError → Type 0
 RefusedBy (Some fault) (Ok value) = ⊥
 RefusedBy (Some fault) (Err error) = error ≡ fault
@@ -100,14 +100,14 @@ abbrev pub place_mapped_fault : LinkTable → Handle → Text → InputHandle �
 place_mapped_fault links handle_max name input =
     input_fault_by (place_fault links handle_max name) (output_mapped links.slots input)
 
--- exactly this fault where there is one; where there is none, an Ok or want of memory
+-- exactly this fault where there is one; where there is none, an Ok or out of memory
 abbrev pub PlacedBy : {T : Type 0} → Option AllocLinkError → Result T AllocLinkError → Type 0
 PlacedBy (Some fault) (Ok value) = ⊥
 PlacedBy (Some fault) (Err error) = error ≡ fault
 PlacedBy None (Ok value) = Unit {0}
 PlacedBy None (Err error) = error ≡ refusals.NoMemory
 
--- the stop reason that is kept, or want of memory for a copy of it
+-- the stop reason that is kept, or out of memory for a copy of it
 abbrev pub IsStopFault : SessionStopReason → AllocLinkError → Type 0
 IsStopFault reason refusals.NoMemory = Unit {0}
 IsStopFault reason error = error ≡ refusals.SessionStopped reason
@@ -156,7 +156,7 @@ abbrev pub move_fault : Option SessionState → Option SessionInnerError
 move_fault None = Some faults.IllegalState
 move_fault (Some state) = None
 
--- a begin is refused exactly where the state has none to send; else it is an Ok or want of memory
+-- a begin is refused exactly where the state has none to send; else it is an Ok or out of memory
 abbrev pub BegunBy : {T : Type 0} → Option SessionState → Result T BeginError → Type 0
 BegunBy None (Ok begin) = ⊥
 BegunBy None (Err error) = error ≡ begins.IllegalState

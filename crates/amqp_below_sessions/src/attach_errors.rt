@@ -17,7 +17,7 @@ pub enum SenderAttachError {
     /// The session refused a frame of the link.
     #[error("the session refused: {0}")]
     Session(SessionInnerError),
-    /// Want of memory.
+    /// Out of memory.
     #[error("out of memory")]
     NoMemory,
 }
@@ -48,7 +48,7 @@ pub enum ReceiverAttachError {
     /// The attach has a target of another kind than the acceptor takes.
     #[error("the target is of a kind that is not taken here")]
     CoordinatorIsNotImplemented,
-    /// Want of memory.
+    /// Out of memory.
     #[error("out of memory")]
     NoMemory,
 }

@@ -106,7 +106,7 @@ impl Links {
         self.slots.vacant_key()
     }
 
-    /// Places a link that waits for the peer's attach. The only error is want of memory.
+    /// Places a link that waits for the peer's attach. The only error is out of memory.
     ///
     /// # Requires
     ///
@@ -135,7 +135,7 @@ impl Links {
         Ok(output)
     }
 
-    /// Places a link that is attached. The only error is want of memory.
+    /// Places a link that is attached. The only error is out of memory.
     ///
     /// # Requires
     ///
@@ -176,7 +176,7 @@ impl Links {
         Ok(output)
     }
 
-    /// Maps an input handle to a link that waits for it. The only error is want of memory.
+    /// Maps an input handle to a link that waits for it. The only error is out of memory.
     ///
     /// # Requires
     ///
@@ -228,7 +228,7 @@ impl Links {
         true
     }
 
-    /// Appends a flow to what is passed on to a link. The only error is want of memory.
+    /// Appends a flow to what is passed on to a link. The only error is out of memory.
     ///
     /// # Requires
     ///

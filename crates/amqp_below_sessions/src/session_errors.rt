@@ -22,7 +22,7 @@ pub enum AllocLinkError {
     /// The next output handle is above the session's greatest one.
     #[error("no handle is left")]
     HandleMaxReached,
-    /// Want of memory.
+    /// Out of memory.
     #[error("out of memory")]
     NoMemory,
 }
@@ -53,7 +53,7 @@ pub enum BeginError {
     /// The session's state doesn't allow it (`amqp:illegal-state`).
     #[error("the state does not allow it")]
     IllegalState,
-    /// Want of memory.
+    /// Out of memory.
     #[error("out of memory")]
     NoMemory,
 }

@@ -14,7 +14,7 @@ pub enum AllocTxnIdError {
     /// All of the 16 ids drawn, which it carries, are live.
     #[error("no unused transaction id was drawn")]
     IdsRepeat(Drawn),
-    /// Want of memory. Nothing was drawn.
+    /// Out of memory. Nothing was drawn.
     #[error("out of memory")]
     NoMemory,
 }
@@ -22,10 +22,10 @@ pub enum AllocTxnIdError {
 /// Why a commit failed.
 #[derive(Debug, Drop, PartialEq, ThisError)]
 pub enum CommitFault {
-    /// Want of memory of the session itself. The transaction is as it was.
+    /// Out of memory of the session itself. The transaction is as it was.
     #[error("out of memory")]
     NoMemory,
-    /// The layer below wanted memory, in its review or for a frame that it had accepted; the
+    /// The layer below ran out of memory, in its review or for a frame that it had accepted; the
     /// transaction has ended and the session has stopped.
     #[error("the commit was refused below: {error}")]
     Refused {

@@ -23,7 +23,7 @@ module _ {R : Type 0} (told : R → ReceiverTold) (inserts : InsertsOn R) (remov
     calls = rw named (refl, refl);
   }
 
-  -- the receiver wasn't asked, for want of memory
+  -- the receiver wasn't asked, where memory runs out
   pub one-unasked : {T : Type 0} (old : R) (txn_id : TransactionId) (credit : ℕ)
       → names_transaction (told old) ≡ false
       → OneAcquisition {T = T} told inserts removes flows old old txn_id credit

@@ -33,7 +33,7 @@ abbrev pub naming : Properties → TransactionId → Properties
 naming properties txn_id =
     Some (insert_entry (pointwise nat_eq) (pairs_of properties) txn_id_key (values.Binary txn_id))
 
--- a refused flow is a fault that is counted, but for want of memory
+-- a refused flow is a fault that is counted, but where memory runs out
 abbrev pub OnFlowFault : IllegalLinkStateError → Type 0 → Type 0
 OnFlowFault faults.NoMemory P = Unit {0}
 OnFlowFault error P = P

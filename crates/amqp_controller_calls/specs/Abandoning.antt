@@ -59,7 +59,7 @@ WasTried ends.Discharged = ⊥
 WasTried ends.Skipped = ⊥
 WasTried end = Unit {0}
 
--- a failure, but for want of memory, is a fault of the link that is counted
+-- a failure, but where memory runs out, is a fault of the link that is counted
 abbrev pub FailsByFault : Abandoned → SenderTold → SenderTold → Type 0
 FailsByFault (ends.Failed errors.NoMemory) old new = Unit {0}
 FailsByFault (ends.Failed error) old new = Rose old.faults new.faults

@@ -53,7 +53,7 @@ abbrev pub SendsControl : {L : Type 0} → SendsOn L → L → L → ControlMess
 SendsControl sends old new message result =
     AsksToSend sends old new message result ⊎ WantsMemory old new result
 
--- an error, but want of memory, is a fault of the link that is counted
+-- an error, but out of memory, is a fault of the link that is counted
 abbrev pub UnsentByFault : Result Sent ControllerSendError → SenderTold → SenderTold → Type 0
 UnsentByFault (Ok sent) old new = Unit {0}
 UnsentByFault (Err errors.NoMemory) old new = Unit {0}

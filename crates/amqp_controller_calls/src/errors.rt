@@ -35,7 +35,7 @@ pub enum ControllerSendError {
     /// error), has the conditions of its error.
     #[error("the coordinator rejected the message: {0:?}")]
     Rejected(Rejected),
-    /// Want of memory.
+    /// Out of memory.
     #[error("out of memory")]
     NoMemory,
 }

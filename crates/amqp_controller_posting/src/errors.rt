@@ -33,7 +33,7 @@ pub enum PostError {
     /// The message can't be written as octets.
     #[error("the message cannot be encoded")]
     MessageEncodeError,
-    /// Want of memory.
+    /// Out of memory.
     #[error("out of memory")]
     NoMemory,
 }

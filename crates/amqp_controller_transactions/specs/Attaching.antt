@@ -123,7 +123,7 @@ AttachesBy allocates checks frees old new wanted (Err error) =
     ⊎ (Unallocated allocates old new wanted error
     ⊎ Unattached allocates checks frees old new wanted error)
 
--- every error but want of memory is a refusal of the session that is counted
+-- every error but out of memory is a refusal of the session that is counted
 abbrev pub OnRefusal : {T : Type 0} → Result T SenderAttachError → Type 0 → Type 0
 OnRefusal (Ok attached) P = Unit {0}
 OnRefusal (Err errors.NoMemory) P = Unit {0}
@@ -141,7 +141,7 @@ NamesAttach old new name (Ok attached) =
     (output : OutputHandle) × Placed old new name Waiting output
 NamesAttach old new name (Err error) = SameNames old new
 
--- the error of a stop for this reason, whose copy may want memory
+-- the error of a stop for this reason, whose copy may run out of memory
 abbrev pub IsStopped : SessionStopReason → SenderAttachError → Type 0
 IsStopped reason errors.NoMemory = Unit {0}
 IsStopped reason error = error ≡ errors.SessionStopped reason

@@ -68,7 +68,7 @@ pub record BegunOn (session : PlainSession) (sent : Begin) (channel : OutgoingCh
   pub is_new : IsNew session channel states.BeginSent begin
   pub sends : sent ≡ begin
 
--- a session begins on the channel that the connection gave; the only error then is want of memory
+-- a session begins on the channel that the connection gave; the only error then is out of memory
 abbrev pub BeginsOn : Begin → Result OutgoingChannel AllocSessionError
     → Result (PlainSession × Begin) BeginError → Type 0
 BeginsOn begin (Ok channel) (Ok begun) = BegunOn begun.0 begun.1 channel begin

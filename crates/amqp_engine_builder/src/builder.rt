@@ -72,7 +72,7 @@ impl TryClone for Builder {
     }
 }
 
-/// Appends a symbol to a list, or makes the list of it. For want of memory all is as it was.
+/// Appends a symbol to a list, or makes the list of it. Where memory runs out all is as it was.
 fn append(alloc: Global, list: &mut Option<Symbols>, symbol: Symbol) -> Result<(), NoMemory>
     ensures ok { OnOk result (list.new ≡ with_symbol list.old symbol) }
     ensures err { OnErr result (list.new ≡ list.old) }
@@ -134,8 +134,8 @@ impl Builder {
         self
     }
 
-    /// Adds one thing that this side can do, after the others. For want of memory, the only error,
-    /// the builder comes back as it was.
+    /// Adds one thing that this side can do, after the others. Where memory runs out, the only
+    /// error, the builder comes back as it was.
     pub fn add_offered_capabilities(
         mut self,
         alloc: Global,
@@ -160,7 +160,7 @@ impl Builder {
         self
     }
 
-    /// Adds one thing that this side wants the peer to do, after the others. For want of memory,
+    /// Adds one thing that this side wants the peer to do, after the others. Where memory runs out,
     /// the only error, the builder comes back as it was.
     pub fn add_desired_capabilities(
         mut self,
@@ -233,8 +233,8 @@ impl Builder {
     /// No acceptor for control links is set.
     ///
     /// Errors: `LocalChannelMaxReached` and `ConnectionStopped` exactly where the connection
-    /// answers `ChannelMaxReached` and `ConnectionStopped`; else want of memory alone, after which
-    /// a channel may have been given.
+    /// answers `ChannelMaxReached` and `ConnectionStopped`; else out of memory alone, after which a
+    /// channel may have been given.
     pub fn begin<C: ConnectionEnd>(
         self,
         alloc: Global,

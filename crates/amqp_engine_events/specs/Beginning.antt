@@ -73,7 +73,7 @@ FirstFrame told kept names Received old channel (bodies.Link frame) result =
 FirstFrame told kept names Received old channel (bodies.End end) result =
     result ≡ Err (old, ended_early end.error)
 
--- the connection stopped, for the reason that is kept, whose copy may want memory
+-- the connection stopped, for the reason that is kept, whose copy may run out of memory
 abbrev pub StoppedEarly : Option ConnectionStopReason → BeginError → Type 0
 StoppedEarly reason error = (error ≡ refusals.ConnectionStopped (reason_or_closed reason))
     ⊎ ((is_some reason ≡ true) × (error ≡ refusals.NoMemory))

@@ -124,7 +124,7 @@ abbrev pub copies_outcome : Bool → Result Unit SessionInnerError → Bool
 copies_outcome false (Err (faults.RemoteEndedWithError error)) = true
 copies_outcome kept outcome = false
 
--- that is answered; a copy may want memory
+-- that is answered; a copy may run out of memory
 abbrev pub AnswersOutcome : Bool → Result Unit SessionInnerError → Result Unit SessionInnerError
     → Type 0
 AnswersOutcome kept outcome answer = (answer ≡ answer_of outcome)

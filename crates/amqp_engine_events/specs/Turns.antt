@@ -60,7 +60,7 @@ pub record Unasked {S T E : Type 0} (old new : S) (answer result : Result T E) :
   pub untouched : new ≡ old
   pub answered : result ≡ answer
 
--- the fault needs no cause: want of memory, and IllegalState where it is expected
+-- the fault needs no cause: out of memory, and IllegalState where it is expected
 abbrev pub is_free : Bool → SessionInnerError → Bool
 is_free expected faults.NoMemory = true
 is_free expected faults.IllegalState = expected

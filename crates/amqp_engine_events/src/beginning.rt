@@ -67,7 +67,7 @@ impl<S: Session> ClientBegin<S> {
     }
 
     /// The connection stopped before the peer's begin came: the session, and `ConnectionStopped`
-    /// with the reason that the session keeps, or `Closed`. Its copy may want memory.
+    /// with the reason that the session keeps, or `Closed`. Its copy may run out of memory.
     pub fn connection_stopped(self) -> (S, BeginError)
         ensures session { result.0 ≡ self }
         ensures error { StoppedEarly (S.kept self).connection result.1 }

@@ -158,7 +158,7 @@ impl<S: Session> SessionEngine<S> {
     /// | `RemoteEnded`, `RemoteEndedWithError` | no error | |
     ///
     /// Errors: `ConnectionStopped` where that is the fault, and nothing is sent then; what the
-    /// session refused; `NoMemory` for want of memory for the text or for the copy of the
+    /// session refused; `NoMemory` where memory runs out for the text or for the copy of the
     /// connection's reason. The first and the last leave the session as it was.
     pub fn on_error(&mut self, kind: &SessionInnerError) -> Result<Turn, SessionInnerError>
         ensures ends { EndsFor self.old self.new (λ answer. EndsSession S.told S.kept S.names
@@ -235,9 +235,9 @@ impl<S: Session + HandleDeclare + HandleDischarge> SessionEngine<S> {
     /// is the reply. An end keeps why the session stops, and ends it.
     ///
     /// Errors: `IllegalState` where the state isn't `Mapped`, for every control but an end; what
-    /// the session refused, for an end, a disposition and a commit; `NoMemory` for want of memory
-    /// for the reason of an end and of room for a disposition, which are made before the session is
-    /// asked.
+    /// the session refused, for an end, a disposition and a commit; `NoMemory` where memory runs
+    /// out for the reason of an end and of room for a disposition, which are made before the
+    /// session is asked.
     pub fn on_control<G: IdSource>(
         &mut self,
         control: SessionControl,

@@ -10,7 +10,7 @@ abbrev pub after_look : {T E : Type 0} → Calls → Poll (Result T E) → Calls
 after_look calls polls.Pending = called calls
 after_look calls (polls.Ready result) = after_call calls result
 
--- a call that is to fail has that error, and any other has an Err for want of memory alone
+-- a call that is to fail has that error, and any other has an Err where memory runs out alone
 abbrev pub FailsAsListed : {T E : Type 0} → Bool → E → E → Result T E → Type 0
 FailsAsListed true illegal_state no_memory result = result ≡ Err illegal_state
 FailsAsListed false illegal_state no_memory (Ok answer) = Unit {0}

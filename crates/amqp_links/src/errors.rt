@@ -34,7 +34,7 @@ pub enum LinkStateError {
     /// The link's session stopped.
     #[error("the session stopped: {0:?}")]
     SessionStopped(SessionStopReason),
-    /// Want of memory.
+    /// Out of memory.
     #[error("out of memory")]
     NoMemory,
 }
@@ -69,7 +69,7 @@ pub enum DetachError {
     /// The peer closed the link with an error.
     #[error("the remote link closed with an error: {0:?}")]
     RemoteClosedWithError(Error),
-    /// Want of memory.
+    /// Out of memory.
     #[error("out of memory")]
     NoMemory,
 }
@@ -91,7 +91,7 @@ pub enum IllegalLinkStateError {
     /// The link's session stopped.
     #[error("the session stopped: {0:?}")]
     SessionStopped(SessionStopReason),
-    /// Want of memory.
+    /// Out of memory.
     #[error("out of memory")]
     NoMemory,
 }
@@ -119,7 +119,7 @@ pub enum RecvError {
     /// The peer sent more than the link's credit allows (`amqp:link:transfer-limit-exceeded`).
     #[error("the remote sent more than the credit allows")]
     TransferLimitExceeded,
-    /// Want of memory.
+    /// Out of memory.
     #[error("out of memory")]
     NoMemory,
 }
@@ -163,7 +163,7 @@ pub enum SendError {
     /// The message can't be written as octets.
     #[error("the message cannot be encoded")]
     MessageEncodeError,
-    /// Want of memory.
+    /// Out of memory.
     #[error("out of memory")]
     NoMemory,
 }

@@ -21,7 +21,7 @@
 //!
 //! Below stand the types of `amqp_txn_types`. The promise that this crate carries: on both wires an
 //! Ok adds exactly its message to what was put and an Err nothing, an answer goes to its own token,
-//! and every Err but the want of memory of a property comes with a fault that is counted. 'The
+//! and every Err but the out of memory of a property comes with a fault that is counted. 'The
 //! standard' is OASIS AMQP 1.0.
 #![tactic(auto)]
 

@@ -10,7 +10,7 @@ use amqp_txn_types::{DeliveryState, Fields, NoMemory, Symbol, Value};
 /// Only an Ok of `dispose` or `send_flow` adds to what was put, and only `insert_property` and
 /// `remove_property` change the properties. Every Err counts as a fault: it comes only where the
 /// count of faults rose in the call, or stands at its last value, 2^64 - 1. The one exception is
-/// the want of memory of `insert_property`.
+/// the out of memory of `insert_property`.
 pub trait ReceiverLink {
     ghost use Rattle.std.specs.Prelude.{◌≡◌, option_map};
     ghost use Rattle.amqp_links.specs.Receiving.{ReceiverTold, Disposes, Receives, SetsCredit, SendsFlow, Inserts, Removes};

@@ -25,9 +25,10 @@ use std::marker::Model;
 /// A receiving end over which nothing travels: it keeps what was put for its owner to read, and
 /// gives the deliveries that its owner fills in.
 ///
-/// Its calls of [`ReceiverLink`] that may answer another error than want of memory are numbered
+/// Its calls of [`ReceiverLink`] that may answer another error than out of memory are numbered
 /// together from 1. A call whose number is in the list of failing calls fails with `IllegalState`,
-/// and changes nothing but the counts of calls and faults. Any other fails only for want of memory.
+/// and changes nothing but the counts of calls and faults. Any other fails only where memory runs
+/// out.
 #[derive(Drop)]
 pub struct WireReceiver {
     end: LinkEnd,
@@ -116,7 +117,7 @@ impl WireReceiver {
         self.calls.failing = failing;
     }
 
-    /// Fills in a delivery, to be given after those that wait. For want of memory it comes back,
+    /// Fills in a delivery, to be given after those that wait. Where memory runs out it comes back,
     /// and the wire is as it was.
     pub fn deliver(&mut self, delivery: Delivery) -> Result<(), (Delivery, NoMemory)>
         ensures ok { OnOk result (self.new ≡ delivered self.old delivery) }
@@ -128,7 +129,7 @@ impl WireReceiver {
         }
     }
 
-    /// Puts a message, in a call that was counted. Want of memory counts as a fault.
+    /// Puts a message, in a call that was counted. Out of memory counts as a fault.
     fn put_message(&mut self, message: ReceiverMessage) -> Result<(), IllegalLinkStateError>
         ensures fails { OnErr result (result ≡ Err link_errors.NoMemory) }
         ensures wire { self.new ≡ with_put self.old message result }

@@ -25,7 +25,7 @@ use std::marker::Model;
 ///
 /// Its calls of [`SenderLink`] are numbered together from 1. A call whose number is in the list of
 /// failing calls fails with `IllegalState`, and changes nothing but the counts of calls and faults.
-/// Any other fails for want of memory alone, but for a look that finds an error that the owner
+/// Any other fails where memory runs out alone, but for a look that finds an error that the owner
 /// filled in.
 #[derive(Drop)]
 pub struct WireSender {
@@ -118,8 +118,8 @@ impl WireSender {
         fill_at(&mut self.answers, token, answer)
     }
 
-    /// Puts a message, with room for its answer where it waits for one. For want of memory nothing
-    /// changes.
+    /// Puts a message, with room for its answer where it waits for one. Where memory runs out
+    /// nothing changes.
     fn put_message(&mut self, message: SentMessage) -> Result<(), NoMemory>
         ensures ok { OnOk result (self.new ≡ with_message self.old message) }
         ensures err { OnErr result (self.new ≡ self.old) }

@@ -78,7 +78,7 @@ IsAccepted _ _ builder begun channel = ⊥
 abbrev pub begin_answered : Builder → IncomingSession → Begin
 begin_answered builder begun = record (begin_built builder) { remote_channel = Some begun.channel }
 
--- a session was accepted, and its begin is to be sent; the only error is want of memory
+-- a session was accepted, and its begin is to be sent; the only error is out of memory
 abbrev pub AcceptsOn : Builder → IncomingSession → OutgoingChannel
     → Result (AcceptedSession × Begin) BeginError → Type 0
 AcceptsOn builder begun channel (Ok accepted) =

@@ -34,7 +34,7 @@ IsBegan (Some control) (begans.Transactional client) sent channel begin =
     BegunOver client sent channel begin
 IsBegan _ _ sent channel begin = ⊥
 
--- a session begins on the channel that the connection gave; the only error then is want of memory
+-- a session begins on the channel that the connection gave; the only error then is out of memory
 abbrev pub BeginsSession : Builder → Result OutgoingChannel AllocSessionError
     → Result (BeganSession × Begin) BeginError → Type 0
 BeginsSession builder (Ok channel) (Ok began) =

@@ -29,7 +29,7 @@ impl Default for SessionAcceptor {
 }
 
 /// Why no session is accepted any more: a copy of the reason why the connection stopped, or that it
-/// was closed. The copy may want memory.
+/// was closed. The copy may run out of memory.
 fn stopped_early<C: ConnectionEnd>(connection: &C) -> BeginError
     ensures { StoppedEarly (C.told connection.now).stop result }
 {
@@ -61,7 +61,7 @@ impl SessionAcceptor {
     /// is to be sent. It is transactional exactly where the builder has an acceptor of control
     /// links. Later turns of the engine take their memory from `alloc`.
     ///
-    /// Errors: want of memory alone.
+    /// Errors: out of memory alone.
     pub fn accept_incoming_session(
         &self,
         alloc: Global,
@@ -82,8 +82,8 @@ impl SessionAcceptor {
     ///
     /// Errors: `ConnectionStopped` where none will come any more, with the reason that the
     /// connection tells, or `Closed`, and where the connection answers it for the channel;
-    /// `LocalChannelMaxReached` where it answers `ChannelMaxReached`; else want of memory. A
-    /// session that waited has been taken by then.
+    /// `LocalChannelMaxReached` where it answers `ChannelMaxReached`; else out of memory. A session
+    /// that waited has been taken by then.
     pub fn accept<C: ConnectionEnd>(
         &self,
         alloc: Global,

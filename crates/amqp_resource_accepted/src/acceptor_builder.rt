@@ -100,8 +100,8 @@ impl SessionAcceptorBuilder {
         SessionAcceptorBuilder(self.0.control_link_acceptor(value))
     }
 
-    /// Adds one thing that this side can do, after the others. For want of memory, the
-    /// only error, the builder comes back as it was.
+    /// Adds one thing that this side can do, after the others. Where memory runs out, the only
+    /// error, the builder comes back as it was.
     pub fn add_offered_capabilities(
         self,
         alloc: Global,
@@ -118,7 +118,7 @@ impl SessionAcceptorBuilder {
         }
     }
 
-    /// Adds one thing that this side wants the peer to do, after the others. For want of memory,
+    /// Adds one thing that this side wants the peer to do, after the others. Where memory runs out,
     /// the only error, the builder comes back as it was.
     pub fn add_desired_capabilities(
         self,

@@ -61,8 +61,8 @@ fn begin_transactional<C: ConnectionEnd>(
 /// control links.
 ///
 /// Errors: `LocalChannelMaxReached` and `ConnectionStopped` exactly where the connection answers
-/// `ChannelMaxReached` and `ConnectionStopped`; else want of memory alone, after which a channel
-/// may have been given.
+/// `ChannelMaxReached` and `ConnectionStopped`; else out of memory alone, after which a channel may
+/// have been given.
 pub fn begin<C: ConnectionEnd>(
     builder: Builder,
     alloc: Global,

@@ -27,7 +27,7 @@ declared_by (Ok drawn) = Ok drawn
 declared_by (Err error) = Err (error_of_allocation error)
 
 -- by the global id: GlobalIdNotImplemented where there is one; else what the session answered, or
--- NoMemory for the coordinator's own want of memory, before the session was asked
+-- NoMemory for the coordinator's own out of memory, before the session was asked
 abbrev pub AnswersByGlobalId : Option TransactionId → (Result DrawnIds AllocTxnIdError → Type 0)
     → Type 0 → Result DrawnIds CoordinatorError → Type 0
 AnswersByGlobalId (Some global) Asked Unasked result =

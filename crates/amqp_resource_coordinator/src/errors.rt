@@ -26,7 +26,7 @@ pub enum CoordinatorError {
     /// The commit failed.
     #[error("the commit failed: {0}")]
     Fault(CommitFault),
-    /// Want of memory. Nothing was drawn.
+    /// Out of memory. Nothing was drawn.
     #[error("out of memory")]
     NoMemory,
 }

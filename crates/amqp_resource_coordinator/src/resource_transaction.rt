@@ -42,7 +42,7 @@ impl ResourceTransaction {
     /// Keeps a post as the last of the work, and answers the disposition that tells its presumptive
     /// outcome: that of a commit. There is none for a post that is settled or has no delivery id.
     ///
-    /// Section 4.4.1 (transactional posting) of the standard. The only error is want of memory,
+    /// Section 4.4.1 (transactional posting) of the standard. The only error is out of memory,
     /// which leaves the work as it was.
     pub fn on_incoming_post(
         &mut self,

@@ -40,7 +40,7 @@ impl TransactionManager {
         }
     }
 
-    /// Adds a transaction without work. The only error is want of memory, which changes nothing.
+    /// Adds a transaction without work. The only error is out of memory, which changes nothing.
     ///
     /// # Requires
     ///

@@ -73,7 +73,7 @@ pub record SameKept (old new : Live) : Type 0 where
   pub frames : frame_count new ≡ frame_count old
 
 -- a frame came under an id: it is the last that is kept for it, where that is live; nothing changes
--- where it isn't, and for want of memory
+-- where it isn't, and where memory runs out
 abbrev pub Keeps : Live → Live → TransactionId → Frame → Result Bool NoMemory → Type 0
 Keeps old new id frame (Ok true) =
     (is_some (kept old id) ≡ true) × (frame_count new ≡ frame_count old + 1)

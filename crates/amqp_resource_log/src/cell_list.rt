@@ -49,7 +49,7 @@ impl CellList {
         self.cells.len()
     }
 
-    /// Makes room for one more cell. The only error is want of memory.
+    /// Makes room for one more cell. The only error is out of memory.
     #[inline(always)]
     pub fn reserve(&mut self) -> Result<(), NoMemory>
         ensures cells { self.new.cells ≡ self.old.cells }

@@ -42,8 +42,8 @@ pub fn place_count(index: &Index, id: TransactionId) -> usize
     }
 }
 
-/// Adds a place to those of an id, and says whether the id is opened: for one that isn't, and for
-/// want of memory, all places stay as they were.
+/// Adds a place to those of an id, and says whether the id is opened: for one that isn't, and where
+/// memory runs out, all places stay as they were.
 #[inline(always)]
 pub fn add_place(index: &mut Index, id: TransactionId, place: usize) -> Result<bool, NoMemory>
     ensures ok { IfOk result (λ opened. opened ≡ is_some (lookup (same_id id) index.old.entries)) }

@@ -95,7 +95,7 @@ impl LiveWork {
         self.log.count(txn_id)
     }
 
-    /// Makes room for one more live id. The only error is want of memory.
+    /// Makes room for one more live id. The only error is out of memory.
     pub fn make_room(&mut self) -> Result<(), NoMemory>
         ensures same { SameKept self.old self.new }
         ensures ids { live_ids self.new ≡ live_ids self.old }
@@ -127,7 +127,7 @@ impl LiveWork {
     }
 
     /// Keeps work for an id, as its last, and says whether the id is live: for one that isn't, and
-    /// for want of memory, nothing changes and the work is let go.
+    /// where memory runs out, nothing changes and the work is let go.
     #[inline(always)]
     pub fn keep(&mut self, txn_id: &TransactionId, work: TxnWorkFrame) -> Result<bool, NoMemory>
         ensures kept { Keeps self.old self.new txn_id.now (frame_of_work work) result }

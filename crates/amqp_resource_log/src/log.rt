@@ -143,7 +143,7 @@ impl ArrivalLog {
         place_count(&self.index, *txn_id)
     }
 
-    /// Makes room for one more opened id. The only error is want of memory.
+    /// Makes room for one more opened id. The only error is out of memory.
     pub fn make_room(&mut self) -> Result<(), NoMemory>
         ensures same { SameLog self.old self.new }
         ensures room { OnOk result (0 < self.new.room) }
@@ -173,8 +173,8 @@ impl ArrivalLog {
         self.open_on(txn_id, None)
     }
 
-    /// Opens an id that was declared on a link, if it was on one; there may be room for it. For
-    /// want of memory, the only error, nothing changes.
+    /// Opens an id that was declared on a link, if it was on one; there may be room for it. Where
+    /// memory runs out, the only error, nothing changes.
     ///
     /// # Requires
     ///
@@ -214,7 +214,7 @@ impl ArrivalLog {
         let _places = take_id(&mut self.index, txn_id, self.alloc);
     }
 
-    /// Adds work under an opened id, as the last of the log. For want of memory, the only error,
+    /// Adds work under an opened id, as the last of the log. Where memory runs out, the only error,
     /// nothing changes and the work comes back.
     ///
     /// # Requires
@@ -240,7 +240,7 @@ impl ArrivalLog {
     }
 
     /// Adds work under an id, as the last of the log, and says whether the id is opened: for one
-    /// that isn't, and for want of memory, nothing changes and the work is let go.
+    /// that isn't, and where memory runs out, nothing changes and the work is let go.
     #[inline(always)]
     pub fn keep(&mut self, txn_id: &TransactionId, work: TxnWorkFrame) -> Result<bool, NoMemory>
         ensures opened { IfOk result (λ opened. opened ≡ is_opened self.old txn_id.now) }

@@ -44,7 +44,7 @@ pub fn commits(entries: &[Entry], step: &Step) -> Option<TransactionId>
 /// stripped of its transactional state.
 ///
 /// Part 4 of the standard, section 4.4 (transactional work). It looks at every entry a few times,
-/// so it serves small records. The only error is want of memory.
+/// so it serves small records. The only error is out of memory.
 pub fn hands(alloc: Global, entries: &[Entry], step: &Step) -> Result<Frames, NoMemory>
     ensures { IfOk result (λ frames. frames ≡ hands entries.now step.now) }
 {

@@ -40,7 +40,7 @@ pub fn is_entry_after(entries: &[Entry], entry: &Entry) -> bool
     is_answer(entries, &entry.step, &ids[..count], &entry.reply)
 }
 
-/// All frames that the entries handed to the layer below, in order. The only error is want of
+/// All frames that the entries handed to the layer below, in order. The only error is out of
 /// memory.
 pub fn work(alloc: Global, entries: &[Entry]) -> Result<Frames, NoMemory>
     ensures { IfOk result (λ frames. frames ≡ work entries.now) }

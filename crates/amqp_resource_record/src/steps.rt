@@ -55,7 +55,7 @@ impl Steps {
         }
     }
 
-    /// No steps, with room for that many. The only error is want of memory.
+    /// No steps, with room for that many. The only error is out of memory.
     pub fn with_room(alloc: Global, count: usize) -> Result<Self, NoMemory>
         ensures { IfOk result (λ steps. steps ≡ []) }
     {
@@ -95,7 +95,7 @@ impl Steps {
         self.entries
     }
 
-    /// Appends the step. For want of memory the step comes back, and the list is as it was.
+    /// Appends the step. Where memory runs out the step comes back, and the list is as it was.
     #[inline(always)]
     pub fn push(&mut self, step: Step) -> Result<(), (Step, NoMemory)>
         ensures ok { OnOk result (self.new ≡ self.old ++ step ∷ []) }
@@ -109,8 +109,8 @@ impl Steps {
         Ok(())
     }
 
-    /// Appends the step. For want of memory, the only error, the step is let go, and the list is as
-    /// it was.
+    /// Appends the step. Where memory runs out, the only error, the step is let go, and the list is
+    /// as it was.
     #[inline(always)]
     pub fn append(&mut self, step: Step) -> Result<(), NoMemory>
         ensures ok { OnOk result (self.new ≡ self.old ++ step ∷ []) }

@@ -32,7 +32,7 @@ pub enum StopCode {
     BelowRemoteEnded,
     /// The layer below refused a frame: the peer ended its session with an error.
     BelowRemoteEndedWithError,
-    /// The layer below wanted memory.
+    /// The layer below ran out of memory.
     BelowNoMemory,
     /// The session was ended by its own side.
     Ended,
@@ -44,7 +44,7 @@ pub enum StopCode {
     RemoteEndedWithError,
     /// The connection stopped.
     ConnectionStopped,
-    /// The session itself wanted memory.
+    /// The session itself ran out of memory.
     NoMemory,
 }
 
@@ -53,12 +53,12 @@ pub enum StopCode {
 pub enum Stop {
     /// Every step was answered.
     Done,
-    /// A frame was under an id that isn't live, or the layer below refused a frame or wanted memory
-    /// for a commit.
+    /// A frame was under an id that isn't live, or the layer below refused a frame or ran out of
+    /// memory for a commit.
     Fault(SessionInnerError),
     /// The session or its connection ended.
     Ended(SessionStopReason),
-    /// The session wanted memory; nothing of the step at which it did was done.
+    /// The session ran out of memory; nothing of the step at which it did was done.
     NoMemory,
 }
 
@@ -122,7 +122,7 @@ pub fn code_of_end(reason: &SessionStopReason) -> StopCode
 #[derive(Debug, Drop, PartialEq, ThisError)]
 pub enum StepError {
     /// The step is a frame under an id that isn't live, or the layer below refused a frame of it,
-    /// or wanted memory for a commit.
+    /// or ran out of memory for a commit.
     #[error("a frame was not taken: {error}")]
     Fault {
         /// What is wrong; `UnknownTxnId` stands for the first cause alone.
@@ -137,7 +137,7 @@ pub enum StepError {
     /// The session had stopped before, with this code.
     #[error("the session had stopped: {0:?}")]
     Stopped(StopCode),
-    /// Want of memory. The session is as it was before the step.
+    /// Out of memory. The session is as it was before the step.
     #[error("out of memory")]
     NoMemory,
 }

@@ -156,7 +156,7 @@ within_of : (b : Bool) (n m : ℕ) → n < m → n + cond b 1 0 ≤ m
 within_of true n m h = omega arith
 within_of false n m h = omega arith
 
--- want of memory after these
+-- out of memory after these
 pub handed-part : (old mid new : Told) (all rest : List Frame) (x : Frame) (echoes : List Answers) (b : Bool) → HandedSome old mid (take (length echoes) all) echoes → drop (length echoes) all ≡ x ∷ rest → TookFrames mid.taken new.taken (taken_frames b x) → HandedPart old new all (length echoes + cond b 1 0)
 handed-part old mid new all rest x echoes b h d t = record {
   some = let p = (handed-rest all rest x (length echoes) d).1 in omega (arith, p);
@@ -167,12 +167,12 @@ handed-part old mid new all rest x echoes b h d t = record {
       (given_of echoes, sym (lengths (take (length echoes) all) echoes h.fits), h.taken) t);
 }
 
--- the one error that is want of memory
+-- the one error that is out of memory
 pub only-no_memory : (error : SessionInnerError) → is_no_memory error ≡ true → error ≡ faults.NoMemory
 only-no_memory faults.NoMemory h = refl
 only-no_memory _ h = cc h
 
--- want of memory refuses no frame
+-- out of memory refuses no frame
 pub refuses-nothing : (before : Option (List Refusal)) (frame : Frame) (b : Bool) (error : SessionInnerError) → is_no_memory error ≡ true → grown before (cond b [] (refusal_of frame error)) ≡ before
 refuses-nothing before frame true error h = grown-nil before
 refuses-nothing before frame false error h = ap (λ c. grown before (cond c [] (record { frame = frame; error = error } ∷ []))) h ∙ grown-nil before

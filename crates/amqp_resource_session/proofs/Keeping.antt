@@ -59,7 +59,7 @@ fault_answers v told now s hands error own handed known e x =
 answered-here : (h g : Held) (s : Step) (d : DrawnIds) (reply : Reply) → ((told : Told) → StepCause told told s (Ok (d, reply))) → AnswersEnd (ended_by s) (Ok (d, reply)) → (Fits h → Fits g) → ((told : Told) → Fits h → StepKeeps (view_of_held h) (view_of_held g) told told s d.ids reply) → LeavesHere h g s (Ok (d, reply))
 answered-here h g s d reply cause ended fits answer = record { keeps = λ told f. record { fits = fits f; answer = answer told f }; cause = cause; ended = ended; same = tt }
 
--- want of memory
+-- out of memory
 wanting-here : (h g : Held) (s : Step) → SameHeld h g → takes_memory (view_of_held h) s ≡ true → AnswersEnd (ended_by s) (Err errors.NoMemory) → LeavesHere h g s (Err errors.NoMemory)
 wanting-here h g s same takes ended = record { keeps = λ told f. record { fits = fits-same h g same f; answer = takes }; cause = λ told. tt; ended = ended; same = same }
 
@@ -333,7 +333,7 @@ keeps-vetoed h g told now k payload discharge d n e rb o on x hands f = record {
   );
 }
 
--- want of memory in a commit refuses no frame
+-- out of memory in a commit refuses no frame
 wanting_adds : (s : Step) (handed : List Frame) (at : ℕ) → 1 ≤ length handed → AddsRefusal s handed at faults.NoMemory []
 wanting_adds s [] at some = absurd (omega (arith, some))
 wanting_adds s (f ∷ handed) zero some = (faults.NoMemory, refl, inl (f, refl, refl))

@@ -114,7 +114,7 @@ end_is (Some own) (Err (errors.Ended got)) reason a e = let same : got ≡ reaso
 end_is (Some own) (Err (errors.Stopped code)) reason a e = absurd a
 end_is (Some own) (Err errors.NoMemory) reason a e = inr refl
 
--- ---- want of memory
+-- ---- out of memory
 
 pub step_memory : (h : Held) (old new : Told) (r : List Entry) (s : Step) (result : Result (DrawnIds × Reply) StepError) → StepGave h old new r s result → OnNoMemory result (Stands h r × (takes_memory (view_of_record r) s ≡ true))
 step_memory h old new r s (Ok out) g = tt

@@ -31,7 +31,7 @@ AllocationGives old new result =
     (AllocatedIn (held_of old) (held_of new) result × GoesOn old new)
     × (refusals_of new ≡ counted result (refusals_of old))
 
--- want of memory below stops the session
+-- out of memory below stops the session
 abbrev pub StopAfterCommit : Result (Result (List Answers) TransactionError) CommitFault
     → Option StopCode → Type 0
 StopAfterCommit (Err (commit_faults.Refused error handed)) stop = stop ≡ Some (fault_code error)

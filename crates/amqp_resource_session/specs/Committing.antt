@@ -43,7 +43,7 @@ abbrev pub vetoed_of : List Frame → Result (Result (List Answers) TransactionE
 vetoed_of handed (Ok (Err error)) = handed ∷ []
 vetoed_of handed _ = []
 
--- a veto comes only where the vetoes rose, want of memory below only where the refusals did
+-- a veto comes only where the vetoes rose, out of memory below only where the refusals did
 abbrev pub HandCause : Told → Told → Result (Result (List Answers) TransactionError) CommitFault
     → Type 0
 HandCause old new (Ok (Ok echoes)) = Unit {0}

@@ -13,7 +13,7 @@ DoesIt (replies.Declared t) = Unit {0}
 DoesIt (replies.Accepted echoes) = Unit {0}
 DoesIt _ = ⊥
 
--- such a reply, or want of memory
+-- such a reply, or out of memory
 abbrev pub Completed : Result (DrawnIds × Reply) StepError → Type 0
 Completed (Ok out) = DoesIt out.1
 Completed (Err errors.NoMemory) = Unit {0}

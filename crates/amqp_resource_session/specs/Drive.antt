@@ -79,7 +79,7 @@ RunRose before now r stop =
 abbrev pub RunVetoed : ℕ → ℕ → List Entry → Type 0
 RunVetoed before now r = min (before + veto_count r) (2 ^ 64 - 1) ≤ now
 
--- the stop, or want of memory
+-- the stop, or out of memory
 abbrev pub StopsWith : Stop → Stop → Type 0
 StopsWith stop wanted = (stop ≡ wanted) ⊎ (stop ≡ stops.NoMemory)
 

@@ -38,7 +38,7 @@ pub record DriveSays {S G : Type 0} (told : S → Told) (sure : Bool) (next : G 
       all result.entries result.stop result.handed
   pub vetoed : (told_of told new).reviews.vetoed
       ≡ grown (told_of told old).reviews.vetoed (vetoes result.entries)
-  -- Over a sure layer no frame of a commit was taken that wanted memory.
+  -- Over a sure layer no frame of a commit was taken that ran out of memory.
   pub surely : RunStopsSurely sure all result.entries result.stop result.handed
   -- Each refusal and each veto that was answered was counted, as long as the count can rise.
   pub rose : RunRose (told_of told old).refusals

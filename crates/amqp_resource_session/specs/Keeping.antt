@@ -178,7 +178,7 @@ StepKeeps old new told now _ drawn reply = ⊥
 -- ---- an answer
 
 -- by the answer: an unknown id is the fault of a frame under an id that isn't live; every other one
--- is a refusal below; an end is that of the step; want of memory comes of a step that takes some
+-- is a refusal below; an end is that of the step; out of memory comes of a step that takes some
 abbrev pub AnswerKeeps : View → View → Told → Told → Step → Result (DrawnIds × Reply) StepError
     → Type 0
 AnswerKeeps old new told now s (Ok out) = StepKeeps old new told now s out.0.ids out.1

@@ -17,7 +17,7 @@ pub record StepLeaves {S : Type 0} (told : S → Told) (sure : Bool)
   pub cause : StepCause (told below) (told now) s result
   pub surely : IfRefused result (λ error handed. StopsSurely sure s handed)
   pub ended : AnswersEnd (ended_by s) result
-  -- Want of memory changes nothing, and such an answer makes no call below.
+  -- Out of memory changes nothing, and such an answer makes no call below.
   pub same : OnNoMemory result (SameHeld old new)
   pub untouched : OnNoCall s result (now ≡ below)
   -- A vetoed commit leaves below what the review left: no call comes after it.

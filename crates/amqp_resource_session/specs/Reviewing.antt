@@ -29,7 +29,7 @@ pub record AsksBelow {S : Type 0} (told : S → Told)
   pub gave : gives old new list result
 
 -- a review: a Veto where the session has stopped, else the answer of the session below; what the
--- session keeps and its stop are as they were, and a Veto and want of memory are counted
+-- session keeps and its stop are as they were, and a Veto and out of memory are counted
 pub record TxnReviews {S : Type 0} (told : S → Told)
     (gives : S → S → List Frame → Result Verdict NoMemory → Type 0) (old new : TxnSession S)
     (list : List Frame) (result : Result Verdict NoMemory) : Type 0 where

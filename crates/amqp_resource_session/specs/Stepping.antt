@@ -33,16 +33,16 @@ pub record StepRecords (told now : Told) (ids : ℕ → TransactionId) (new : He
   -- An unknown id is the fault of work under an id that isn't live, and of nothing else.
   pub unknown : UnderDead (view_of_record r) s → result ≡ Err (errors.Fault faults.UnknownTxnId 0)
   pub unknown_only : IfUnknown result (λ handed. UnderDead (view_of_record r) s × (handed ≡ 0))
-  -- Every other fault is a refusal below, of a step that makes a call there; in a commit it is want
+  -- Every other fault is a refusal below, of a step that makes a call there; in a commit it is out
   -- of memory. A refused attach is that of a control link, and the count of refusals rose.
   pub refusal : IfRefused result (λ error handed. MayFault (view_of_record r) s (hands r s) error)
   pub attach_refused : OnAttachRefused result
       (Rose told.refusals now.refusals × IsControlAttach s)
-  -- Want of memory leaves the session standing for what it stood for, and comes of no step that
+  -- Out of memory leaves the session standing for what it stood for, and comes of no step that
   -- takes none.
   pub memory : OnNoMemory result (Stands new r × (takes_memory (view_of_record r) s ≡ true))
-  -- A valid step during which neither a refusal nor a veto is counted does what was asked, or
-  -- wants memory.
+  -- A valid step during which neither a refusal nor a veto is counted does what was asked, or runs
+  -- out of memory.
   pub complete : (n : List TransactionId) → InOrder told now ids r s n → Completed result
 
 -- the clauses of a step, each by its name: on a session over a layer that tells this, is sure or
@@ -71,10 +71,10 @@ pub record StepSays {S G : Type 0} (told : S → Told) (sure : Bool)
   -- A vetoed commit leaves below what the review of its frames left: no other call is made.
   pub reviewed : OnVeto result
       (reviews (below_of old) (below_of new) (step_hands (view_of old) s) (Ok verdicts.Veto))
-  -- An end is answered with its own value; a copy of its error may want memory.
+  -- An end is answered with its own value; a copy of its error may run out of memory.
   pub ended : stop_of old ≡ None → AnswersEnd (ended_by s) result
   pub ended_only : IfEnded result (λ reason. ended_by s ≡ Some reason)
-  -- Want of memory leaves the session as it was.
+  -- Out of memory leaves the session as it was.
   pub same : OnNoMemory result (SameSession old new)
   -- A reply that comes without a call below leaves that as it was, and so does an error that
   -- isn't a refusal there. The count of refusals never falls.

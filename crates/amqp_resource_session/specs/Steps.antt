@@ -87,7 +87,7 @@ FrameMayFault v frame None = is_coordinator_attach frame ≡ false
 FrameMayFault v frame (Some t) = (is_live_in v t ≡ true) × (1 ≤ length (answered_under t frame))
 
 -- a step that hands these frames and that a refusal below may stop: a plain frame, a post that is
--- answered with a disposition, a commit with at least one frame, which wants memory
+-- answered with a disposition, a commit with at least one frame, which runs out of memory
 abbrev pub MayFault : View → Step → List Frame → SessionInnerError → Type 0
 MayFault v (steps.Frame frame) frames error = FrameMayFault v frame (txn frame)
 MayFault v (steps.Control k payload) frames error = (1 ≤ length frames) × (error ≡ faults.NoMemory)
@@ -245,7 +245,7 @@ calls_nothing s (replies.Accepted (echo ∷ echoes)) = asks_rollback s
 calls_nothing s _ = false
 
 -- an answer without a call below: such a reply, an id that isn't live, an end, a stop before, or
--- want of memory of the session's own
+-- out of memory of the session's own
 abbrev pub OnNoCall : Step → Result (DrawnIds × Reply) StepError → Type 0 → Type 0
 OnNoCall s (Ok out) P = MatchBool (calls_nothing s out.1) P ⊤
 OnNoCall s (Err (errors.Fault error handed)) P = MatchBool (is_unknown error) P ⊤
@@ -272,7 +272,7 @@ abbrev pub IfEnded : Result (DrawnIds × Reply) StepError → (SessionStopReason
 IfEnded (Err (errors.Ended reason)) P = P reason
 IfEnded _ P = ⊤
 
--- want of memory of the session's own
+-- out of memory of the session's own
 abbrev pub OnNoMemory : Result (DrawnIds × Reply) StepError → Type 0 → Type 0
 OnNoMemory (Err errors.NoMemory) P = P
 OnNoMemory _ P = ⊤
@@ -292,7 +292,7 @@ abbrev pub IsFirstStop : StepError → Type 0
 IsFirstStop (errors.Stopped code) = ⊥
 IsFirstStop _ = Unit {0}
 
--- an end is answered with its own value, or with want of memory where it has an error
+-- an end is answered with its own value, or with out of memory where it has an error
 abbrev pub AnswersEnd : Option SessionStopReason → Result (DrawnIds × Reply) StepError → Type 0
 AnswersEnd None result = ⊤
 AnswersEnd (Some reason) (Ok out) = ⊥
@@ -301,7 +301,7 @@ AnswersEnd (Some reason) (Err (errors.Ended got)) = got ≡ reason
 AnswersEnd (Some reason) (Err (errors.Stopped code)) = ⊥
 AnswersEnd (Some reason) (Err errors.NoMemory) = has_error reason ≡ true
 
--- a step is answered with its own end, or with want of memory where the end has an error
+-- a step is answered with its own end, or with out of memory where the end has an error
 abbrev pub EndGave : SessionStopReason → Bool → StepError → Type 0
 EndGave reason takes (errors.Ended got) = got ≡ reason
 EndGave reason takes errors.NoMemory = takes ≡ true

@@ -11,8 +11,8 @@ use amqp_below_layer::{Answers, Echoes, LayerBelow, SessionInnerError, Verdict, 
 use amqp_below_sessions::CommitFault;
 use amqp_txn_types::{Frames, TransactionError};
 
-/// Hands frames that the layer below accepted, in order, to the first for which it wants memory.
-/// Room for their answers is there.
+/// Hands frames that the layer below accepted, in order, to the first for which it runs out of
+/// memory. Room for their answers is there.
 fn hand_all<S: LayerBelow>(
     below: &mut S,
     frames: Frames,

@@ -141,7 +141,7 @@ pub fn drive_counted<S: LayerBelow, G: IdSource, L: Ledger>(
         steps result.entries result.stop result.handed }
     ensures vetoed { (told_of S.told session.new).reviews.vetoed
         ≡ grown (told_of S.told session.old).reviews.vetoed (vetoes result.entries) }
-    // Over a sure layer no frame of a commit was taken that wanted memory.
+    // Over a sure layer no frame of a commit was taken that ran out of memory.
     ensures surely { RunStopsSurely S.sure steps result.entries result.stop result.handed }
     // Each refusal and each veto that was answered was counted, as long as the count can rise.
     ensures rose { RunRose (told_of S.told session.old).refusals

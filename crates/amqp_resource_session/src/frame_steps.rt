@@ -88,8 +88,8 @@ fn copy_work(frame: &Frame) -> Result<TxnWorkFrame, NoMemory>
     }
 }
 
-/// Keeps a copy of a frame under its id, and gives what it is answered at once; `None` where the
-/// id isn't live. For want of memory what is kept is as it was.
+/// Keeps a copy of a frame under its id, and gives what it is answered at once; `None` where the id
+/// isn't live. Where memory runs out what is kept is as it was.
 fn keep_copy(
     work: &mut LiveWork,
     alloc: Global,

@@ -145,12 +145,12 @@ impl<S: LayerBelow> TxnSession<S> {
     /// One step, with its reply and the ids that it drew from the source.
     ///
     /// Errors: `Stopped` on a session that had stopped, with the code of its first stop. `Ended`
-    /// for the three ends, with the step's own value; a copy of its error may want memory.
+    /// for the three ends, with the step's own value; a copy of its error may run out of memory.
     /// `Fault` with an unknown id for work under an id that isn't live, and with any other error
-    /// where the layer below refused a plain frame or the answer of a post, or wanted memory for a
-    /// commit; `handed` counts the step's frames that were taken. Each of these stops the session.
-    /// A refused attach of a control link and a vetoed commit are replies, and the session goes on.
-    /// `NoMemory` leaves the session as it was.
+    /// where the layer below refused a plain frame or the answer of a post, or ran out of memory
+    /// for a commit; `handed` counts the step's frames that were taken. Each of these stops the
+    /// session. A refused attach of a control link and a vetoed commit are replies, and the session
+    /// goes on. `NoMemory` leaves the session as it was.
     ///
     /// Its clauses are those of [`step_counted`](Self::step_counted) but for those on looks.
     ///

@@ -170,7 +170,7 @@ fn post(delivery_id: Option<u32>, settled: Option<bool>) -> Transfer {
     post
 }
 
-/// The delivery id of the disposition that answers a post; 100 for none, 101 for want of memory.
+/// The delivery id of the disposition that answers a post; 100 for none, 101 where memory runs out.
 fn answered(answer: Result<Option<Disposition>, NoMemory>) -> u32 {
     match answer {
         Ok(Some(disposition)) => disposition.first,

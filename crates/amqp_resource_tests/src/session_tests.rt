@@ -20,8 +20,8 @@ use std::alloc::Global;
 use std::mem::replace;
 use std::process::Abort;
 
-/// An open session that wants memory for each disposition that goes out. It gives these back for
-/// its first transfer and its second one, and no frame for any other.
+/// An open session that runs out of memory for each disposition that goes out. It gives these back
+/// for its first transfer and its second one, and no frame for any other.
 #[derive(Drop)]
 struct Unsettling {
     alloc: Global,

@@ -31,7 +31,7 @@ pub fn not_allowed() -> Error
     plain_error(ErrorCondition::AmqpError(AmqpError::NotAllowed))
 }
 
-/// Whether the error's text is this. The only error is want of memory.
+/// Whether the error's text is this. The only error is out of memory.
 pub fn reads<E: Display>(alloc: Global, error: &E, want: &str) -> Result<bool, NoMemory>
     ensures { IfOk result (λ same. IsAsTold (E.output error.now) want.now same) }
 {
@@ -39,8 +39,8 @@ pub fn reads<E: Display>(alloc: Global, error: &E, want: &str) -> Result<bool, N
     Ok(text.as_str() == want)
 }
 
-/// The place of the first error whose text is another than the one beside it. The only error is
-/// want of memory.
+/// The place of the first error whose text is another than the one beside it. The only error is out
+/// of memory.
 pub fn other_text<E: Display>(alloc: Global, table: &[(E, &str)]) -> Result<Option<usize>, NoMemory>
     ensures none { result ≡ Ok None → All (λ row. Reads (E.output row.0) row.1.now) table.now }
     ensures other { IfOk result (λ found. IfSome found (λ place.

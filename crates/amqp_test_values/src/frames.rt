@@ -88,7 +88,7 @@ pub fn disposition(delivery: u32) -> Disposition
 }
 
 /// Work as it is handed: a transfer of one octet on the handle, and a disposition. The only error
-/// is want of memory.
+/// is out of memory.
 pub fn work(alloc: Global, handle: u32) -> Result<Frames, NoMemory>
     ensures { IfOk result (λ frames. frames ≡ work_of handle) }
 {

@@ -21,7 +21,7 @@ pub fn link_end(name: Text, role: Role, output: u32) -> LinkEnd
     }
 }
 
-/// The list of these numbers. The only error is want of memory.
+/// The list of these numbers. The only error is out of memory.
 pub fn call_numbers(alloc: Global, listed: &[u64]) -> Result<CallNumbers, NoMemory>
     ensures { IfOk result (λ numbers. numbers ≡ listed.now) }
 {

@@ -47,7 +47,7 @@ impl Binary {
         }
     }
 
-    /// A copy of the octets. The only error is want of memory.
+    /// A copy of the octets. The only error is out of memory.
     pub fn from_slice(alloc: Global, octets: &[u8]) -> Result<Self, NoMemory>
         ensures { IfOk result (λ b. b ≡ octets.now) }
     {
@@ -100,8 +100,8 @@ impl Binary {
         }
     }
 
-    /// Appends the octet; a string in place moves into a list. For want of memory the octet comes
-    /// back, and the string is as it was.
+    /// Appends the octet; a string in place moves into a list. Where memory runs out the octet
+    /// comes back, and the string is as it was.
     pub fn push(&mut self, octet: u8) -> Result<(), (u8, NoMemory)>
         ensures ok { OnOk result (self.new ≡ self.old ++ octet ∷ []) }
         ensures err { IfErr result (λ refused. (refused.0 ≡ octet) × (self.new ≡ self.old)) }

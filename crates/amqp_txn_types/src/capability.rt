@@ -40,7 +40,7 @@ impl TxnCapability {
         }
     }
 
-    /// The capability's symbol. The only error is want of memory.
+    /// The capability's symbol. The only error is out of memory.
     pub fn to_symbol(&self, alloc: Global) -> Result<Symbol, NoMemory>
         ensures { IfOk result (λ symbol. symbol ≡ symbol_of_capability self.now) }
     {

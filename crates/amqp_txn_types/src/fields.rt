@@ -111,7 +111,7 @@ impl Fields {
     }
 
     /// Puts the value under the key. A new key goes last; a key that is there keeps its place and
-    /// gets the value. For want of memory key and value come back, and the map is as it was.
+    /// gets the value. Where memory runs out key and value come back, and the map is as it was.
     pub fn insert(&mut self, key: Symbol, value: Value) -> Result<(), ((Symbol, Value), NoMemory)>
         ensures ok { OnOk result (self.new ≡ insert_entry (pointwise nat_eq) self.old key value) }
         ensures err { IfErr result (λ refused. (refused.0 ≡ (key, value)) × (self.new ≡ self.old)) }

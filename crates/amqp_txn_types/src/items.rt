@@ -1,4 +1,5 @@
-//! Lists that a contract sees as lists, copies that may want memory, and want of memory itself.
+//! Lists that a contract sees as lists, copies that may run out of memory, and out of memory
+//! itself.
 
 ghost use Rattle.std.specs.Prelude.{◌≡◌, ◌↔◌, List, [], ◌∷◌, ◌++◌, length, slice_get, option_copied, IsTrue, OnOk, OnErr, IfOk, IfErr, ◌<◌, ◌^◌};
 ghost use Rattle.std.specs.Iterator.Runs.{EveryRun, ItemsMapTo};
@@ -10,7 +11,7 @@ use std::marker::Model;
 use std::slice;
 use thiserror::Error as ThisError;
 
-/// Want of memory: an allocation failed. What was to grow is as it was before.
+/// Out of memory: an allocation failed. What was to grow is as it was before.
 #[derive(Clone, Copy, Debug, PartialEq, Eq, ThisError)]
 #[error("out of memory")]
 pub struct NoMemory;
@@ -27,12 +28,12 @@ impl<T: Drop> From<AllocFailed<T>> for NoMemory {
     }
 }
 
-/// A copy that may fail for want of memory alone, and that equals its original.
+/// A copy that may fail where memory runs out alone, and that equals its original.
 ///
 /// It stands in place of `Clone` on every type that holds a list. A copy grows on the allocator
 /// of its original.
 pub trait TryClone {
-    /// A copy, equal to the original. The only error is want of memory.
+    /// A copy, equal to the original. The only error is out of memory.
     fn try_clone(&self) -> Result<Self, NoMemory>
         ensures copy { IfOk result (λ copy. copy ≡ self.now) };
 }
@@ -118,7 +119,7 @@ impl<T> Items<T> {
         self.items
     }
 
-    /// Appends the item. For want of memory the item comes back, and the list is as it was.
+    /// Appends the item. Where memory runs out the item comes back, and the list is as it was.
     pub fn push(&mut self, item: T) -> Result<(), (T, NoMemory)>
         ensures ok { OnOk result (self.new ≡ self.old ++ item ∷ []) }
         ensures err { IfErr result (λ refused. (refused.0 ≡ item) × (self.new ≡ self.old)) }
@@ -148,8 +149,8 @@ impl<'a, T> IntoIterator for &'a Items<T> {
 }
 
 impl<T: Drop> Items<T> {
-    /// Appends the item. For want of memory, the only error, the item is let go, and the list is as
-    /// it was.
+    /// Appends the item. Where memory runs out, the only error, the item is let go, and the list is
+    /// as it was.
     pub fn append(&mut self, item: T) -> Result<(), NoMemory>
         ensures ok { OnOk result (self.new ≡ self.old ++ item ∷ []) }
         ensures err { OnErr result (self.new ≡ self.old) }
@@ -184,7 +185,7 @@ impl<T: PartialEq> PartialEq for Items<T> {
 pub type CallNumbers = Items<u64>;
 
 impl Items<u8> {
-    /// A copy of the octets. The only error is want of memory.
+    /// A copy of the octets. The only error is out of memory.
     pub fn from_slice(alloc: Global, octets: &[u8]) -> Result<Self, NoMemory>
         ensures { IfOk result (λ list. list ≡ octets.now) }
     {

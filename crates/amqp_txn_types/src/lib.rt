@@ -2,8 +2,8 @@
 //!
 //! Names and meanings are those of the standard, OASIS AMQP 1.0: primitive types (part 1),
 //! performatives (part 2, section 2.7), delivery states (part 3, section 3.4), coordination (part
-//! 4). Octets and text stand in list types that a contract sees as lists; whatever may want memory
-//! says so by [`NoMemory`], and copies are made by [`TryClone`].
+//! 4). Octets and text stand in list types that a contract sees as lists; whatever may run out of
+//! memory says so by [`NoMemory`], and copies are made by [`TryClone`].
 //!
 //! A resource keeps the frames of a transaction, and hands each on stripped of its transaction:
 //!

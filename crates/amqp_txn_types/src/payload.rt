@@ -47,7 +47,7 @@ impl Payload {
         }
     }
 
-    /// A copy of the octets. The only error is want of memory.
+    /// A copy of the octets. The only error is out of memory.
     pub fn from_slice(alloc: Global, octets: &[u8]) -> Result<Self, NoMemory>
         ensures { IfOk result (λ p. p ≡ octets.now) }
     {

@@ -73,7 +73,7 @@ impl Symbols {
         }
     }
 
-    /// Appends the symbol. For want of memory the symbol comes back, and the list is as it was.
+    /// Appends the symbol. Where memory runs out the symbol comes back, and the list is as it was.
     pub fn push(&mut self, item: Symbol) -> Result<(), (Symbol, NoMemory)>
         ensures ok { OnOk result (self.new ≡ self.old ++ item ∷ []) }
         ensures err { IfErr result (λ refused. (refused.0 ≡ item) × (self.new ≡ self.old)) }
@@ -91,8 +91,8 @@ impl Symbols {
         }
     }
 
-    /// Appends the symbol. For want of memory, the only error, the symbol is let go, and the list
-    /// is as it was.
+    /// Appends the symbol. Where memory runs out, the only error, the symbol is let go, and the
+    /// list is as it was.
     pub fn append(&mut self, item: Symbol) -> Result<(), NoMemory>
         ensures ok { OnOk result (self.new ≡ self.old ++ item ∷ []) }
         ensures err { OnErr result (self.new ≡ self.old) }

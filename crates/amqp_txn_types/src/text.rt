@@ -46,7 +46,7 @@ impl Text {
         }
     }
 
-    /// A copy of the text, which takes no memory where it is empty. The only error is want of
+    /// A copy of the text, which takes no memory where it is empty. The only error is out of
     /// memory.
     pub fn from_str(alloc: Global, text: &str) -> Result<Self, NoMemory>
         ensures { IfOk result (λ t. t ≡ text.now) }
@@ -89,7 +89,7 @@ impl Text {
         }
     }
 
-    /// Appends the character, which takes one to four octets. For want of memory the character
+    /// Appends the character, which takes one to four octets. Where memory runs out the character
     /// comes back, and the text is as it was.
     pub fn push(&mut self, item: char) -> Result<(), (char, NoMemory)>
         ensures ok { OnOk result (self.new ≡ self.old ++ encode_utf8 item) }
@@ -175,7 +175,7 @@ impl Symbol {
         }
     }
 
-    /// A copy of the text, as a symbol. The only error is want of memory.
+    /// A copy of the text, as a symbol. The only error is out of memory.
     pub fn from_str(alloc: Global, text: &str) -> Result<Self, NoMemory>
         ensures { IfOk result (λ s. s ≡ text.now) }
     {
@@ -212,7 +212,7 @@ impl Symbol {
         self.text.as_str()
     }
 
-    /// Appends the character. For want of memory the character comes back, and the symbol is as
+    /// Appends the character. Where memory runs out the character comes back, and the symbol is as
     /// it was.
     pub fn push(&mut self, item: char) -> Result<(), (char, NoMemory)>
         ensures ok { OnOk result (self.new ≡ self.old ++ encode_utf8 item) }

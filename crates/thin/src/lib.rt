@@ -54,7 +54,7 @@ impl<T> Thin<T> {
         }
     }
 
-    /// The value, on the heap. For want of memory, the only error, the value comes back.
+    /// The value, on the heap. Where memory runs out, the only error, the value comes back.
     pub fn some(alloc: Global, value: T) -> Result<Thin<T>, AllocFailed<T>>
     where
         T: Drop,

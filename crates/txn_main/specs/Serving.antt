@@ -54,8 +54,8 @@ pub record Served (open_told : Recorder OpenSession → Told)
 abbrev pub EndsFaulty : Fault → ℕ → Type 0
 EndsFaulty fault exit = (exit ≡ fault_status fault) ⊎ (exit ≡ fault_status faults.Write)
 
--- the process ends with the status of such a run, or for want of memory; where there are no words,
--- with that of why
+-- the process ends with the status of such a run, or where memory runs out; where there are no
+-- words, with that of why
 abbrev pub EndsServed : (Recorder OpenSession → Told)
     → (Recorder (AcceptingListener PlainSession) → Told) → Result (List (List ℕ)) Fault → ℕ
     → Type 0

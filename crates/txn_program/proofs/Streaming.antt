@@ -68,13 +68,13 @@ whole_by : (none fault : Bool) (text : List ℕ) → (none ≡ true → ⊥)
 whole_by true fault text other = absurd (other refl)
 whole_by false fault text other = whole_unless fault text
 
--- the whole text is what is written of it by any status but want of memory
+-- the whole text is what is written of it by any status but out of memory
 pub text_by-whole : (status : ℕ) (text : List ℕ) → status ≢ 6
     → text_by status (length text) text ≡ text
 text_by-whole status text other =
     whole_by (status == 6) (status == 5) text (λ is. other (eqb-true status 6 is))
 
--- for want of memory nothing is written
+-- where memory runs out nothing is written
 pub wrote_nothing : (before : Option (List ℕ)) (text : List ℕ) → Wrote before before 6 text
 wrote_nothing None text = record { count = 0; written = refl }
 wrote_nothing (Some octets) text =

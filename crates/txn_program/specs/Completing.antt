@@ -32,7 +32,7 @@ Stopped steps driven status =
     (status ≡ 1) × NextStep steps driven.entries (StopsRun driven.entries)
 
 -- a run of these steps: 0 where none of them is an end or a frame under an id that isn't live, 1
--- where one is, or want of memory
+-- where one is, or out of memory
 abbrev pub RunEnds : List Step → Option Driven → ℕ → Type 0
 RunEnds steps None status = status ≡ 6
 RunEnds steps (Some driven) status =
@@ -49,7 +49,7 @@ InputEnds readings.Fault driven status = (status ≡ 6) ⊎ (status ≡ 4)
 InputEnds readings.TooLong driven status = (status ≡ 6) ⊎ (status ≡ 7)
 InputEnds (readings.Whole octets) driven status = SpelledEnds (input_steps octets) driven status
 
--- a made run: every step has its entry, or want of memory
+-- a made run: every step has its entry, or out of memory
 abbrev pub MadeEnds : ℕ → Type 0
 MadeEnds status = (status ≡ 6) ⊎ (status ≡ 0)
 

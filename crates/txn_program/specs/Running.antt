@@ -32,8 +32,8 @@ use Rattle.txn_program.specs.declared.words.Command.TheVariants as commands
 
 -- ---- statuses
 
--- the status of a stop: 0 every step has its entry, 8 want of memory below, 1 any other fault and
--- an end, 6 want of memory here
+-- the status of a stop: 0 every step has its entry, 8 out of memory below, 1 any other fault and an
+-- end, 6 out of memory here
 abbrev pub stop_status : Stop → ℕ
 stop_status stops.Done = 0
 stop_status (stops.Fault faults.NoMemory) = 8
@@ -57,8 +57,8 @@ input_status readings.Fault driven = 4
 input_status readings.TooLong driven = 7
 input_status (readings.Whole octets) driven = spelled_status (input_steps octets) driven
 
--- the status: 2 for words outside the table, else by the run; want of memory and a fault of the
--- sink apart
+-- the status: 2 for words outside the table, else by the run; out of memory and a fault of the sink
+-- apart
 abbrev pub status_of : Option Command → Reading → Option Driven → ℕ
 status_of None reading driven = 2
 status_of (Some (commands.Run layer plans ids)) reading driven = input_status reading driven
@@ -110,7 +110,7 @@ written_text (Some (commands.Make count)) reading below driven = summary_text be
 -- ---- what a call leaves
 
 -- what was read: a run reads the input to its end before it drives a step, and nothing else reads
--- it; want of memory may come before the input is read
+-- it; out of memory may come before the input is read
 abbrev pub ReadFor :
     Option Command → ℕ → Option Driven → SourceTold → SourceTold → Reading → Type 0
 ReadFor None status driven before after reading = after ≡ before
@@ -140,8 +140,8 @@ plans_left None before = before
 plans_left (Some (commands.Run layer plans ids)) before = under_plans plans before
 plans_left (Some (commands.Make count)) before = before
 
--- each plan at the end is its LIST of the words, or as it was without one, and the state stays; for
--- want of memory before the drive both plans may be as they were
+-- each plan at the end is its LIST of the words, or as it was without one, and the state stays;
+-- where memory runs out before the drive both plans may be as they were
 abbrev pub PlansLeft : Option Command → ℕ → Option Driven → Fixed → Fixed → Type 0
 PlansLeft command status driven before after =
     (after ≡ plans_left command before) ⊎ ((status ≡ 6) × IsNone driven × (after ≡ before))

@@ -27,7 +27,7 @@ pub record Runs {S : Type 0} (output written : SinkTold) (told : Recorder S → 
     (Of : ((ℕ → TransactionId) → List Step → Type 0) → Type 0)
     (Ends : Option Driven → ℕ → Type 0) (text_by : Told → Option Driven → List ℕ) (ran : Ran S)
     : Type 0 where
-  -- the status is that of the table; want of memory or a fault of the sink may come in its place
+  -- the status is that of the table; out of memory or a fault of the sink may come in its place
   pub status : EndsWith output.faults written.faults (status_by ran.driven) ran.status
   -- where steps were driven, the record is a legal run over a front of the steps that are asked
   -- for, and the layer below has taken exactly its work
@@ -35,8 +35,8 @@ pub record Runs {S : Type 0} (output written : SinkTold) (told : Recorder S → 
   -- where none were, nothing was taken
   pub untouched : IsNone ran.driven → Untouched before (told ran.below)
   -- each refusal was counted, and without one, and without a fault of the sink, a run stops at
-  -- nothing but an end, a frame under an id that isn't live, or want of memory, and a made run at
-  -- nothing but want of memory
+  -- nothing but an end, a frame under an id that isn't live, or out of memory, and a made run at
+  -- nothing but out of memory
   pub rose : IfSome ran.driven (λ driven. RunRose before.refusals (told ran.below).refusals
       driven.entries driven.stop)
   -- so was each veto

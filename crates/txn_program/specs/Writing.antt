@@ -15,7 +15,7 @@ sink_of written faults spare output =
 abbrev pub WroteFront : Option (List ℕ) → Option (List ℕ) → List ℕ → Type 0
 WroteFront before after text = (count : ℕ) × (after ≡ grown before (take count text))
 
--- what is written of a text by the status: nothing for want of memory, a front where the sink
+-- what is written of a text by the status: nothing where memory runs out, a front where the sink
 -- failed, else the text
 abbrev pub text_by : ℕ → ℕ → List ℕ → List ℕ
 text_by status count text =
@@ -26,7 +26,7 @@ pub record Wrote (before after : Option (List ℕ)) (status : ℕ) (text : List 
   pub count : ℕ
   pub written : after ≡ grown before (text_by status count text)
 
--- the status is that of the table, or in its place 6 for want of memory, or 5 where the count of
+-- the status is that of the table, or in its place 6 where memory runs out, or 5 where the count of
 -- faults of the sink rose
 abbrev pub EndsWith : ℕ → ℕ → ℕ → ℕ → Type 0
 EndsWith faults faults_after wanted status =

@@ -19,7 +19,7 @@
 //! front of the steps that the input spells, written as its report, and the layer below has taken
 //! exactly the work of that run; while the layer below counts no refusal, a run is answered with 0
 //! where no step is an end or a frame under an id that isn't live, with 1 where one is, or with 6
-//! for want of memory, and a made run with 0 or 6.
+//! where memory runs out, and a made run with 0 or 6.
 #![tactic(auto)]
 
 mod commands;

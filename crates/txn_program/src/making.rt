@@ -11,7 +11,7 @@ use std::alloc::Global;
 use txn_program_lines::{Delivery, attach_of, state_under, transfer_of};
 
 /// The steps of that many transactions: an attach, and then the transactions in pairs, of which
-/// each third is rolled back. The only error is want of memory.
+/// each third is rolled back. The only error is out of memory.
 pub(crate) fn made(alloc: Global, count: u32) -> Result<Steps, NoMemory>
     requires { count ≤ 20000 }
     ensures { IfOk result (λ steps. steps ≡ made count) }

@@ -22,7 +22,7 @@ pub enum Reading {
     Whole(Binary),
 }
 
-/// Reads the input to its end, or to one octet past the limit. The only error is want of memory.
+/// Reads the input to its end, or to one octet past the limit. The only error is out of memory.
 pub(crate) fn read_all<I: ByteSource>(alloc: Global, input: &mut I) -> Result<Reading, NoMemory>
     ensures found { IfOk result (Finds (source_of I.rest I.faults input.old)
         (source_of I.rest I.faults input.new)) }

@@ -63,7 +63,7 @@ fn ended<S: LayerBelow>(status: u8, driven: Option<Driven>, below: Recorder<S>) 
     }
 }
 
-/// The end of a call for want of memory.
+/// The end of a call where memory runs out.
 pub(crate) fn out_of_memory<S: LayerBelow>(driven: Option<Driven>, below: Recorder<S>) -> Ran<S>
     ensures { result ≡ record { status = 6; driven = driven; entries = None; below = below } }
 {

@@ -18,11 +18,11 @@ pub const READ_FAULT: u8 = 4;
 /// The output failed.
 pub const WRITE_FAULT: u8 = 5;
 
-/// Want of memory; nothing was written.
+/// Out of memory; nothing was written.
 pub const NO_MEMORY: u8 = 6;
 
 /// The input has more octets than the limit.
 pub const TOO_LONG: u8 = 7;
 
-/// Want of memory in the layer below.
+/// Out of memory in the layer below.
 pub const NO_MEMORY_BELOW: u8 = 8;

@@ -13,7 +13,7 @@ use amqp_txn_types::NoMemory;
 use std::alloc::Global;
 
 /// How many entries there are, accepted commits and rollbacks among them, and frames that were
-/// taken, a line each. The only error is want of memory.
+/// taken, a line each. The only error is out of memory.
 #[tactic(auto, unfolding(crate::specs::Made::made_text))]
 pub(crate) fn summary_string(
     alloc: Global,

@@ -37,7 +37,7 @@ pub enum Ids {
 pub struct Plans {
     /// `--refuse LIST`: the calls that it refuses, and whose commits it vetoes.
     pub refused: Option<CallNumbers>,
-    /// `--starve LIST`: the calls that it answers with want of memory.
+    /// `--starve LIST`: the calls that it answers with out of memory.
     pub starved: Option<CallNumbers>,
 }
 

@@ -223,7 +223,7 @@ fn keep_first<R: Drop>(kept: &mut Option<R>, reason: R)
     }
 }
 
-/// The stop reason as the fault of an allocation. The only other answer is want of memory.
+/// The stop reason as the fault of an allocation. The only other answer is out of memory.
 fn stop_fault(reason: &SessionStopReason) -> AllocLinkError
     ensures { IsStopFault reason.now result }
 {
