@@ -116,8 +116,8 @@ pub kept-same : (before after : Kept) (frame : Frame)
     (result : Result (List Frame) SessionInnerError) → after ≡ before
     → LeavesKept before after frame result
 kept-same before after frame result same = record {
-  others = subst (λ (k : Kept). k ≡ with_queue before k.queue) (sym same) refl;
-  queue = queue-left before.queue after.queue frame result (ap (λ (k : Kept). k.queue) same);
+  others = subst (λ k. k ≡ with_queue before k.queue) (sym same) refl;
+  queue = queue-left before.queue after.queue frame result (ap (λ k. k.queue) same);
 }
 
 -- what any answer leaves is left where memory runs out to keep that answer
@@ -136,7 +136,7 @@ pub kept-own_queue : (before after : Kept) (old new : Queue) (frame : Frame)
     → LeftBy (FrameQueues old new frame) (new ≡ old) result
     → LeavesKept (with_queue before old) (with_queue after new) frame result
 kept-own_queue before after old new frame result others queue = record {
-  others = ap (λ (k : Kept). with_queue k new) others;
+  others = ap (λ k. with_queue k new) others;
   queue = queue;
 }
 
@@ -144,7 +144,7 @@ kept-own_queue before after old new frame result others queue = record {
 pub same-own_queue : (before after : Kept) (old new : Queue) → after ≡ before → new ≡ old
     → with_queue after new ≡ with_queue before old
 same-own_queue before after old new same queue =
-    ap (λ (k : Kept). with_queue k new) same ∙ ap (with_queue before) queue
+    ap (λ k. with_queue k new) same ∙ ap (with_queue before) queue
 
 -- the same of a call that leaves what is kept and the names
 pub leaves-own_queue : (before after : Kept) (was is : Queue) (old new : Names)
