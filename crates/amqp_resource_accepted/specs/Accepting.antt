@@ -1,10 +1,11 @@
 -- What accepting the next session of a connection answers and leaves.
-use Rattle.std.specs.Prelude.{◌≡◌, is_some, Option, Some, None, Result, Ok, Err}
+use Rattle.std.specs.Prelude.{◌≡◌, ◌⊎◌, is_some, Option, Some, None, Result, Ok, Err}
 use Rattle.amqp_txn_types.specs.declared.performatives.Begin.{Begin}
 use Rattle.amqp_txn_types.specs.declared.small.OutgoingChannel.{OutgoingChannel}
 use Rattle.amqp_links.specs.declared.poll.Poll.{Poll}
 use Rattle.amqp_links.specs.declared.poll.Poll.TheVariants as polls
 use Rattle.amqp_below_sessions.specs.declared.session_errors.BeginError.{BeginError}
+use Rattle.amqp_below_sessions.specs.declared.session_errors.BeginError.TheVariants as refusals
 use Rattle.amqp_below_connections.specs.Connections.{Allocates, ConnectionTold, NextSession, begin_error, next_session}
 use Rattle.amqp_below_connections.specs.declared.connection.AllocSessionError.{AllocSessionError}
 use Rattle.amqp_below_connections.specs.declared.connection.IncomingSession.{IncomingSession}
@@ -52,3 +53,13 @@ AcceptsNext {C} told looks gives old new builder result =
     let found = next_session (told old).waiting (is_some (told old).stop) in
     (looked : C) × NextSession (told old) (told looked) found × looks old looked found
     × AcceptsFound told gives looked new builder found result
+
+-- the builder is copied before the connection is asked: where there is no memory for that, the
+-- connection is as it was
+abbrev pub CopiesAndAccepts : {C : Type 0} → (C → ConnectionTold)
+    → (C → C → Poll (Option IncomingSession) → Type 0)
+    → (C → C → Result OutgoingChannel AllocSessionError → Type 0) → C → C → Builder
+    → Poll Answer → Type 0
+CopiesAndAccepts told looks gives old new builder result =
+    AcceptsNext told looks gives old new builder result
+    ⊎ ((new ≡ old) × (result ≡ polls.Ready (Err refusals.NoMemory)))

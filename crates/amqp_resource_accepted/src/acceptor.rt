@@ -4,7 +4,7 @@ ghost use Rattle.std.specs.Prelude.{◌≡◌};
 ghost use Rattle.amqp_engine_builder.specs.Builders.{default_builder};
 ghost use Rattle.amqp_engine_events.specs.Beginning.{StoppedEarly};
 ghost use Rattle.amqp_resource_accepted.specs.Accepted.{AcceptsOn};
-ghost use Rattle.amqp_resource_accepted.specs.Accepting.{AcceptsNext};
+ghost use Rattle.amqp_resource_accepted.specs.Accepting.{AcceptsNext, CopiesAndAccepts};
 
 use crate::accepted::{AcceptedSession, accept_built};
 use crate::acceptor_builder::SessionAcceptorBuilder;
@@ -61,7 +61,9 @@ impl SessionAcceptor {
     /// is to be sent. It is transactional exactly where the builder has an acceptor of control
     /// links. Later turns of the engine take their memory from `alloc`.
     ///
-    /// Errors: out of memory alone.
+    /// # Errors
+    ///
+    /// `NoMemory` alone.
     pub fn accept_incoming_session(
         &self,
         alloc: Global,
@@ -78,32 +80,57 @@ impl SessionAcceptor {
     }
 
     /// Accepts the session that waits longest at the connection, on a channel that the connection
-    /// gives. `Pending` exactly where none waits and the connection hasn't stopped.
+    /// gives. It is `Pending` where none waits and the connection hasn't stopped.
     ///
-    /// Errors: `ConnectionStopped` where none will come any more, with the reason that the
-    /// connection tells, or `Closed`, and where the connection answers it for the channel;
-    /// `LocalChannelMaxReached` where it answers `ChannelMaxReached`; else out of memory. A session
-    /// that waited has been taken by then.
+    /// # Errors
+    ///
+    /// - `NoMemory` where memory runs out for a copy of the builder, which is made first: the
+    ///   connection is as it was then, and the session still waits.
+    /// - `ConnectionStopped` where no session will come any more, with the reason that the
+    ///   connection tells, or `Closed`.
+    /// - `LocalChannelMaxReached` and `ConnectionStopped` where the connection answers
+    ///   `ChannelMaxReached` and `ConnectionStopped` for the channel. The session that waited has
+    ///   been taken by then, and is dropped.
+    /// - `NoMemory` where memory runs out for the begin that is sent or for the copy of a reason. A
+    ///   session that waited is dropped then too, and its channel is in use.
     pub fn accept<C: ConnectionEnd>(
         &self,
         alloc: Global,
         connection: &mut C,
     ) -> Poll<Result<(AcceptedSession, Begin), BeginError>>
-        ensures { AcceptsNext C.told C.next_session_gives C.allocate_gives connection.old
+        ensures { CopiesAndAccepts C.told C.next_session_gives C.allocate_gives connection.old
             connection.new self.now.0 result }
     {
-        let Poll::Ready(next) = connection.next_incoming_session() else {
-            return Poll::Pending;
+        let Ok(builder) = self.0.try_clone() else {
+            return Poll::Ready(Err(BeginError::NoMemory));
         };
-        let Some(incoming) = next else {
-            return Poll::Ready(Err(stopped_early(connection)));
-        };
-        match connection.allocate_session() {
-            Ok(channel) => Poll::Ready(self.accept_incoming_session(alloc, incoming, channel)),
-            Err(refused) => {
-                drop(incoming);
-                Poll::Ready(Err(BeginError::from(refused)))
-            }
+        accept_next(alloc, builder, connection)
+    }
+}
+
+/// Accepts the session that waits longest at the connection, as this builder says.
+fn accept_next<C: ConnectionEnd>(
+    alloc: Global,
+    builder: Builder,
+    connection: &mut C,
+) -> Poll<Result<(AcceptedSession, Begin), BeginError>>
+    ensures { AcceptsNext C.told C.next_session_gives C.allocate_gives connection.old
+        connection.new builder result }
+{
+    let Poll::Ready(next) = connection.next_incoming_session() else {
+        drop(builder);
+        return Poll::Pending;
+    };
+    let Some(incoming) = next else {
+        drop(builder);
+        return Poll::Ready(Err(stopped_early(connection)));
+    };
+    match connection.allocate_session() {
+        Ok(channel) => Poll::Ready(accept_built(alloc, builder, incoming, channel)),
+        Err(refused) => {
+            drop(builder);
+            drop(incoming);
+            Poll::Ready(Err(BeginError::from(refused)))
         }
     }
 }
