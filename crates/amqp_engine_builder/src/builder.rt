@@ -256,6 +256,22 @@ impl Builder {
         self
     }
 
+    /// The begin of the session that is built. It names no channel of the peer's.
+    pub fn into_begin(self) -> Begin
+        ensures { result ≡ begin_built self }
+    {
+        Begin {
+            remote_channel: None,
+            next_outgoing_id: self.next_outgoing_id,
+            incoming_window: self.incoming_window,
+            outgoing_window: self.outgoing_window,
+            handle_max: self.handle_max,
+            offered_capabilities: self.offered_capabilities,
+            desired_capabilities: self.desired_capabilities,
+            properties: self.properties,
+        }
+    }
+
     /// The session that is built, in this state. It makes its lists on `alloc`, and takes no
     /// memory.
     pub fn into_session(
@@ -266,17 +282,7 @@ impl Builder {
     ) -> PlainSession
         ensures { IsNew result channel state (begin_built self) }
     {
-        let begin = Begin {
-            remote_channel: None,
-            next_outgoing_id: self.next_outgoing_id,
-            incoming_window: self.incoming_window,
-            outgoing_window: self.outgoing_window,
-            handle_max: self.handle_max,
-            offered_capabilities: self.offered_capabilities,
-            desired_capabilities: self.desired_capabilities,
-            properties: self.properties,
-        };
-        PlainSession::new(alloc, channel, state, begin)
+        PlainSession::new(alloc, channel, state, self.into_begin())
     }
 
     /// Begins a session of this side on a channel that the connection gives: its begin is to be

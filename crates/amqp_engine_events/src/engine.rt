@@ -55,8 +55,9 @@ impl<S> SessionEngine<S> {
     ghost use Rattle.std.specs.Borrow.{Lends, sem};
     ghost use Rattle.amqp_engine_events.specs.contracts.engine.SessionEngine.{the_row};
 
-    /// The engine of a session that has begun.
-    pub(crate) fn new(alloc: Global, session: S) -> Self
+    /// The engine of a session in whatever state it is: what the session has still to send, as its
+    /// begin, is its owner's to send. Turns take their memory from `alloc`.
+    pub fn new(alloc: Global, session: S) -> Self
         ensures { result ≡ session }
     {
         SessionEngine { session, alloc }

@@ -4,9 +4,9 @@ ghost use Rattle.std.specs.Prelude.{◌≡◌};
 ghost use Rattle.amqp_engine_builder.specs.Builders.{default_builder};
 ghost use Rattle.amqp_engine_events.specs.Beginning.{StoppedEarly};
 ghost use Rattle.amqp_resource_accepted.specs.Accepted.{AcceptsOn};
-ghost use Rattle.amqp_resource_accepted.specs.Accepting.{AcceptsNext, CopiesAndAccepts};
+ghost use Rattle.amqp_resource_accepted.specs.Accepting.{AcceptsNext, AcceptsOrNoMemory};
 
-use crate::accepted::{AcceptedSession, accept_built};
+use crate::accepted::{AcceptedSession, Parts, accept_parts, copy_parts};
 use crate::acceptor_builder::SessionAcceptorBuilder;
 use amqp_below_connections::{ConnectionEnd, IncomingSession};
 use amqp_below_sessions::BeginError;
@@ -72,11 +72,11 @@ impl SessionAcceptor {
     ) -> Result<(AcceptedSession, Begin), BeginError>
         ensures { AcceptsOn self.now.0 incoming channel result }
     {
-        let Ok(builder) = self.0.try_clone() else {
+        let Ok(parts) = copy_parts(&self.0) else {
             drop(incoming);
             return Err(BeginError::NoMemory);
         };
-        accept_built(alloc, builder, incoming, channel)
+        Ok(accept_parts(alloc, parts, incoming, channel))
     }
 
     /// Accepts the session that waits longest at the connection, on a channel that the connection
@@ -84,51 +84,49 @@ impl SessionAcceptor {
     ///
     /// # Errors
     ///
-    /// - `NoMemory` where memory runs out for a copy of the builder, which is made first: the
-    ///   connection is as it was then, and the session still waits.
+    /// - `NoMemory` where memory runs out for what the session is made of, which is copied first:
+    ///   the connection is as it was then, and the session still waits.
     /// - `ConnectionStopped` where no session will come any more, with the reason that the
-    ///   connection tells, or `Closed`.
-    /// - `LocalChannelMaxReached` and `ConnectionStopped` where the connection answers
-    ///   `ChannelMaxReached` and `ConnectionStopped` for the channel. The session that waited has
-    ///   been taken by then, and is dropped.
-    /// - `NoMemory` where memory runs out for the begin that is sent or for the copy of a reason. A
-    ///   session that waited is dropped then too, and its channel is in use.
+    ///   connection tells, or `Closed`; `NoMemory` where memory runs out for a copy of the reason.
+    /// - What the connection refuses the channel for: `LocalChannelMaxReached` for
+    ///   `ChannelMaxReached`, else the error of its name. The session that waited is dropped then.
     pub fn accept<C: ConnectionEnd>(
         &self,
         alloc: Global,
         connection: &mut C,
     ) -> Poll<Result<(AcceptedSession, Begin), BeginError>>
-        ensures { CopiesAndAccepts C.told C.next_session_gives C.allocate_gives connection.old
+        ensures { AcceptsOrNoMemory C.told C.next_session_gives C.allocate_gives connection.old
             connection.new self.now.0 result }
     {
-        let Ok(builder) = self.0.try_clone() else {
+        let Ok(parts) = copy_parts(&self.0) else {
             return Poll::Ready(Err(BeginError::NoMemory));
         };
-        accept_next(alloc, builder, connection)
+        accept_next(alloc, parts, connection)
     }
 }
 
-/// Accepts the session that waits longest at the connection, as this builder says.
+/// Accepts the session that waits longest at the connection: it is made of these parts.
 fn accept_next<C: ConnectionEnd>(
     alloc: Global,
-    builder: Builder,
+    parts: Parts,
     connection: &mut C,
 ) -> Poll<Result<(AcceptedSession, Begin), BeginError>>
+    requires { parts.sent ≡ parts.begin }
     ensures { AcceptsNext C.told C.next_session_gives C.allocate_gives connection.old
-        connection.new builder result }
+        connection.new parts.control parts.begin result }
 {
     let Poll::Ready(next) = connection.next_incoming_session() else {
-        drop(builder);
+        drop(parts);
         return Poll::Pending;
     };
     let Some(incoming) = next else {
-        drop(builder);
+        drop(parts);
         return Poll::Ready(Err(stopped_early(connection)));
     };
     match connection.allocate_session() {
-        Ok(channel) => Poll::Ready(accept_built(alloc, builder, incoming, channel)),
+        Ok(channel) => Poll::Ready(Ok(accept_parts(alloc, parts, incoming, channel))),
         Err(refused) => {
-            drop(builder);
+            drop(parts);
             drop(incoming);
             Poll::Ready(Err(BeginError::from(refused)))
         }
