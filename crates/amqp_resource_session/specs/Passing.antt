@@ -1,6 +1,7 @@
 -- The calls of a session that the layer below answers.
 use Rattle.std.specs.Prelude.{ℕ, ◌≡◌, Result, Ok, Err}
-use Rattle.amqp_resource_session.specs.Words.{TxnSession, one_more}
+use Rattle.amqp_resource_session.specs.declared.session.TxnSession.{TxnSession}
+use Rattle.amqp_txn_types.specs.Counts.{one_more}
 use Rattle.amqp_resource_session.specs.Session.{below_of, held_of, refusals_of, stop_of, vetoes_of}
 
 -- a count, with one more where the answer is an Err

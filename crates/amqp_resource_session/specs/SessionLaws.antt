@@ -2,7 +2,17 @@
 -- for a session over another.
 use Rattle.std.specs.Prelude.{ℕ, ◌≡◌, Bool, true, false, MatchBool, Option, Some, None, Result, Ok, Err, List}
 use Rattle.std.proofs.Common.{refl, ap, inl, inr, sym, subst}
-use Rattle.amqp_resource_session.specs.Words.{Attach, Frame, Held, NoMemory, SessionInnerError, StopCode, Told, TransactionId, TxnSession, Verdict, is_coordinator_attach, txn}
+use Rattle.amqp_txn_types.specs.declared.performatives.Attach.{Attach}
+use Rattle.amqp_txn_types.specs.declared.performatives.Frame.{Frame}
+use Rattle.amqp_resource_held.specs.declared.held.Held.{Held}
+use Rattle.amqp_txn_types.specs.declared.items.NoMemory.{NoMemory}
+use Rattle.amqp_below_layer.specs.declared.inner_error.SessionInnerError.{SessionInnerError}
+use Rattle.amqp_resource_record.specs.declared.stop.StopCode.{StopCode}
+use Rattle.amqp_below_layer.specs.Told.{Told}
+use Rattle.amqp_txn_types.specs.declared.id.TransactionId.{TransactionId}
+use Rattle.amqp_resource_session.specs.declared.session.TxnSession.{TxnSession}
+use Rattle.amqp_below_layer.specs.declared.verdict.Verdict.{Verdict}
+use Rattle.amqp_txn_types.specs.Frames.{is_coordinator_attach, txn}
 use Rattle.amqp_txn_types.specs.declared.performatives.Frame.TheVariants as frames
 use Rattle.amqp_below_layer.specs.declared.inner_error.SessionInnerError.TheVariants as faults
 use Rattle.amqp_below_layer.specs.declared.verdict.Verdict.TheVariants as verdicts

@@ -4,16 +4,16 @@ ghost use Rattle.std.specs.Prelude.{◌≤◌, ◌<◌, ◌-◌, ◌^◌};
 ghost use Rattle.amqp_resource_log.specs.Live.{frame_count, owed};
 ghost use Rattle.amqp_resource_record.specs.declared.step.Step.TheVariants as steps;
 ghost use Rattle.amqp_resource_session.specs.Leaving.{StepDraws, StepLeaves};
-ghost use Rattle.amqp_resource_session.specs.Looking.{Pays, frames_added, frames_ended};
+ghost use Rattle.amqp_resource_held.specs.Looks.{Pays, frames_added, frames_ended, unless_no_memory};
 
 use crate::declaring::{declare_step, global_step};
 use crate::discharging::discharge_step;
 use crate::ending::{end_locally, end_remotely, end_with_connection};
 use crate::frame_steps::frame_step;
-use crate::held::{Held, has_link};
 use crate::link_steps::{close_step, link_end_step, no_link_step};
 use amqp_below_ids::{Drawn, IdSource};
 use amqp_below_layer::LayerBelow;
+use amqp_resource_held::{Held, has_link};
 use amqp_resource_log::Looks;
 use amqp_resource_record::{Reply, Step, StepError};
 use amqp_txn_codec::{ControlMessageBody, Declare, decode};
@@ -31,11 +31,11 @@ fn control_step<S: LayerBelow, G: IdSource, L: Ledger>(
     ids: &mut G,
     looks: &mut Looks<L>,
 ) -> Result<(Drawn, Reply), StepError>
-    ensures leaves { StepLeaves S.told S.sure S.review_gives held.old held.new below.old below.new
-        (steps.Control link payload.now) result }
+    ensures leaves { StepLeaves S.told S.sure S.review_gives S.check_gives held.old held.new below.old
+        below.new (steps.Control link payload.now) result }
     ensures draws { StepDraws G.next G.start ids.old ids.new result }
     ensures pays { Pays held.old.work held.new.work looks.old looks.new
-        (frames_ended held.old (steps.Control link payload.now)) 0 }
+        (unless_no_memory result (frames_ended held.old (steps.Control link payload.now))) 0 }
 {
     if !has_link(&held.links, link) {
         return no_link_step(held, alloc, link, payload);
@@ -58,7 +58,7 @@ fn control_step<S: LayerBelow, G: IdSource, L: Ledger>(
     }
 }
 
-/// What a step does, before the log is closed up.
+/// What a step does, before the log is compacted.
 fn step_by_kind<S: LayerBelow, G: IdSource, L: Ledger>(
     held: &mut Held,
     below: &mut S,
@@ -68,11 +68,11 @@ fn step_by_kind<S: LayerBelow, G: IdSource, L: Ledger>(
     looks: &mut Looks<L>,
 ) -> Result<(Drawn, Reply), StepError>
     requires room { held.old.opened < 2 ^ 64 - 1 }
-    ensures leaves { StepLeaves S.told S.sure S.review_gives held.old held.new below.old below.new
-        step.now result }
+    ensures leaves { StepLeaves S.told S.sure S.review_gives S.check_gives held.old held.new below.old
+        below.new step.now result }
     ensures draws { StepDraws G.next G.start ids.old ids.new result }
     ensures pays { Pays held.old.work held.new.work looks.old looks.new
-        (frames_ended held.old step.now) (frames_added step.now) }
+        (unless_no_memory result (frames_ended held.old step.now)) (frames_added step.now) }
 {
     match step {
         Step::Frame(frame) => frame_step(held, below, alloc, frame),
@@ -96,14 +96,14 @@ pub fn take_step<S: LayerBelow, G: IdSource, L: Ledger>(
     looks: &mut Looks<L>,
 ) -> Result<(Drawn, Reply), StepError>
     requires room { held.old.opened < 2 ^ 64 - 1 }
-    ensures leaves { StepLeaves S.told S.sure S.review_gives held.old held.new below.old below.new
-        step.now result }
+    ensures leaves { StepLeaves S.told S.sure S.review_gives S.check_gives held.old held.new below.old
+        below.new step.now result }
     ensures draws { StepDraws G.next G.start ids.old ids.new result }
     ensures pays { Pays held.old.work held.new.work looks.old looks.new
-        (frames_ended held.old step.now) (frames_added step.now) }
+        (unless_no_memory result (frames_ended held.old step.now)) (frames_added step.now) }
     ensures few { owed held.new.work ≤ frame_count held.new.work }
 {
     let result = step_by_kind(held, below, alloc, step, ids, looks);
-    held.work.settle(looks);
+    held.work.compact(looks);
     result
 }

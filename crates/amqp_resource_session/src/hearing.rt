@@ -9,7 +9,7 @@ ghost use Rattle.amqp_resource_session.specs.Opening.{frames_of};
 ghost use Rattle.amqp_resource_session.specs.Passing.{counted};
 ghost use Rattle.amqp_resource_session.specs.Session.{FitsTogether, below_of, is_live_on, own_told, refusals_of, stop_of, told_of, vetoes_of};
 
-use crate::frame_steps::{control_attach_of, keep_under, open_control};
+use crate::frame_steps::{KeptWork, LinkOpening, control_attach_of, keep_under, open_control};
 use crate::session::TxnSession;
 use crate::transacting::refuse_call;
 use amqp_below_layer::{LayerBelow, SessionInnerError, on_incoming_frame};
@@ -44,9 +44,9 @@ impl<S: LayerBelow> TxnSession<S> {
     {
         let alloc = self.allocator();
         match keep_under(&mut self.held.work, alloc, frame, id) {
-            Some(Ok(given)) => Ok(given),
-            Some(Err(_)) => refuse_call(&mut self.refusals, SessionInnerError::NoMemory),
-            None => {
+            KeptWork::Answered(given) => Ok(given),
+            KeptWork::NoMemory => refuse_call(&mut self.refusals, SessionInnerError::NoMemory),
+            KeptWork::NotLive => {
                 self.stop = Some(StopCode::UnknownTxnId);
                 refuse_call(&mut self.refusals, SessionInnerError::UnknownTxnId)
             }
@@ -85,9 +85,11 @@ impl<S: LayerBelow> TxnSession<S> {
         }
         let alloc = self.allocator();
         match open_control(&mut self.held, &mut self.below, alloc, attach) {
-            Some(Ok(link)) => Ok(link),
-            Some(Err(error)) => refuse_call(&mut self.refusals, error),
-            None => refuse_call(&mut self.refusals, SessionInnerError::NoMemory),
+            LinkOpening::Opened { link, frames } => Ok((link, frames)),
+            LinkOpening::Refused(error) => refuse_call(&mut self.refusals, error),
+            LinkOpening::NoMemory => {
+                refuse_call(&mut self.refusals, SessionInnerError::NoMemory)
+            }
         }
     }
 

@@ -1,7 +1,9 @@
 use Rattle.std.proofs.Common.{ap, sym, subst, ◌∙◌, arith, length, ◌+◌, ◌≡◌, ◌∷◌, [], ◌++◌, take, drop, cond, ℕ, Err, List}
 use Rattle.std.specs.Vec.Iter.{into_iter_items}
 use Rattle.std.proofs.lemmas.List.{length-append}
-use Rattle.amqp_resource_session.specs.Words.{Answers, CommitFault, Frame}
+use Rattle.amqp_below_layer.specs.declared.answers.Answers.{Answers}
+use Rattle.amqp_below_sessions.specs.declared.transacting.CommitFault.{CommitFault}
+use Rattle.amqp_txn_types.specs.declared.performatives.Frame.{Frame}
 use Rattle.amqp_txn_types.proofs.Growing.{grown-nil}
 use Rattle.amqp_below_layer.specs.Told.{Reviewed}
 use Rattle.amqp_below_sessions.specs.declared.transacting.CommitFault.TheVariants as commit_faults
