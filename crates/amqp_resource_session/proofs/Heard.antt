@@ -15,7 +15,7 @@ use Rattle.amqp_below_layer.specs.declared.inner_error.SessionInnerError.TheVari
 use Rattle.amqp_resource_session.specs.Calls.{by_stop}
 use Rattle.amqp_resource_session.specs.Hearing.{Hears, HearsAttach, HearsKind, HearsUnbound, HearsUnder, RefusesWith}
 use Rattle.amqp_resource_session.specs.Opening.{frames_of}
-use Rattle.amqp_resource_session.specs.Passing.{counted}
+use Rattle.amqp_txn_types.specs.Counts.{counted}
 use Rattle.amqp_resource_session.specs.Session.{is_live_on, stop_of}
 use Rattle.amqp_resource_session.proofs.Calling.{listless}
 use Rattle.amqp_resource_session.proofs.Keeping.{coord-attach, txn-attach}

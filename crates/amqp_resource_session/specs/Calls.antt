@@ -22,7 +22,7 @@ use Rattle.amqp_below_sessions.specs.declared.transacting.AllocTxnIdError.TheVar
 use Rattle.amqp_below_sessions.specs.declared.transacting.CommitFault.TheVariants as commit_faults
 use Rattle.amqp_resource_session.specs.Session.{FitsTogether, SameSession, below_of, frame_count_of, held_of, owed_of, refusals_of, stop_of, told_of, view_of}
 use Rattle.amqp_resource_session.specs.Committing.{HandsSurely, OnNoEchoes, OnVetoed}
-use Rattle.amqp_resource_session.specs.Passing.{counted}
+use Rattle.amqp_txn_types.specs.Counts.{counted}
 use Rattle.amqp_resource_session.specs.Transacting.{AllocatedIn, CommittedIn, RolledBackIn}
 use Rattle.amqp_resource_held.specs.Views.{frames_in}
 

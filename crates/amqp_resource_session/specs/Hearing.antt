@@ -15,7 +15,7 @@ use Rattle.amqp_below_layer.specs.Inner.{Took}
 use Rattle.amqp_resource_session.specs.Calls.{GoesOn, by_stop}
 use Rattle.amqp_resource_held.specs.Held.{SameHeld}
 use Rattle.amqp_resource_session.specs.Opening.{OpensLink, frames_of}
-use Rattle.amqp_resource_session.specs.Passing.{counted}
+use Rattle.amqp_txn_types.specs.Counts.{counted}
 use Rattle.amqp_txn_types.specs.Presumptive.{answered_under}
 use Rattle.amqp_resource_held.specs.Changes.{Arrives}
 use Rattle.amqp_resource_session.specs.Session.{FitsTogether, SameSession, below_of, held_of, is_live_on, opened_of, refusals_of, stop_of, view_of}

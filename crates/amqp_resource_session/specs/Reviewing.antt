@@ -23,7 +23,8 @@ use Rattle.amqp_below_layer.specs.declared.verdict.Verdict.TheVariants as verdic
 use Rattle.amqp_resource_session.specs.Calls.{by_stop}
 use Rattle.amqp_resource_session.specs.Hearing.{HearsFrame, HearsKind, HearsPlain, HearsUnbound, RefusesWith}
 use Rattle.amqp_below_layer.specs.declared.inner_error.SessionInnerError.TheVariants as faults
-use Rattle.amqp_resource_session.specs.Passing.{Passes, PassesOn, counted}
+use Rattle.amqp_resource_session.specs.Passing.{Passes, PassesOn}
+use Rattle.amqp_txn_types.specs.Counts.{counted}
 use Rattle.amqp_resource_session.specs.Session.{below_of, held_of, refusals_of, stop_of, vetoes_of}
 
 -- a count of vetoes, with one more after a Veto

@@ -1,34 +1,18 @@
 //! What a session does with a frame or a control link that comes by its calls.
 
-ghost use Rattle.std.specs.Prelude.{◌≡◌, ◌≤◌, None, Some, OnErr};
-ghost use Rattle.amqp_txn_types.specs.Counts.{Rose};
+ghost use Rattle.std.specs.Prelude.{◌≡◌, ◌≤◌, None, Some};
 ghost use Rattle.amqp_txn_types.specs.Frames.{is_coordinator_attach, txn};
 ghost use Rattle.amqp_below_layer.specs.Told.{Opens, Takes};
 ghost use Rattle.amqp_resource_session.specs.Hearing.{Hears, HearsAttach, HearsControl, HearsFrame, HearsPlain, HearsUnder, OpensControl};
 ghost use Rattle.amqp_resource_session.specs.Opening.{frames_of};
-ghost use Rattle.amqp_resource_session.specs.Passing.{counted};
+ghost use Rattle.amqp_txn_types.specs.Counts.{counted};
 ghost use Rattle.amqp_resource_session.specs.Session.{FitsTogether, below_of, is_live_on, own_told, refusals_of, stop_of, told_of, vetoes_of};
 
 use crate::frame_steps::{KeptWork, LinkOpening, control_attach_of, keep_under, open_control};
 use crate::session::TxnSession;
-use crate::transacting::refuse_call;
 use amqp_below_layer::{LayerBelow, SessionInnerError, on_incoming_frame};
 use amqp_resource_record::{StopCode, code_of_fault};
-use amqp_txn_types::{Attach, Frame, Frames, TransactionId, count_refusal, txn_of};
-
-/// Counts an answer that is an Err, and gives the answer.
-pub fn count_answer<T, E>(refusals: &mut u64, answer: Result<T, E>) -> Result<T, E>
-    ensures answer { result ≡ answer }
-    ensures counted { refusals.new ≡ counted answer refusals.old }
-    ensures later { refusals.old ≤ refusals.new }
-    ensures cause { OnErr answer (Rose refusals.old refusals.new) }
-{
-    if answer.is_err() {
-        let _count = *refusals;
-        count_refusal(refusals);
-    }
-    answer
-}
+use amqp_txn_types::{Attach, Frame, Frames, TransactionId, refuse, txn_of};
 
 impl<S: LayerBelow> TxnSession<S> {
     /// A frame under an id is kept, where the id is live; else it stops the session.
@@ -45,10 +29,10 @@ impl<S: LayerBelow> TxnSession<S> {
         let alloc = self.allocator();
         match keep_under(&mut self.held.work, alloc, frame, id) {
             KeptWork::Answered(given) => Ok(given),
-            KeptWork::NoMemory => refuse_call(&mut self.refusals, SessionInnerError::NoMemory),
+            KeptWork::NoMemory => refuse(&mut self.refusals, SessionInnerError::NoMemory),
             KeptWork::NotLive => {
                 self.stop = Some(StopCode::UnknownTxnId);
-                refuse_call(&mut self.refusals, SessionInnerError::UnknownTxnId)
+                refuse(&mut self.refusals, SessionInnerError::UnknownTxnId)
             }
         }
     }
@@ -66,7 +50,7 @@ impl<S: LayerBelow> TxnSession<S> {
             Ok(given) => Ok(given),
             Err(error) => {
                 self.stop = Some(code_of_fault(&error));
-                refuse_call(&mut self.refusals, error)
+                refuse(&mut self.refusals, error)
             }
         }
     }
@@ -81,14 +65,14 @@ impl<S: LayerBelow> TxnSession<S> {
         ensures fixed { (told_of S.told self.new).fixed ≡ (told_of S.told self.old).fixed }
     {
         if self.stop.is_some() || self.held.opened == u64::MAX {
-            return refuse_call(&mut self.refusals, SessionInnerError::IllegalState);
+            return refuse(&mut self.refusals, SessionInnerError::IllegalState);
         }
         let alloc = self.allocator();
         match open_control(&mut self.held, &mut self.below, alloc, attach) {
             LinkOpening::Opened { link, frames } => Ok((link, frames)),
-            LinkOpening::Refused(error) => refuse_call(&mut self.refusals, error),
+            LinkOpening::Refused(error) => refuse(&mut self.refusals, error),
             LinkOpening::NoMemory => {
-                refuse_call(&mut self.refusals, SessionInnerError::NoMemory)
+                refuse(&mut self.refusals, SessionInnerError::NoMemory)
             }
         }
     }
@@ -120,7 +104,7 @@ impl<S: LayerBelow> TxnSession<S> {
     {
         if self.stop.is_some() {
             drop(frame);
-            return refuse_call(&mut self.refusals, SessionInnerError::IllegalState);
+            return refuse(&mut self.refusals, SessionInnerError::IllegalState);
         }
         if let Some(id) = txn_of(&frame) {
             let answer = self.hear_under(&frame, id);
