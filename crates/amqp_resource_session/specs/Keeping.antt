@@ -1,7 +1,7 @@
 -- What a step answers and leaves, by the view before it and the view after it. Clauses take the
 -- views of a session that hasn't stopped, whether it stands for a record or not; proofs also that
 -- of a record.
-use Rattle.std.specs.Prelude.{ℕ, Bool, true, false, ◌==◌, ◌≡◌, ◌≤◌, ◌+◌, cond, Option, Some, None, Result, Ok, Err, List, [], map, MatchBool}
+use Rattle.std.specs.Prelude.{ℕ, Bool, true, false, ◌≡◌, Option, Some, None, Result, Ok, Err, List, [], map, MatchBool}
 use Rattle.amqp_below_layer.specs.declared.answers.Answers.{Answers}
 use Rattle.amqp_txn_codec.specs.declared.message.ControlMessageBody.{ControlMessageBody}
 use Rattle.amqp_below_ids.specs.Drawn.{DrawnIds}
@@ -17,8 +17,6 @@ use Rattle.amqp_txn_types.specs.Presumptive.{answered_under}
 use Rattle.amqp_txn_types.specs.Frames.{is_coordinator_attach, stripped, txn}
 use Rattle.amqp_txn_codec.specs.Discharges.{is_rollback}
 use Rattle.amqp_txn_codec.specs.Reading.{message_of}
-use Rattle.amqp_txn_types.specs.Ids.{same_id}
-use Rattle.amqp_resource_log.specs.Live.{with_frame}
 use Rattle.amqp_txn_types.specs.declared.small.AmqpError.TheVariants as amqp_errors
 use Rattle.amqp_txn_types.specs.declared.small.TransactionError.TheVariants as transaction_errors
 use Rattle.amqp_txn_codec.specs.declared.message.ControlMessageBody.TheVariants as messages
@@ -26,9 +24,8 @@ use Rattle.amqp_resource_record.specs.declared.step.Step.TheVariants as steps
 use Rattle.amqp_resource_record.specs.declared.reply.RejectText.TheVariants as texts
 use Rattle.amqp_resource_record.specs.declared.reply.Reply.TheVariants as replies
 use Rattle.amqp_resource_record.specs.declared.stop.StepError.TheVariants as errors
-use Rattle.amqp_resource_held.specs.Held.{Tied, is_in, unless_on}
-use Rattle.amqp_resource_held.specs.Draws.{DrewLive, DrewUnused}
-use Rattle.amqp_resource_held.specs.Views.{SameLinks, SameLive, SameView, View, frames_in, is_held_in, is_live_in, view_of_held}
+use Rattle.amqp_resource_held.specs.Draws.{DrewLive}
+use Rattle.amqp_resource_held.specs.Views.{SameView, View, frames_in, is_held_in, view_of_held}
 use Rattle.amqp_resource_session.specs.Steps.{OpenedBy, Refused, RefusedBy, UnderDead, ended_by, is_unknown, step_hands, takes_memory}
 use Rattle.amqp_resource_session.specs.Committing.{HandsAll}
 

@@ -1,6 +1,6 @@
 -- What the transactional calls of a session do. An id that such a call allocates is declared on no
 -- link: no control message discharges it, and no end of a link aborts it.
-use Rattle.std.specs.Prelude.{ℕ, ◌≡◌, true, false, cond, map, Some, None, Result, Ok, Err, List, []}
+use Rattle.std.specs.Prelude.{ℕ, ◌≡◌, true, false, map, Result, Ok, Err, List}
 use Rattle.amqp_txn_types.specs.declared.small.Accepted.{Accepted}
 use Rattle.amqp_below_sessions.specs.declared.transacting.AllocTxnIdError.{AllocTxnIdError}
 use Rattle.amqp_below_layer.specs.declared.answers.Answers.{Answers}
@@ -13,7 +13,6 @@ use Rattle.amqp_below_layer.specs.Told.{Told}
 use Rattle.amqp_txn_types.specs.declared.small.TransactionError.{TransactionError}
 use Rattle.amqp_txn_types.specs.declared.id.TransactionId.{TransactionId}
 use Rattle.amqp_resource_log.specs.Live.{frames_kept, kept}
-use Rattle.amqp_txn_types.specs.Ids.{same_id}
 use Rattle.amqp_txn_types.specs.Frames.{stripped}
 use Rattle.amqp_txn_types.specs.declared.small.TransactionError.TheVariants as transaction_errors
 use Rattle.amqp_below_sessions.specs.declared.transacting.AllocTxnIdError.TheVariants as allocations
@@ -21,7 +20,7 @@ use Rattle.amqp_below_sessions.specs.declared.transacting.CommitFault.TheVariant
 use Rattle.amqp_resource_record.specs.declared.stop.StepError.TheVariants as errors
 use Rattle.amqp_resource_session.specs.Committing.{HandsAll}
 use Rattle.amqp_resource_held.specs.Draws.{DrewLive, DrewUnused, is_kept}
-use Rattle.amqp_resource_held.specs.Held.{SameHeld, Tied, ids_on, is_in, kept_without}
+use Rattle.amqp_resource_held.specs.Held.{SameHeld}
 
 -- an allocation: the ids drawn were live but for the last, which now is; or all 16 of them were
 -- live

@@ -1,14 +1,11 @@
 //! Declares: ids are drawn until one isn't live.
 
-ghost use Rattle.std.specs.Prelude.{◌≡◌, ◌≤◌, [], true, Some, None, MatchOption, IfOk};
+ghost use Rattle.std.specs.Prelude.{◌≡◌, true, Some, None, IfOk};
 ghost use Rattle.amqp_txn_codec.specs.Reading.{message_of};
 ghost use Rattle.amqp_txn_codec.specs.declared.message.ControlMessageBody.TheVariants as messages;
-ghost use Rattle.amqp_below_ids.specs.Ids.{Drew};
 ghost use Rattle.amqp_below_sessions.specs.Transacting.{Allocates};
 ghost use Rattle.amqp_resource_record.specs.declared.step.Step.TheVariants as steps;
 ghost use Rattle.amqp_resource_held.specs.Held.{is_in};
-ghost use Rattle.amqp_resource_log.specs.Live.{kept};
-ghost use Rattle.amqp_resource_held.specs.Draws.{DrewUnused, DrewLive};
 ghost use Rattle.amqp_resource_session.specs.Transacting.{AllocatedIn};
 ghost use Rattle.amqp_resource_held.specs.Changes.{Fits};
 ghost use Rattle.amqp_resource_session.specs.Leaving.{LeavesHere, StepDraws};
@@ -19,7 +16,6 @@ use crate::outcomes::no_draws;
 use amqp_below_ids::{Drawn, IdSource};
 use amqp_below_sessions::AllocTxnIdError;
 use amqp_resource_held::{Held, declare_on, draw_unused, make_room};
-use amqp_resource_log::LiveWork;
 use amqp_resource_record::{RejectText, Reply, StepError};
 use amqp_txn_types::{Payload, TransactionError, TransactionId};
 use std::alloc::Global;
@@ -92,6 +88,7 @@ pub fn allocate<G: IdSource>(
 ) -> Result<Drawn, AllocTxnIdError>
     ensures answer { AllocatedIn held.old held.new result }
     ensures fits { Fits held.old → Fits held.new }
+    ensures counts { Adds held.old.work held.new.work 0 }
     ensures drew { Allocates (G.next ids.old) (G.next ids.new) result }
     ensures start { G.start ids.new ≡ G.start ids.old }
 {

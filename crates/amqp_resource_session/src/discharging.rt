@@ -18,8 +18,8 @@ ghost use Rattle.amqp_resource_session.specs.Leaving.{StepLeaves};
 ghost use Rattle.amqp_resource_held.specs.Looks.{Pays, frames_ended, unless_no_memory};
 ghost use Rattle.amqp_resource_session.specs.Steps.{nothing_drawn};
 
-use crate::committing::hand_reviewed;
 use crate::outcomes::{faulted, no_draws};
+use crate::review::hand_reviewed;
 use amqp_below_ids::Drawn;
 use amqp_below_layer::{Answers, Echoes, LayerBelow};
 use amqp_below_sessions::CommitFault;

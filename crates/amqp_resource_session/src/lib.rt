@@ -31,18 +31,18 @@
 //! vetoed commit, followed, only where it refused, by the first frames of the next step's.
 #![tactic(auto)]
 
-mod acting;
 mod as_session;
-mod committing;
 mod declaring;
 mod discharging;
+mod dispatch;
 mod driving;
 mod ending;
 mod frame_steps;
-mod hearing;
+mod incoming;
 mod laws;
 mod link_steps;
 mod outcomes;
+mod review;
 mod session;
 mod transacting;
 

@@ -8,7 +8,7 @@ ghost use Rattle.amqp_resource_session.specs.Stepping.{StepSays};
 ghost use Rattle.amqp_resource_held.specs.Looks.{dues, frames_added, frames_ended, unless_no_memory};
 ghost use Rattle.amqp_resource_session.specs.Session.{FitsTogether, IsFresh, StandsFor, StopAfter, below_of, frame_count_of, held_of, is_live_on, opened_of, owed_of, refusals_of, stop_of, vetoes_of};
 
-use crate::acting::take_step;
+use crate::dispatch::take_step;
 use amqp_below_ids::{Drawn, IdSource};
 use amqp_below_layer::LayerBelow;
 use amqp_resource_held::{Held, keeps_nothing};

@@ -1,7 +1,7 @@
 use Rattle.std.proofs.Common.{refl}
 use Rattle.amqp_resource_session.proofs.Leaving.{leaves-moved}
 use Rattle.amqp_resource_held.proofs.Looked.{pays_compacted}
-use Rattle.amqp_resource_session.proofs.acting.take_step.Goals as goal
+use Rattle.amqp_resource_session.proofs.dispatch.take_step.Goals as goal
 
 pub returns-clause-leaves : goal.returns-clause-leaves
 returns-clause-leaves g c =

@@ -2,7 +2,7 @@ use Rattle.std.proofs.Common.{refl}
 use Rattle.amqp_resource_session.proofs.Keeping.{here-end}
 use Rattle.amqp_resource_session.proofs.Leaving.{leaves-here, local_error, remote_error}
 use Rattle.amqp_resource_held.proofs.Looked.{pays_adds, pays_none}
-use Rattle.amqp_resource_session.proofs.acting.step_by_kind.Goals as goal
+use Rattle.amqp_resource_session.proofs.dispatch.step_by_kind.Goals as goal
 
 pub returns-in-Frame-clause-leaves : goal.returns-in-Frame-clause-leaves
 returns-in-Frame-clause-leaves g c = rw c.in-Frame.is c.frame_step.ensures.leaves

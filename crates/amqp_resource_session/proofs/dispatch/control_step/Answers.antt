@@ -1,6 +1,6 @@
 use Rattle.amqp_resource_session.proofs.Leaving.{leaves-here}
 use Rattle.amqp_resource_held.proofs.Looked.{pays_adds, pays_none}
-use Rattle.amqp_resource_session.proofs.acting.control_step.Goals as goal
+use Rattle.amqp_resource_session.proofs.dispatch.control_step.Goals as goal
 
 pub returns-then-not-has_link-clause-leaves : goal.returns-then-not-has_link-clause-leaves
 returns-then-not-has_link-clause-leaves g c = leaves-here _ _ _ _ _ _ _ _ _ c.no_link_step.ensures.leaves

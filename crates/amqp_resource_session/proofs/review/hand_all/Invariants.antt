@@ -1,7 +1,7 @@
 use Rattle.std.proofs.Common.{◌≡◌, ◌≤◌, length, take, drop, vec_capacity}
 use Rattle.std.specs.Vec.Iter.{into_iter_items}
 use Rattle.amqp_resource_session.specs.Committing.{HandedSome}
-use Rattle.amqp_resource_session.proofs.committing.hand_all.Given as goal
+use Rattle.amqp_resource_session.proofs.review.hand_all.Given as goal
 
 abbrev pub invariant-loop-frame : goal.invariant-loop-frame
 invariant-loop-frame g l =

@@ -9,7 +9,7 @@ use Rattle.amqp_below_layer.specs.Told.{Reviewed}
 use Rattle.amqp_below_sessions.specs.declared.transacting.CommitFault.TheVariants as commit_faults
 use Rattle.amqp_resource_session.specs.Committing.{HandedSome, HandsAll}
 use Rattle.amqp_resource_session.proofs.Handing.{handed-more, handed-part, handed-rest, only-no_memory, refuses-nothing}
-use Rattle.amqp_resource_session.proofs.committing.hand_all.Goals as goal
+use Rattle.amqp_resource_session.proofs.review.hand_all.Goals as goal
 
 pub loop-frame-preserved : goal.loop-frame-preserved
 loop-frame-preserved g c =

@@ -1,7 +1,7 @@
 //! What a session does with a frame or a control link that comes by its calls.
 
 ghost use Rattle.std.specs.Prelude.{◌≡◌, ◌≤◌, None, Some};
-ghost use Rattle.amqp_txn_types.specs.Frames.{is_coordinator_attach, txn};
+ghost use Rattle.amqp_txn_types.specs.Frames.{txn};
 ghost use Rattle.amqp_below_layer.specs.Told.{Opens, Takes};
 ghost use Rattle.amqp_resource_session.specs.Hearing.{Hears, HearsAttach, HearsControl, HearsFrame, HearsPlain, HearsUnder, OpensControl};
 ghost use Rattle.amqp_resource_session.specs.Opening.{frames_of};
@@ -71,9 +71,7 @@ impl<S: LayerBelow> TxnSession<S> {
         match open_control(&mut self.held, &mut self.below, alloc, attach) {
             LinkOpening::Opened { link, frames } => Ok((link, frames)),
             LinkOpening::Refused(error) => refuse(&mut self.refusals, error),
-            LinkOpening::NoMemory => {
-                refuse(&mut self.refusals, SessionInnerError::NoMemory)
-            }
+            LinkOpening::NoMemory => { refuse(&mut self.refusals, SessionInnerError::NoMemory) }
         }
     }
 
