@@ -124,7 +124,7 @@ attach_refusal (errors.LocalReceiver error) = receiver_refusal error
 abbrev pub Accepted : Type 0
 Accepted = Result (LinkEndpoint × List Frame) AcceptorAttachError
 
--- the acceptor's frames, or why it doesn't accept; the link's end is let go
+-- the acceptor's frames, or why it doesn't accept; the link's end is dropped
 abbrev pub attach_answer : Accepted → Result (List Frame) SessionInnerError
 attach_answer (Ok accepted) = Ok accepted.1
 attach_answer (Err error) = Err (attach_refusal error)

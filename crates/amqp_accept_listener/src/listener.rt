@@ -1,6 +1,6 @@
 //! A session whose peer's attaches wait to be accepted.
 
-ghost use Rattle.std.specs.Prelude.{◌≡◌, [], true, false};
+ghost use Rattle.std.specs.Prelude.{◌≡◌, [], false};
 ghost use Rattle.amqp_txn_types.specs.declared.small.InputHandle.{InputHandle as Input};
 ghost use Rattle.amqp_accept_listener.specs.Listening.{ChangesQueue, TakesNewest, control_of, held_of, inner_of, own_of, queue_of};
 
@@ -62,13 +62,6 @@ impl<S: Session> ListenerSession<S> {
         ensures { result.now ≡ inner_of self.now }
     {
         &self.session
-    }
-
-    /// Closes the queue: from now on no attach is queued. Those that wait are still given.
-    pub fn close_listener(&mut self)
-        ensures { ChangesQueue self.old self.new (record (queue_of self.old) { closed = true }) }
-    {
-        self.queue.close();
     }
 
     /// Takes the attach that came last out of the queue: what an owner that accepts each attach as

@@ -1,5 +1,5 @@
 use Rattle.std.proofs.Common.{rules, refl, Ok, inl}
-use Rattle.amqp_accept_listener.proofs.control_links.open_control.Goals as goal
+use Rattle.amqp_accept_listener.proofs.control_links.open_coordinator.Goals as goal
 
 -- the link was opened as the acceptor had made it ready
 pub returns-in-Ok-clause-opens : goal.returns-in-Ok-clause-opens
