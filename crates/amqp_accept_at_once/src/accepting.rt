@@ -7,11 +7,12 @@ mod endpoint_calls;
 mod session_calls;
 
 use crate::hearing::{Acceptor, hear_attach};
-use amqp_accept_listener::{ListenerSession, count_answer};
+use amqp_accept_listener::ListenerSession;
 use amqp_below_layer::{LayerBelow, SessionInnerError, Tells, Verdict};
 use amqp_below_sessions::Session;
 use amqp_txn_types::{
     Attach, Detach, Disposition, Flow, Frames, NoMemory, Payload, SessionState, Transfer,
+    count_answer,
 };
 use std::alloc::Global;
 

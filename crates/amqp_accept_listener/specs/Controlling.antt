@@ -2,7 +2,7 @@
 -- transaction).
 use Rattle.std.specs.Prelude.{◌≡◌, ◌⊎◌, Bool, false, IfErr, Result, Ok, Err, List}
 use Rattle.std.specs.Bool.{OnFalse, OnTrue}
-use Rattle.amqp_txn_types.specs.Counts.{Rose}
+use Rattle.amqp_txn_types.specs.Counts.{Rose, counted}
 use Rattle.amqp_txn_types.specs.Frames.{attaches_coordinator}
 use Rattle.amqp_txn_types.specs.declared.small.InputHandle.{InputHandle}
 use Rattle.amqp_txn_types.specs.declared.small.OutputHandle.{OutputHandle}
@@ -26,7 +26,7 @@ use Rattle.amqp_accept_links.specs.declared.opening.OpenError.TheVariants as err
 use Rattle.amqp_accept_links.specs.Receivers.{control_opening}
 use Rattle.amqp_accept_links.specs.Replies.{SendsReply}
 use Rattle.amqp_accept_listener.specs.declared.listener.ListenerSession.{ListenerSession}
-use Rattle.amqp_accept_listener.specs.Listening.{AllocatesHeld, Unasked, control_of, counted, held_of, inner_of, own_of, queue_of}
+use Rattle.amqp_accept_listener.specs.Listening.{AllocatesHeld, Unasked, control_of, held_of, inner_of, own_of, queue_of}
 
 -- why a control link isn't opened: that it isn't allocated, or the session's own refusal of its
 -- flow

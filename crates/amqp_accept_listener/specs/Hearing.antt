@@ -1,5 +1,6 @@
 -- What a listener does with the frames that come.
 use Rattle.std.specs.Prelude.{◌≡◌, ◌⊎◌, Bool, true, false, if◌then◌else◌, Result, Ok, Err, List, []}
+use Rattle.amqp_txn_types.specs.Counts.{counted}
 use Rattle.amqp_txn_types.specs.declared.small.InputHandle.{InputHandle}
 use Rattle.amqp_txn_types.specs.declared.performatives.Attach.{Attach}
 use Rattle.amqp_txn_types.specs.declared.performatives.Flow.{Flow}
@@ -17,7 +18,7 @@ use Rattle.amqp_below_sessions.specs.declared.relay.NameState.TheVariants.{Waiti
 use Rattle.amqp_below_sessions.specs.Queues.{Queue, with_last}
 use Rattle.amqp_accept_listener.specs.declared.listener.ListenerSession.{ListenerSession}
 use Rattle.amqp_accept_listener.specs.Held.{SameHeld, link_flow_in, with_held}
-use Rattle.amqp_accept_listener.specs.Listening.{Keeps, Unasked, control_of, counted, held_of, inner_of, own_of, queue_of}
+use Rattle.amqp_accept_listener.specs.Listening.{Keeps, Unasked, control_of, held_of, inner_of, own_of, queue_of}
 
 -- why an attach isn't queued at a closed queue, by how its name is known
 abbrev pub unqueued_fault : NameState → SessionInnerError

@@ -1,6 +1,6 @@
 -- What a listener keeps beside the session in it, and what its calls do to both.
 use Rattle.std.specs.Prelude.{ℕ, ◌≡◌, ◌⊎◌, [], Option, Some, None, Result, Ok, Err, List, OnOk}
-use Rattle.amqp_txn_types.specs.Counts.{one_more}
+use Rattle.amqp_txn_types.specs.Counts.{counted, one_more}
 use Rattle.amqp_txn_types.specs.declared.small.InputHandle.{InputHandle}
 use Rattle.amqp_txn_types.specs.declared.small.OutputHandle.{OutputHandle}
 use Rattle.amqp_txn_types.specs.declared.performatives.Attach.{Attach}
@@ -42,11 +42,6 @@ control_of l = l.control
 -- how many of its own calls a listener answered with an Err
 abbrev pub own_of : {S : Type 0} → ListenerSession S → ℕ
 own_of l = l.refusals
-
--- a count, with one more where the answer is an Err
-abbrev pub counted : {T E : Type 0} → Result T E → ℕ → ℕ
-counted (Ok value) count = count
-counted (Err error) count = one_more count
 
 -- what a listener keeps beside its session and its count is as it was: queue, flows and acceptor
 pub record Keeps {S : Type 0} (old new : ListenerSession S) : Type 0 where

@@ -49,5 +49,4 @@ mod hearing;
 mod held_flows;
 mod listener;
 
-pub use hearing::count_answer;
 pub use listener::ListenerSession;

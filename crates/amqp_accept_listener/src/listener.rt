@@ -10,13 +10,14 @@ mod transactional_calls;
 
 use crate::attach_queue::AttachQueue;
 use crate::control_links::open_control;
-use crate::hearing::{count_answer, hear_attach, hear_flow, hear_transfer};
+use crate::hearing::{hear_attach, hear_flow, hear_transfer};
 use crate::held_flows::HeldFlows;
 use amqp_accept_links::ControlLinkAcceptor;
 use amqp_below_layer::{LayerBelow, SessionInnerError, Tells, Verdict};
 use amqp_below_sessions::Session;
 use amqp_txn_types::{
     Attach, Detach, Disposition, Flow, Frames, NoMemory, Payload, SessionState, Transfer,
+    count_answer,
 };
 use std::alloc::Global;
 

@@ -5,7 +5,7 @@ ghost use Rattle.amqp_below_connections.specs.MemoryConnections.{IsStopFault, wi
 
 use crate::connection::{AllocSessionError, ConnectionEnd, IncomingSession};
 use amqp_links::Poll;
-use amqp_txn_types::{ConnectionStopReason, NoMemory, OutgoingChannel, TryClone, count_refusal};
+use amqp_txn_types::{ConnectionStopReason, NoMemory, OutgoingChannel, TryClone, count_one};
 use std::alloc::Global;
 use std::collections::VecDeque;
 use std::marker::Model;
@@ -135,11 +135,11 @@ impl ConnectionEnd for MemoryConnection {
     fn allocate_session(&mut self) -> Result<OutgoingChannel, AllocSessionError> {
         if let Some(reason) = &self.stop {
             let error = stop_fault(reason);
-            count_refusal(&mut self.faults);
+            count_one(&mut self.faults);
             return Err(error);
         }
         if self.next > self.channel_max as u32 {
-            count_refusal(&mut self.faults);
+            count_one(&mut self.faults);
             return Err(AllocSessionError::ChannelMaxReached);
         }
         let channel = OutgoingChannel(self.next as u16);

@@ -1,12 +1,12 @@
 //! The calls of an accepting listener beside those of a layer below: each is its listener's.
 
 use crate::accepting::AcceptingListener;
-use amqp_accept_listener::{ListenerSession, count_answer};
+use amqp_accept_listener::ListenerSession;
 use amqp_below_layer::{LayerBelow, SessionInnerError, Tells};
 use amqp_below_sessions::{AllocLinkError, BeginError, NameState, Relay, Session};
 use amqp_txn_types::{
     Attach, Begin, ConnectionStopReason, Detach, End, Error, Flow, IncomingChannel, InputHandle,
-    LinkFlow, OutgoingChannel, OutputHandle, SessionStopReason, Text, Transfer,
+    LinkFlow, OutgoingChannel, OutputHandle, SessionStopReason, Text, Transfer, count_answer,
 };
 
 impl<S: Session> Session for AcceptingListener<S> {

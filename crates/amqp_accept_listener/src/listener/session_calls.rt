@@ -1,12 +1,12 @@
 //! The calls of a listener beside those of a layer below: each goes to the session in it.
 
-use crate::hearing::{allocate_held, count_answer};
+use crate::hearing::allocate_held;
 use crate::listener::ListenerSession;
 use amqp_below_layer::SessionInnerError;
 use amqp_below_sessions::{AllocLinkError, BeginError, NameState, Relay, Session};
 use amqp_txn_types::{
     Attach, Begin, ConnectionStopReason, Detach, End, Error, Flow, IncomingChannel, InputHandle,
-    LinkFlow, OutgoingChannel, OutputHandle, SessionStopReason, Text, Transfer,
+    LinkFlow, OutgoingChannel, OutputHandle, SessionStopReason, Text, Transfer, count_answer,
 };
 
 impl<S: Session> Session for ListenerSession<S> {
