@@ -79,7 +79,7 @@ abbrev pub SendsOnWire : SenderWire → SenderWire → Sendable → Option Deliv
     → Result Sent SendError → Type 0
 SendsOnWire old new sendable state batchable result =
     FailsAsListed (is_failing old.calls) (send_errors.LinkStateError link_errors.IllegalState)
-        send_errors.NoMemory result
+    send_errors.NoMemory result
     × (new ≡ after_send old sendable state batchable result)
 
 -- the slot of a number becomes another, where there is one
