@@ -60,12 +60,14 @@ pub appended-items : {A : Type 0} (spelled : List ℕ → Option A) (front : Lis
     → lines_after (with_item spelled) front number lines ≡ with_front front (items_from spelled number lines)
 unfolding lines_after items_from
 appended-items spelled front number [] = sym (ap (λ (all : List _). Ok all) (append-nil front))
-appended-items spelled front number (line ∷ others) = by_line (spelled line) refl
+appended-items spelled front number (line ∷ others) =
+    by_line (spelled line) (λ item. appended-items spelled (front ++ item ∷ []) (number + 1) others)
   where
-    by_line : (o : Option _) → spelled line ≡ o
+    by_line : (o : Option _)
+        → ((item : _) → lines_after (with_item spelled) (front ++ item ∷ []) (number + 1) others
+            ≡ with_front (front ++ item ∷ []) (items_from spelled (number + 1) others))
         → then_lines (item_appended front o) number (λ next. lines_after (with_item spelled) next (number + 1) others)
         ≡ with_front front (item_then o number (items_from spelled (number + 1) others))
-    by_line None is = refl
-    by_line (Some item) is =
-        appended-items spelled (front ++ item ∷ []) (number + 1) others
-        ∙ regroup front item number (items_from spelled (number + 1) others)
+    by_line None more = refl
+    by_line (Some item) more =
+        more item ∙ regroup front item number (items_from spelled (number + 1) others)
