@@ -22,7 +22,7 @@ use Rattle.amqp_txn_types.specs.contracts.small.HandlePartialEq.TheImpl as handl
 use Rattle.amqp_txn_types.specs.contracts.fields.ValuePartialEq.TheImpl as value_same
 use Rattle.amqp_txn_types.specs.contracts.fields.Value as value_type
 use Rattle.amqp_txn_types.specs.contracts.fields.FieldsPartialEq.TheImpl as fields_same
-use Rattle.amqp_resource_equality.proofs.Deciding.{IsEquality, bare, boolean, enumeration, list, no_field, number, one_field, option, pair}
+use Rattle.amqp_resource_equality.proofs.Deciding.{IsEquality, bare, boolean, enumeration, list, no_field, number, one_field, pair}
 
 pub role : IsEquality role_same.eq-value.it
 role = bare role_type.the_type tt
