@@ -34,8 +34,12 @@ impl Attaching {
     }
 
     /// Looks once whether the peer attached the link: `Ready(Ok)` exactly where the session knows
-    /// its name as that of an attached link. `SessionStopped` exactly where it doesn't and keeps a
-    /// reason why it stopped, unless there is no memory to copy that; else it is pending.
+    /// its name as that of an attached link, and `Pending` exactly where it doesn't and keeps no
+    /// reason why it stopped.
+    ///
+    /// # Errors
+    ///
+    /// `SessionStopped` with that reason, or `NoMemory` where memory runs out for its copy.
     pub fn poll<S: Session>(
         self,
         session: &mut S,

@@ -60,7 +60,9 @@ impl OwnedTransaction<WireSender> {
     /// capabilities: the attach is to be sent, and the declare is put by the poll that finds the
     /// link attached.
     ///
-    /// Errors: `AttachError` with those of [`Controller::attach`].
+    /// # Errors
+    ///
+    /// `AttachError` with those of [`Controller::attach`].
     pub fn declare<S: Session>(
         alloc: Global,
         session: &mut S,
@@ -105,9 +107,13 @@ impl OwnedDeclaring {
     /// declare. The poll that finds the link attached puts the declare, and is pending unless that
     /// is refused.
     ///
-    /// Errors: `AttachError` with `SessionStopped` where the session stopped before the link was
-    /// attached, or `NoMemory` for the copy of its reason; else `ControllerSendError` with those of
-    /// the declare. The controller is handed back exactly where the link was attached.
+    /// # Errors
+    ///
+    /// The controller is handed back exactly where the link was attached.
+    ///
+    /// - `AttachError`: with `SessionStopped` where the session stopped before the link was
+    ///   attached, or with `NoMemory` where memory runs out for the copy of its reason.
+    /// - `ControllerSendError`: with those of the declare.
     pub fn poll<S: Session, R: Wait>(self, rt: &R, session: &mut S) -> DeclareProgress
         ensures answer { PollsOwned ⟦<WireSender as SenderLink>⟧.send_gives
             ⟦<WireSender as SenderLink>⟧.outcome_gives ⟦<WireSender as SenderLink>⟧.told

@@ -1,7 +1,9 @@
 //! The steps of a transaction's end, borrowed or owned.
 
-use crate::tests::links::{CountingLink, assert_counts, assert_last, fill};
-use crate::tests::values::{COMMIT, ROLLBACK, passed, pending, ready, refused, same, unknown_id};
+use crate::transaction_tests::links::{CountingLink, assert_counts, assert_last, fill};
+use crate::transaction_tests::values::{
+    COMMIT, ROLLBACK, passed, pending, ready, refused, rolled_back, same, unknown_id,
+};
 use amqp_controller_calls::Abandoned;
 use amqp_controller_transactions::{
     Controller, Discharging, OwnedTransaction, Transaction, TransactionDischarge,
@@ -15,6 +17,8 @@ pub trait Over {
     fn over(&self) -> &Controller<CountingLink>;
 
     fn set_trials(&mut self, trials: u32);
+
+    fn has_read_rollback(&self) -> bool;
 }
 
 impl Over for Transaction<'_, CountingLink> {
@@ -25,6 +29,10 @@ impl Over for Transaction<'_, CountingLink> {
     fn set_trials(&mut self, trials: u32) {
         self.set_rollback_on_drop_trials(trials);
     }
+
+    fn has_read_rollback(&self) -> bool {
+        self.is_rolled_back()
+    }
 }
 
 impl Over for OwnedTransaction<CountingLink> {
@@ -34,6 +42,10 @@ impl Over for OwnedTransaction<CountingLink> {
 
     fn set_trials(&mut self, trials: u32) {
         self.set_rollback_on_drop_trials(trials);
+    }
+
+    fn has_read_rollback(&self) -> bool {
+        self.is_rolled_back()
     }
 }
 
@@ -125,7 +137,7 @@ fn handed_back<T: TransactionDischarge + Over, R: Wait + Abort>(
 ) -> T::Error {
     let (value, error) = back;
     assert_counts(rt, value.over(), want);
-    assert!(rt; !value.is_discharged());
+    assert!(rt; !value.is_discharged() && !value.has_read_rollback());
     drop(value.abandon(rt));
     error
 }
@@ -137,6 +149,39 @@ pub fn rejected_row<T: TransactionDischarge + Over, R: Wait + Abort + AllocGloba
 ) -> T::Error {
     let commit = asks(rt, value, false, DeliveryState::Rejected(unknown_id()));
     handed_back(rt, refused(rt, ready(rt, commit.poll(rt))), (2, 4, 0))
+}
+
+/// The value after a commit that the coordinator answered by a rollback: it isn't discharged.
+fn rolls_back<T: TransactionDischarge + Over, R: Wait + Abort + AllocGlobal>(
+    rt: &R,
+    value: T,
+) -> T {
+    let commit = asks(rt, value, false, DeliveryState::Rejected(rolled_back()));
+    let (value, error) = refused(rt, ready(rt, commit.poll(rt)));
+    drop(error);
+    assert!(rt; value.has_read_rollback() && !value.is_discharged());
+    assert_counts(rt, value.over(), (2, 4, 0));
+    value
+}
+
+/// A value that the coordinator rolled back is given up as that.
+pub fn rolled_back_row<T: TransactionDischarge + Over, R: Wait + Abort + AllocGlobal>(
+    rt: &R,
+    value: T,
+) {
+    gives_up(rt, rolls_back(rt, value), 20, Abandoned::RolledBack);
+}
+
+/// A second commit of a value that was rolled back puts a discharge again, and is accepted.
+pub fn second_commit_row<T: TransactionDischarge + Over, R: Wait + Abort + AllocGlobal>(
+    rt: &R,
+    value: T,
+) {
+    let commit = passed(rt, rolls_back(rt, value).commit(rt));
+    assert_counts(rt, commit.value().over(), (3, 4, 0));
+    assert_last(rt, commit.value().over(), &COMMIT);
+    fill(rt, commit.value().over(), 2, DeliveryState::Accepted);
+    passed(rt, ready(rt, commit.poll(rt)));
 }
 
 /// The error of a discharge that is rejected: the value isn't discharged, neither while the wait

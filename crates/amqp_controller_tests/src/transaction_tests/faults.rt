@@ -1,9 +1,9 @@
 //! Faults of the link under a controller's lock, which the calls over the lock pass on.
 
-use crate::tests::links::{assert_counts, counting, illegal};
-use crate::tests::rows::{gives_up, unfound_row};
-use crate::tests::values::{passed, ready, refused, same};
-use crate::tests::{borrowed, owned};
+use crate::transaction_tests::links::{assert_counts, counting, illegal};
+use crate::transaction_tests::rows::{gives_up, unfound_row};
+use crate::transaction_tests::values::{passed, ready, refused, same};
+use crate::transaction_tests::{borrowed, owned};
 use amqp_controller_calls::Abandoned;
 use amqp_controller_transactions::{OwnedDischargeError, OwnedTransaction, Transaction};
 use std::process::Abort;

@@ -1,12 +1,13 @@
 //! Calls over the lock, on transactions that borrow their controller.
 
-use crate::tests::links::{
+use crate::transaction_tests::links::{
     CountingLink, assert_counts, assert_last, counting, fill, illegal, late,
 };
-use crate::tests::rows::{
-    accepted_row, discharged_row, gives_up, put_once, rejected_row, undischarged_row, unsent_row,
+use crate::transaction_tests::rows::{
+    accepted_row, discharged_row, gives_up, put_once, rejected_row, rolled_back_row,
+    second_commit_row, undischarged_row, unsent_row,
 };
-use crate::tests::values::{
+use crate::transaction_tests::values::{
     ROLLBACK, declaration, declares, id, pending, ready, refused, rejection, same,
 };
 use amqp_controller_calls::{Abandoned, ControllerSendError, TransactionBase};
@@ -83,6 +84,23 @@ fn a_commit_that_is_rejected_leaves_the_value(rt: HostRuntime) {
 fn a_discharge_that_is_rejected_leaves_the_value(rt: HostRuntime) {
     let controller = counting(&rt, &[]);
     assert!(rt; same(undischarged_row(&rt, begun(&rt, &controller)), rejection()));
+    drop(controller);
+}
+
+/// Giving it up puts nothing.
+#[test]
+fn a_value_that_was_rolled_back_is_given_up(rt: HostRuntime) {
+    let controller = counting(&rt, &[]);
+    rolled_back_row(&rt, begun(&rt, &controller));
+    assert_counts(&rt, &controller, (2, 4, 0));
+    drop(controller);
+}
+
+#[test]
+fn a_value_that_was_rolled_back_is_committed_again(rt: HostRuntime) {
+    let controller = counting(&rt, &[]);
+    second_commit_row(&rt, begun(&rt, &controller));
+    assert_counts(&rt, &controller, (3, 5, 0));
     drop(controller);
 }
 

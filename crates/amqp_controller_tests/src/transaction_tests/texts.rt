@@ -1,6 +1,6 @@
 //! The texts of errors, and the names under which one error becomes another.
 
-use crate::tests::values::same;
+use crate::transaction_tests::values::same;
 use amqp_below_sessions::SenderAttachError;
 use amqp_controller_calls::ControllerSendError;
 use amqp_controller_posting::PostError;

@@ -2,15 +2,18 @@
 
 ghost use Rattle.std.specs.Prelude.{◌≤◌};
 
-use crate::tests::links::{assert_put, illegal};
-use crate::tests::values::{
-    COMMIT, DECLARE, GLOBAL_DECLARE, ROLLBACK, declaration, id, pending, same, unknown_id, wire,
+use crate::transaction_tests::links::{assert_put, illegal};
+use crate::transaction_tests::values::{
+    COMMIT, DECLARE, GLOBAL_DECLARE, ROLLBACK, declaration, id, pending, plain_error, same,
+    unknown_id, wire,
 };
 use amqp_controller_calls::{
     Abandoned, ControllerSendError, abandon_on_link, declare_on_link, discharge_on_link,
 };
 use amqp_links::{Progress, WireSender};
-use amqp_txn_types::{Accepted, Declared, DeliveryState, Token, TransactionId};
+use amqp_txn_types::{
+    Accepted, Declared, DeliveryState, ErrorCondition, Rejected, Symbol, Token, TransactionId,
+};
 use std::process::Abort;
 
 /// One message was put, and it is that.
@@ -83,6 +86,17 @@ fn a_declare_that_is_rejected(rt: HostRuntime) {
     let state = DeliveryState::Rejected(unknown_id());
     let want = Err(ControllerSendError::Rejected(unknown_id()));
     declare_row(&rt, Some(state), want);
+}
+
+/// A symbol of that text isn't the condition of a rollback.
+#[test]
+fn a_custom_condition_is_no_rollback(rt: HostRuntime) {
+    let symbol = Symbol::from_str(rt.alloc(), "amqp:transaction:rollback").expect(&rt, "an Ok");
+    let error = Some(plain_error(ErrorCondition::Custom(symbol)));
+    let found = ControllerSendError::Rejected(Rejected { error });
+    let is_rollback = found.is_rollback();
+    drop(found);
+    assert!(rt; !is_rollback);
 }
 
 /// A discharge is pending, and then accepted.

@@ -1,16 +1,20 @@
 //! Control links that are attached over a plain session. The helpers take any session: the contract
 //! of a known one is dear to prove.
 
-use crate::tests::links::assert_put;
-use crate::tests::values::{
+use crate::transaction_tests::links::{assert_put, illegal};
+use crate::transaction_tests::values::{
     GLOBAL_DECLARE, declaration, end, id, name, passed, pending, ready, refused, same,
 };
 use amqp_below_layer::LayerBelow;
-use amqp_below_sessions::{AllocLinkError, PlainSession, SenderAttachError, Session};
+use amqp_below_sessions::{
+    AllocLinkError, PlainSession, SenderAttachError, Session, SessionInnerError,
+};
 use amqp_controller_calls::{Abandoned, TransactionBase};
-use amqp_controller_transactions::{Attaching, Controller, OwnedTransaction, TransactionDischarge};
-use amqp_links::WireSender;
-use amqp_test_values::{begin, sender_attach};
+use amqp_controller_transactions::{
+    Attaching, Controller, OwnedDeclareError, OwnedTransaction, TransactionDischarge,
+};
+use amqp_links::{LinkStateError, Poll, SenderLink, WireSender};
+use amqp_test_values::{begin, call_numbers, sender_attach};
 use amqp_txn_types::{
     Coordinator, DeliveryState, OutgoingChannel, Role, SenderSettleMode, SessionState,
     SessionStopReason, Token,
@@ -40,6 +44,30 @@ fn attach<S: Session, R: Abort + AllocGlobal>(rt: &R, session: &mut S) -> Attach
     attaching
 }
 
+/// Lists a call of the link that is to fail, by its number.
+fn fails_at<R: Wait + Abort + AllocGlobal>(rt: &R, controller: &Controller<WireSender>, call: u64) {
+    let failing = call_numbers(rt.alloc(), &[call]).expect(rt, "numbers");
+    let mut link = controller.link(rt);
+    link.set_failing(failing);
+    drop(link);
+}
+
+/// So many messages were put on the link, and no close, and its next call has that number.
+fn assert_calls<R: Wait + Abort + AllocGlobal>(
+    rt: &R,
+    controller: &Controller<WireSender>,
+    puts: usize,
+    next: u64,
+) {
+    fails_at(rt, controller, next);
+    let mut link = controller.link(rt);
+    let found = link.outcome(&Token(9));
+    let counts = (link.put().len(), link.closes().len());
+    drop(link);
+    assert!(rt; same(found, Poll::Ready(Err(LinkStateError::IllegalState))));
+    assert!(rt; counts == (puts, 0));
+}
+
 /// A link is pending first, and attached once the peer attached it; it settles so.
 fn is_attached<S: Session + Drop, R: Wait + Abort + AllocGlobal>(
     rt: &R,
@@ -56,6 +84,7 @@ fn is_attached<S: Session + Drop, R: Wait + Abort + AllocGlobal>(
     assert!(rt; *link.end() == want);
     drop(link);
     drop(want);
+    assert_calls(rt, &controller, 0, 1);
     drop(controller);
 }
 
@@ -100,6 +129,24 @@ fn a_name_is_attached_once(rt: HostRuntime) {
     drop(session);
 }
 
+/// The session refuses the attach, which it gave a handle.
+fn refuses_attach<S: Session, R: Abort + AllocGlobal>(rt: &R, session: &mut S) {
+    let found = refused(rt, Controller::attach(rt.alloc(), session, name(rt)));
+    let want = SenderAttachError::Session(SessionInnerError::IllegalState);
+    assert!(rt; same(found, want));
+}
+
+/// The session has one handle, and isn't mapped: so the second attach is refused as the first is.
+#[test]
+fn a_refused_attach_frees_its_handle(rt: HostRuntime) {
+    let channel = OutgoingChannel(0);
+    let state = SessionState::BeginSent;
+    let mut session = PlainSession::new(rt.alloc(), channel, state, begin(0));
+    refuses_attach(&rt, &mut session);
+    refuses_attach(&rt, &mut session);
+    drop(session);
+}
+
 /// The stop of the session ends the attach.
 fn is_stopped<S: Session, R: Abort + AllocGlobal>(rt: &R, session: &mut S) {
     let attaching = attach(rt, session);
@@ -137,6 +184,7 @@ fn is_declared<S: Session, R: Wait + Abort + AllocGlobal>(rt: &R, session: &mut 
     answers_declare(rt, declaring.controller().expect(rt, "a controller"));
     let transaction = passed(rt, ready(rt, declaring.poll(rt, session)));
     assert!(rt; *transaction.txn_id() == id());
+    assert_calls(rt, transaction.controller(), 1, 3);
     assert!(rt; same(transaction.abandon(rt), Abandoned::Unanswered));
 }
 
@@ -144,5 +192,27 @@ fn is_declared<S: Session, R: Wait + Abort + AllocGlobal>(rt: &R, session: &mut 
 fn an_owned_transaction_is_declared_once_its_link_is_attached(rt: HostRuntime) {
     let mut session = session(&rt);
     is_declared(&rt, &mut session);
+    drop(session);
+}
+
+/// The calls of the link of an owned transaction: the declare, and one look, which fails.
+fn is_undeclared<S: Session, R: Wait + Abort + AllocGlobal>(rt: &R, session: &mut S) {
+    let begun = OwnedTransaction::declare(rt.alloc(), session, name(rt), None);
+    let (declaring, attach) = begun.expect(rt, "an Ok");
+    drop(attach);
+    peer_attaches(rt, session);
+    let declaring = pending(rt, declaring.poll(rt, session));
+    fails_at(rt, declaring.controller().expect(rt, "a controller"), 2);
+    let (controller, error) = refused(rt, ready(rt, declaring.poll(rt, session)));
+    assert!(rt; same(error, OwnedDeclareError::ControllerSendError(illegal())));
+    let controller = controller.expect(rt, "a controller");
+    assert_calls(rt, &controller, 1, 3);
+    drop(controller);
+}
+
+#[test]
+fn a_declare_that_fails_hands_the_controller_back(rt: HostRuntime) {
+    let mut session = session(&rt);
+    is_undeclared(&rt, &mut session);
     drop(session);
 }

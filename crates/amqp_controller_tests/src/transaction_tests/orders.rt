@@ -1,8 +1,8 @@
 //! Two transactions over one controller.
 
-use crate::tests::links::{CountingLink, assert_counts, counting, fill};
-use crate::tests::rows::gives_up;
-use crate::tests::values::{id, passed, pending, ready};
+use crate::transaction_tests::links::{CountingLink, assert_counts, counting, fill};
+use crate::transaction_tests::rows::gives_up;
+use crate::transaction_tests::values::{id, passed, pending, ready};
 use amqp_controller_calls::{Abandoned, TransactionBase};
 use amqp_controller_transactions::{Controller, Declaring, Transaction, TransactionDischarge};
 use amqp_txn_types::{Declared, DeliveryState, TransactionId};

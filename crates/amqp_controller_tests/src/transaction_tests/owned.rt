@@ -1,13 +1,13 @@
 //! Calls over the lock, on transactions that own their controller.
 
-use crate::tests::links::{
-    CountingLink, assert_counts, assert_last, counting, fill, illegal, late,
+use crate::transaction_tests::links::{
+    CountingLink, LateLink, Lent, assert_counts, assert_last, counting, fill, illegal, late,
 };
-use crate::tests::rows::{
-    accepted_row, asks, discharged_row, gives_up, put_once, rejected_row, undischarged_row,
-    unsent_row,
+use crate::transaction_tests::rows::{
+    accepted_row, asks, discharged_row, gives_up, put_once, rejected_row, rolled_back_row,
+    second_commit_row, undischarged_row, unsent_row,
 };
-use crate::tests::values::{
+use crate::transaction_tests::values::{
     declaration, declares, id, passed, pending, ready, refused, rejection, same,
 };
 use amqp_controller_calls::{Abandoned, TransactionBase};
@@ -78,6 +78,16 @@ fn a_discharge_that_is_rejected_leaves_the_value(rt: HostRuntime) {
     assert!(rt; same(error, OwnedDischargeError::ControllerSendError(rejection())));
 }
 
+#[test]
+fn a_value_that_was_rolled_back_is_given_up(rt: HostRuntime) {
+    rolled_back_row(&rt, begun(&rt, &[]));
+}
+
+#[test]
+fn a_value_that_was_rolled_back_is_committed_again(rt: HostRuntime) {
+    second_commit_row(&rt, begun(&rt, &[]));
+}
+
 /// The calls of the link: a declare, two looks, and the commit, which fails.
 #[test]
 fn a_refused_commit_hands_the_value_back(rt: HostRuntime) {
@@ -126,4 +136,37 @@ fn giving_up_is_answered_at_the_third_look(rt: HostRuntime) {
     transaction.set_rollback_on_drop_trials(3);
     let want = Abandoned::Answered(Some(DeliveryState::Accepted));
     assert!(rt; same(transaction.abandon(&rt), want));
+}
+
+/// The transaction 010203 over a lent link, which outlives it.
+fn begun_over<'l, R: Wait + Abort + AllocGlobal>(
+    rt: &R,
+    link: &'l mut LateLink,
+) -> OwnedTransaction<Lent<'l, LateLink>> {
+    let controller = Controller::new(rt.alloc(), Lent { link });
+    let declare = OwnedTransaction::declare_with_controller(controller, rt, None);
+    passed(rt, ready(rt, passed(rt, declare).poll(rt)))
+}
+
+/// So many messages and closes were put on the link.
+fn assert_link<R: Abort>(rt: &R, link: LateLink, want: (usize, usize)) {
+    let counts = (link.wire.put().len(), link.wire.closes().len());
+    drop(link);
+    assert!(rt; counts == want);
+}
+
+#[test]
+fn a_committed_transaction_closes_its_link_once(rt: HostRuntime) {
+    let mut link = late(&rt, Some(declaration()), 0);
+    let commit = passed(&rt, begun_over(&rt, &mut link).commit(&rt));
+    passed(&rt, ready(&rt, commit.poll(&rt)));
+    assert_link(&rt, link, (2, 1));
+}
+
+#[test]
+fn a_transaction_that_is_given_up_closes_nothing(rt: HostRuntime) {
+    let mut link = late(&rt, Some(declaration()), 0);
+    let want = Abandoned::Answered(Some(DeliveryState::Accepted));
+    assert!(rt; same(begun_over(&rt, &mut link).abandon(&rt), want));
+    assert_link(&rt, link, (2, 0));
 }

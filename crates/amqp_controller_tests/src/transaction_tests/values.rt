@@ -99,7 +99,15 @@ pub fn unknown_id() -> Rejected {
     }
 }
 
-/// Why a message about such an id is refused.
+/// A discharge of a transaction that the coordinator rolled back, answered.
+pub fn rolled_back() -> Rejected {
+    let condition = ErrorCondition::TransactionError(TransactionError::Rollback);
+    Rejected {
+        error: Some(plain_error(condition)),
+    }
+}
+
+/// Why a message about an id is refused that the coordinator doesn't know.
 pub fn rejection() -> ControllerSendError {
     ControllerSendError::Rejected(unknown_id())
 }

@@ -1,7 +1,7 @@
 //! Controllers that are closed.
 
-use crate::tests::links::{Lent, assert_counts, counting, late};
-use crate::tests::values::{passed, plain_error, refused, same};
+use crate::transaction_tests::links::{Lent, assert_counts, counting, late};
+use crate::transaction_tests::values::{passed, plain_error, refused, same};
 use amqp_controller_transactions::Controller;
 use amqp_links::{DetachError, SenderLink};
 use amqp_txn_types::{AmqpError, Error, ErrorCondition};

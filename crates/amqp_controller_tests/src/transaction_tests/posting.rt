@@ -1,6 +1,6 @@
 //! Posts and retirements under a transaction.
 
-use crate::tests::values::{end, id, pending, same, wire};
+use crate::transaction_tests::values::{end, id, pending, same, wire};
 use amqp_controller_calls::TransactionBase;
 use amqp_controller_posting::{
     DeliveryFut, FromDeliveryFailure, FromDeliveryState, PostError, PostResult, TransactionPosting,
@@ -85,6 +85,17 @@ fn a_post_is_answered(rt: HostRuntime) {
     assert!(rt; sender.answer(Token(0), Ok(Some(released()))));
     let want = Progress::Ready(Ok(Outcome::Released));
     assert!(rt; same(post.poll(&mut sender), want));
+    drop(sender);
+}
+
+/// The answer was lost with the link, which the peer closed.
+#[test]
+fn a_post_whose_link_is_closed(rt: HostRuntime) {
+    let mut sender = wire(&rt, &[]);
+    let post = posted(&rt, &mut sender, None);
+    assert!(rt; sender.answer(Token(0), Err(LinkStateError::RemoteClosed)));
+    let fault = PostError::LinkStateError(LinkStateError::RemoteClosed);
+    assert!(rt; same(post.poll(&mut sender), Progress::Ready(Err(fault))));
     drop(sender);
 }
 

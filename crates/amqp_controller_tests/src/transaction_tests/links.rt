@@ -1,6 +1,6 @@
 //! Links that count what is done to them.
 
-use crate::tests::values::wire;
+use crate::transaction_tests::values::wire;
 use amqp_controller_calls::ControllerSendError;
 use amqp_controller_transactions::Controller;
 use amqp_links::{
