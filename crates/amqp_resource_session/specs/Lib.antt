@@ -1,15 +1,10 @@
-pub mod Words
-pub mod Held
-pub mod Views
 pub mod Posting
 pub mod Committing
-pub mod Draws
 pub mod Steps
 pub mod Complete
 pub mod Transacting
 pub mod Keeping
 pub mod Leaving
-pub mod Looking
 pub mod Session
 pub mod Stepping
 pub mod Calls
@@ -18,6 +13,7 @@ pub mod Passing
 pub mod Hearing
 pub mod Reviewing
 pub mod SessionLaws
+pub mod Ran
 pub mod Drive
 pub mod Driving
 pub use Rattle.amqp_resource_record.specs.Entries
