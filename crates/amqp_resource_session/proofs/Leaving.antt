@@ -26,7 +26,7 @@ use Rattle.amqp_txn_codec.specs.declared.message.ControlMessageBody.TheVariants 
 use Rattle.amqp_below_layer.specs.declared.verdict.Verdict.TheVariants as verdicts
 use Rattle.amqp_txn_types.specs.declared.performatives.Disposition.{Disposition}
 use Rattle.amqp_txn_types.specs.declared.performatives.Flow.{Flow}
-use Rattle.amqp_below_layer.specs.Taking.{ChecksAll}
+use Rattle.amqp_below_layer.specs.Taking.{ChecksAll, ChecksGiven}
 use Rattle.amqp_txn_types.specs.Presumptive.{answered_under}
 use Rattle.amqp_resource_record.proofs.Whole.{plain_none}
 use Rattle.amqp_below_ids.proofs.Draws.{Drew-none}
@@ -40,7 +40,7 @@ use Rattle.amqp_resource_session.specs.Transacting.{step_error_of}
 use Rattle.amqp_resource_held.specs.Changes.{Fits}
 use Rattle.amqp_resource_session.specs.Keeping.{ErrorKeeps, Keeps}
 use Rattle.amqp_resource_session.specs.Leaving.{LeavesHere, StepDraws, StepLeaves}
-use Rattle.amqp_resource_session.specs.Steps.{ChecksAnswer, ChecksUnder, ChecksWork, IfRefused, IfVeto, IsPost, OnNoCall, OnNoMemory, OnVeto, RepliesToNoFrame, StepCause, StopsSurely, calls_nothing, has_error, is_unanswered, is_unknown, local_end, nothing_drawn, remote_end, rolls_back_by, step_hands}
+use Rattle.amqp_resource_session.specs.Steps.{ChecksAnswer, ChecksUnder, ChecksWork, IfRefused, IfVeto, IsPost, OnNoCall, OnNoMemory, OnVeto, RepliesToNoFrame, StepCause, StopsSurely, calls_nothing, fault_of, has_error, is_unanswered, is_unknown, local_end, nothing_drawn, remote_end, rolls_back_by, step_hands}
 use Rattle.amqp_resource_held.specs.Views.{view_of_held}
 use Rattle.amqp_resource_session.proofs.Moved.{keeps_moved, left_moved, same_moved}
 use Rattle.amqp_resource_session.proofs.Parts.{on_false}
@@ -148,11 +148,9 @@ surely_commit sure k payload (commit_faults.Refused error handed) f = by_known (
 -- no call was made below, so no work was answered
 checks-answer_here : {S : Type 0} (checks : S → S → Disposition → Result Unit SessionInnerError → Type 0) (below : S) (frame : Frame) (given : List Frame) (result : Result (DrawnIds × Reply) StepError) → RepliesToNoFrame result (steps.Frame frame) → IfRefused result (λ error handed. ⊥) → ChecksAnswer checks below below given result
 checks-answer_here checks below frame given (Ok out) none refused = absurd none
-checks-answer_here checks below frame given (Err (errors.Fault error handed)) none refused = by_known (is_unknown error) refused
-  where
-    by_known : {P : Type 0} (b : Bool) → MatchBool b ⊤ ⊥ → MatchBool b ⊤ P
-    by_known true x = tt
-    by_known false x = absurd x
+checks-answer_here checks below frame given (Err (errors.Fault error handed)) unanswered refused =
+    let none : ⊥ → ((own : SessionInnerError) × (error ≡ fault_of own) × ChecksGiven checks below below given (Err own)) = λ x. absurd x in
+    on_false ⊤ (is_unknown error) none refused
 checks-answer_here checks below frame given (Err (errors.Ended reason)) none refused = tt
 checks-answer_here checks below frame given (Err (errors.Stopped code)) none refused = tt
 checks-answer_here checks below frame given (Err errors.NoMemory) none refused = tt

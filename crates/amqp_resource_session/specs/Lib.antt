@@ -16,6 +16,11 @@ pub mod SessionLaws
 pub mod Ran
 pub mod Drive
 pub mod Driving
+pub use Rattle.amqp_resource_held.specs.Held
+pub use Rattle.amqp_resource_held.specs.Views
+pub use Rattle.amqp_resource_held.specs.Draws
+pub use Rattle.amqp_resource_held.specs.Changes
+pub use Rattle.amqp_resource_held.specs.Looks
 pub use Rattle.amqp_resource_record.specs.Entries
 pub use Rattle.amqp_resource_record.specs.Links
 pub use Rattle.amqp_resource_record.specs.Live
