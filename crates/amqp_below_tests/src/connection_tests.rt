@@ -19,7 +19,7 @@ fn sessions_come_in_order(rt: HostRuntime) {
     let mut connection = MemoryConnection::new(rt.alloc(), 1);
     assert!(rt; same(connection.next_incoming_session(), Poll::Pending));
     connection.push_session(incoming(3)).expect(&rt, "an Ok");
-    connection.push_session(incoming(4)).expect(&rt, "an Ok");
+    connection.append_session(incoming(4)).expect(&rt, "an Ok");
     assert!(rt;
         same(
             connection.next_incoming_session(),
