@@ -3,7 +3,11 @@ use Rattle.std.proofs.Common.{◌≡◌, ℕ, ◌+◌, ◌==◌, true, Option, S
 use Rattle.std.proofs.lemmas.Bool.Decides.{nat_tests}
 use Rattle.std.proofs.lemmas.List.{append-nil}
 use Rattle.txn_program_lines.specs.Cutting.{lines_of}
+use Rattle.amqp_resource_record.specs.declared.step.Step.{Step}
 use Rattle.txn_program_lines.specs.Numbered.{item_appended, item_then, items_from, lines_after, then_lines, with_item}
+use Rattle.txn_program_lines.specs.Reads.{ReadsLines, Spells}
+use Rattle.txn_program_lines.specs.declared.numbered_lines.SpellError.{SpellError}
+use Rattle.txn_program_lines.specs.declared.numbered_lines.SpellError.TheVariants as spelling
 
 -- one line more was read
 pub read-more : {S : Type 0} (reads : S → List ℕ → Option S) (state next : S) (number : ℕ) (rest line after : List ℕ) (total : Result S ℕ)
@@ -65,9 +69,27 @@ appended-items spelled front number (line ∷ others) =
   where
     by_line : (o : Option _)
         → ((item : _) → lines_after (with_item spelled) (front ++ item ∷ []) (number + 1) others
-            ≡ with_front (front ++ item ∷ []) (items_from spelled (number + 1) others))
+        ≡ with_front (front ++ item ∷ []) (items_from spelled (number + 1) others))
         → then_lines (item_appended front o) number (λ next. lines_after (with_item spelled) next (number + 1) others)
         ≡ with_front front (item_then o number (items_from spelled (number + 1) others))
     by_line None more = refl
     by_line (Some item) more =
         more item ∙ regroup front item number (items_from spelled (number + 1) others)
+
+-- ---- steps
+
+-- steps that were appended line by line are those that the lines spell
+pub spelled-steps : (spelled : List ℕ → Option Step) (lines : List (List ℕ)) (none steps : List Step)
+    → none ≡ [] → lines_after (with_item spelled) none 1 lines ≡ Ok steps → items_from spelled 1 lines ≡ Ok steps
+spelled-steps spelled lines none steps empty read =
+    sym (with_front-nil (items_from spelled 1 lines)) ∙ sym (appended-items spelled [] 1 lines)
+    ∙ ap (λ (start : List Step). lines_after (with_item spelled) start 1 lines) (sym empty) ∙ read
+
+-- and where a line is outside the table, it is the first that spells none
+pub spelled-none : (spelled : List ℕ → Option Step) (lines : List (List ℕ)) (none steps : List Step) (error : SpellError)
+    → none ≡ [] → ReadsLines (lines_after (with_item spelled) none 1 lines) steps (Err error)
+    → Spells (Err error) (items_from spelled 1 lines)
+spelled-none spelled lines none steps (spelling.Line number) empty read =
+    sym (with_front-nil (items_from spelled 1 lines)) ∙ sym (appended-items spelled [] 1 lines)
+    ∙ ap (λ (start : List Step). lines_after (with_item spelled) start 1 lines) (sym empty) ∙ read
+spelled-none spelled lines none steps spelling.NoMemory empty read = tt

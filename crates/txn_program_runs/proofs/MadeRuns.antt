@@ -24,8 +24,8 @@ use Rattle.amqp_resource_record.proofs.Living.{ended_dead}
 use Rattle.amqp_resource_record.proofs.Looking.{undischarged-other}
 use Rattle.amqp_resource_record.proofs.Whole.{IsLegal-nil, is_open-attached}
 use Rattle.amqp_resource_session.specs.Steps.{IsDead, UnderDead, ended_by}
-use Rattle.amqp_resource_session.specs.Views.{view_of_record}
-use Rattle.amqp_resource_session.proofs.Views.{live-record}
+use Rattle.amqp_resource_held.specs.Views.{view_of_record}
+use Rattle.amqp_resource_held.proofs.Views.{live-record}
 use Rattle.amqp_below_ids.specs.Counted.{id_of_number, ids_from}
 use Rattle.txn_program_runs.specs.Made.{made, made_attach, made_declare, made_discharge, made_fail, made_from, made_post}
 use Rattle.txn_program_runs.proofs.Midway.{Midway, canon-read, declare-reply, discharge-reply, held_live, midway-declare, midway-discharge, midway-post, on_link, short_number}

@@ -7,7 +7,7 @@ use Rattle.amqp_resource_record.specs.declared.stop.Driven.{Driven}
 use Rattle.amqp_resource_record.specs.Entries.{steps_of}
 use Rattle.amqp_resource_session.specs.Drive.{NextStep}
 use Rattle.amqp_resource_session.specs.Steps.{UnderDead, ended_by}
-use Rattle.amqp_resource_session.specs.Views.{view_of_record}
+use Rattle.amqp_resource_held.specs.Views.{view_of_record}
 use Rattle.txn_program_lines.specs.Lines.{input_steps}
 use Rattle.txn_program_edges.specs.declared.reading.Reading.{Reading}
 use Rattle.txn_program_edges.specs.declared.reading.Reading.TheVariants as readings
