@@ -40,8 +40,9 @@ pub fn end_over<S: LayerBelow + Send + Drop, I: ByteSource, O: ByteSink>(
     match arguments {
         Ok(arguments) => {
             let ran = serve_over(alloc, arguments.as_slice(), layer, below, input, output);
+            let ran = ManuallyDrop::new(ran);
             drop(arguments);
-            ManuallyDrop::new(ran).status
+            ran.status
         }
         Err(fault) => {
             drop(below);
