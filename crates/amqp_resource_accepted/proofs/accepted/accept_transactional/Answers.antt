@@ -1,7 +1,7 @@
 use Rattle.std.proofs.Common.{rules, [], ap, sym, subst, ◌∙◌}
 use Rattle.amqp_accept_listener.specs.Listening.{control_of, held_of, own_of, queue_of}
-use Rattle.amqp_resource_held.specs.Held.{Stands}
-use Rattle.amqp_resource_held.specs.Changes.{Fits}
+use Rattle.amqp_resource_session.specs.Held.{Stands}
+use Rattle.amqp_resource_session.specs.Keeping.{Fits}
 use Rattle.amqp_resource_accepted.proofs.accepted.accept_transactional.Goals as goal
 
 -- the begin was sent by the plain session, through both sessions above it
