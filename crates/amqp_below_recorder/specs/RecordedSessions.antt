@@ -1,6 +1,6 @@
 -- What the calls of a recorder leave of the session in it: the laws of `Session` for a recorder.
 use Rattle.std.specs.Prelude.{◌≡◌, Bool, Result, Ok, Err, List}
-use Rattle.std.proofs.Common.{ap, inr}
+use Rattle.std.proofs.Common.{ap, inl, inr}
 use Rattle.amqp_txn_types.specs.declared.performatives.Attach.{Attach}
 use Rattle.amqp_txn_types.specs.declared.performatives.Frame.{Frame}
 use Rattle.amqp_below_layer.specs.declared.inner_error.SessionInnerError.{SessionInnerError}

@@ -83,7 +83,7 @@ dead_unanswered v w old new (steps.Frame frame) d reply u x = by_id (txn frame) 
   where
     by_id : (o : Option TransactionId) (reply : Reply) → IsDead v o → FrameKeeps v w old new frame o reply → ⊥
     by_id None reply u x = u
-    by_id (Some t) (replies.Frames a) u x = let l = x.was_live in cc (l, u)
+    by_id (Some t) (replies.Frames a) u x = let l = x.arrives.was_live in cc (l, u)
     by_id (Some t) _ u x = x
 dead_unanswered v w old new _ d reply u x = u
 

@@ -26,6 +26,7 @@ use Rattle.amqp_resource_record.specs.declared.reply.Reply.TheVariants as replie
 use Rattle.amqp_resource_record.specs.declared.stop.StepError.TheVariants as errors
 use Rattle.amqp_resource_held.specs.Draws.{DrewLive}
 use Rattle.amqp_resource_held.specs.Views.{SameView, View, frames_in, is_held_in, view_of_held}
+use Rattle.amqp_resource_held.specs.Changes.{Arrives, Attaches, Closes, Declares, Ends, Fits}
 use Rattle.amqp_resource_session.specs.Steps.{OpenedBy, Refused, RefusedBy, UnderDead, ended_by, is_unknown, step_hands, takes_memory}
 use Rattle.amqp_resource_session.specs.Committing.{HandsAll}
 

@@ -18,6 +18,7 @@ use Rattle.amqp_txn_types.specs.declared.small.TransactionError.TheVariants as t
 use Rattle.amqp_below_sessions.specs.declared.transacting.AllocTxnIdError.TheVariants as allocations
 use Rattle.amqp_below_sessions.specs.declared.transacting.CommitFault.TheVariants as commit_faults
 use Rattle.amqp_resource_record.specs.declared.stop.StepError.TheVariants as errors
+use Rattle.amqp_resource_held.specs.Changes.{Added, Ended}
 use Rattle.amqp_resource_session.specs.Committing.{HandsAll}
 use Rattle.amqp_resource_held.specs.Draws.{DrewLive, DrewUnused, is_kept}
 use Rattle.amqp_resource_held.specs.Held.{SameHeld}

@@ -25,4 +25,4 @@ returns-in-Err-clause-leaves g c =
     let takes : TakesFrame old new c.args.frame.now (Err c.in-Err.refusal) = subst (λ (f : Frame). TakesFrame old new f (Err c.in-Err.refusal)) c.in-Ok.ensures.copy c.in-Err.ensures.told in
     let known = c.fault_of.ensures.known in
     rw c.faulted.ensures (leaves-frame _ _ _ _ _ _ c.args.below.now c.take_frame.new.below c.args.frame.now _ (λ f. keeps-plain_refused c.args.held.now old new c.args.frame.now c.in-Err.refusal c.fault_of.result _ c.requires known (c.fault_of.ensures.fault ∙ ap fault_of c.handed_with-refused.ensures.error) (c.handed_with-refused.ensures.handed ∙ zero-add _) takes f)
-    (when_known _ _ _ known takes.cause) tt (when_known _ _ _ known tt) tt (checks-none _ c.args.below.now c.take_frame.new.below c.args.frame.now _ (plain_none c.args.frame.now c.requires)) (left-plain c.args.held.now c.args.frame.now c.fault_of.result _ c.requires known) takes.fixed takes.later takes.reviews)
+    (when_known _ _ _ known takes.cause) tt (when_known _ _ _ known tt) tt (checks-none _ c.args.below.now c.take_frame.new.below c.args.frame.now _ (plain_none c.args.frame.now c.requires)) (left-plain c.args.held.now c.args.frame.now c.fault_of.result c.handed_with-refused.result.handed c.requires known) takes.fixed takes.later takes.reviews)

@@ -28,10 +28,10 @@ returns-in-NoMemory-clause-leaves g c =
       opened = refl;
     }))
 
-pub returns-in-Ok-check_given-clause-leaves : goal.returns-in-Ok-check_given-clause-leaves
-returns-in-Ok-check_given-clause-leaves g c =
+pub returns-in-Ok-clause-leaves : goal.returns-in-Ok-clause-leaves
+returns-in-Ok-clause-leaves g c =
     let posted = c.in-Answered.ensures.kept in
-    let checked = c.in-Ok-check_given.ensures in
+    let checked = c.in-Ok.ensures in
     let steady = checked.told.steady in
     let same : c.as_slice.result.now ≡ answered_under c.args.id c.args.frame.now = c.as_slice.ensures ∙ posted.answered in
     let Checks : List Frame → Type 0 = λ fs. ChecksGiven g.S.LayerBelow.check_gives c.args.below.now c.check_given.new.below fs (Ok tt) in
@@ -57,4 +57,4 @@ returns-in-Err-clause-leaves g c =
     some known c.fault_of.ensures.fault steady (fits-posted c.args.held.now _ c.args.id c.args.frame.now posted.live (λ k. refl) refl f))
     (when_known _ _ _ known checked.told.cause) tt (when_known _ _ _ known tt) tt
     (checks-post _ c.args.below.now c.check_given.new.below c.args.frame.now c.args.id _ c.requires (when_known _ _ _ known (c.in-Err.error, c.fault_of.ensures.fault, subst Checks same checked.checks)))
-    (left-post c.args.held.now _ c.args.frame.now c.args.id c.fault_of.result 0 c.requires known arrives) steady.fixed steady.later steady.reviews)
+    (left-post c.args.held.now (record c.args.held.now { work = c.keep_under.new.work }) c.args.frame.now c.args.id c.fault_of.result 0 c.requires known arrives) steady.fixed steady.later steady.reviews)
