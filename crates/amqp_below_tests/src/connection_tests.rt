@@ -2,7 +2,7 @@
 
 use amqp_below_connections::*;
 use amqp_below_layer::SessionInnerError;
-use amqp_below_sessions::{AllocLinkError, BeginError};
+use amqp_below_sessions::{AllocLinkError, BeginError, ReceiverAttachError, SenderAttachError};
 use amqp_links::Poll;
 use amqp_test_values::{begin, other_text, same};
 use amqp_txn_types::{ConnectionStopReason, OutgoingChannel, SessionStopReason, TryClone};
