@@ -4,11 +4,11 @@ ghost use Rattle.std.specs.Prelude.{◌≡◌, ◌<◌, ◌≤◌, true};
 ghost use Rattle.crossbeam_queue.specs.Passes.{view, IsPassOf};
 ghost use Rattle.txn_mailbox_queue.specs.Order.{count, len_of, may, put as put_of, put_one, sender_view, took};
 
-use crate::gate::Gate;
 use crate::item::Item;
 use crate::rule::{Lengths, Puts, Queue, Seat, Takes};
 use std::sync::Wait;
 use std::thread;
+use txn_gate::Gate;
 
 /// Puts one item, as soon as there is room.
 ///
