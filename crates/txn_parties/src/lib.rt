@@ -17,8 +17,8 @@
 //!
 //! An [`Event`] is one thing that may happen, and [`Happened`] says what did. What a transaction
 //! has [`Heard`] is read from the answers that returned. The definitions in `specs/` say what one
-//! event does (`Turn`), which places of the resource's record are the frames of a transaction (`span`),
-//! and which frames were handed to the layer below (`drawn_on`).
+//! event does (`Turn`), which places of the resource's record are the frames of a transaction
+//! (`span`), and which frames were handed to the layer below (`drawn_on`).
 //!
 //! Of every list of events, with a cut at any point, [`parties_agree`] says:
 //!
