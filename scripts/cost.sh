@@ -3,14 +3,14 @@
 # the instructions a step, and the greatest memory; then the same of inputs of a megabyte, where an
 # octet takes the place of a step. Needs valgrind and time.
 # Words: the built program, then numbers of transactions; without words the program of this repository,
-# built by one run of txn_program, and 1000 2000 5000 10000 20000.
+# built by `txn_program --prove run`, and 1000 2000 5000 10000 20000.
 top=$(cd "$(dirname "$(readlink -f "$0")")/.." && pwd) || exit 1
-program=$top/crates/txn_main/out/txn_main
 if [ $# -gt 0 ]; then
   program=$(readlink -f "$1") || exit 1
   shift
+else
+  program=$("$top/txn_program" --which run) || exit 1
 fi
-[ -x "$program" ] || { echo "run $top/txn_program make 1 first: it builds the program" >&2; exit 1; }
 [ $# -gt 0 ] || set -- 1000 2000 5000 10000 20000
 work=$(mktemp -d) || exit 1
 trap 'rm -r "$work"' EXIT

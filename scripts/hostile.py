@@ -3,7 +3,7 @@
 
 Words: the parts to run, of `devices turns endless picked mutated random`; all of them where there is none.
     scripts/hostile.py devices endless
-The program is the built one (one run of txn_program builds it), or the one that PROGRAM names. Needs gcc.
+The programs are the built ones (`txn_program --prove` builds them), or the one that PROGRAM names. Needs gcc.
 
 - devices: a read or a write that fails (a folder as input, /dev/full, a closed pipe), and a pipe that
   gives one octet at a time.
@@ -33,7 +33,6 @@ import time
 import tty
 
 TOP = os.path.dirname(os.path.dirname(os.path.realpath(__file__)))
-PROGRAM = os.environ.get("PROGRAM", f"{TOP}/crates/txn_main/out/txn_main")
 LIMIT = 1_048_576
 RUN = ["run", "00000000000000000000000000000001", "00000000000000000000000000000002"]
 DECLARE = "00537700533145"
@@ -84,6 +83,21 @@ int main(int count, char **words) {
 """
 
 
+PROGRAMS = {}
+
+
+def program_of(words):
+    """The built program of the first of the words."""
+    word = words[0]
+    if word not in PROGRAMS:
+        which = subprocess.run([f"{TOP}/txn_program", "--which", word], stdout=subprocess.PIPE)
+        named = os.environ.get("PROGRAM") or which.stdout.decode().strip()
+        if not named:
+            sys.exit(1)
+        PROGRAMS[word] = named
+    return PROGRAMS[word]
+
+
 def built(source):
     """The program of a C source, built in a folder of its own."""
     folder = tempfile.mkdtemp()
@@ -99,7 +113,7 @@ class End:
     def __init__(self, words, source, sink=None):
         with tempfile.TemporaryFile() as kept, tempfile.NamedTemporaryFile() as told:
             started = time.monotonic()
-            child = subprocess.Popen([MEASURER, told.name, PROGRAM, *words], stdin=source, stdout=sink or kept, stderr=subprocess.DEVNULL, start_new_session=True)
+            child = subprocess.Popen([MEASURER, told.name, program_of(words), *words], stdin=source, stdout=sink or kept, stderr=subprocess.DEVNULL, start_new_session=True)
             try:
                 child.wait(MOST_SECONDS)
             except subprocess.TimeoutExpired:
@@ -186,7 +200,7 @@ def report_in(room, steps):
     with tempfile.TemporaryFile() as source, tempfile.TemporaryFile() as sink:
         source.write(steps)
         source.seek(0)
-        status = subprocess.run([PROGRAM, *RUN], stdin=source, stdout=sink, stderr=subprocess.DEVNULL, preexec_fn=limited, timeout=MOST_SECONDS).returncode
+        status = subprocess.run([program_of(RUN), *RUN], stdin=source, stdout=sink, stderr=subprocess.DEVNULL, preexec_fn=limited, timeout=MOST_SECONDS).returncode
         sink.seek(0)
         return status, sink.read()
 
@@ -195,7 +209,7 @@ def run_from_a_terminal(octets):
     """How a run ends whose reads fail once these octets were read, and what it wrote."""
     reader, writer = os.openpty()
     tty.setraw(writer)
-    child = subprocess.Popen([PROGRAM, *RUN], stdin=reader, stdout=subprocess.PIPE, stderr=subprocess.DEVNULL)
+    child = subprocess.Popen([program_of(RUN), *RUN], stdin=reader, stdout=subprocess.PIPE, stderr=subprocess.DEVNULL)
     os.close(reader)
     for at in range(0, len(octets), 1024):
         os.write(writer, octets[at : at + 1024])
@@ -358,8 +372,8 @@ def main():
     chosen = sys.argv[1:] or list(parts)
     if any(it not in parts for it in chosen):
         sys.exit(f"usage: hostile.py [{' | '.join(parts)}]..")
-    if not os.access(PROGRAM, os.X_OK):
-        sys.exit(f"run {TOP}/txn_program make 1 first: it builds the program")
+    for words in (RUN, LISTEN):
+        program_of(words)
     resource.setrlimit(resource.RLIMIT_CORE, (0, 0))
     MEASURER = built(MEASURE)
     for it in chosen:

@@ -1,6 +1,7 @@
 #!/usr/bin/env bash
 # Runs each example through the program, and compares what it writes and the status that it ends with.
-# The one word, if any, is another program to run in place of txn_program.
+# The one word, if any, is another program to run in place of txn_program; or it is --unproved, and the
+# examples run through the sources as they are, which are compiled once for each main.
 top=$(cd "$(dirname "$(readlink -f "$0")")/.." && pwd) || exit 1
 program=${1:-$top/txn_program}
 failed=0
@@ -23,6 +24,38 @@ compare() {
     diff <(printf '%s\n' "$3") <(printf '%s\n' "$2")
   fi
 }
+
+# Runs the examples of one main unproved: those whose first word is that word, or all but those.
+run_unproved() {
+  local main=$1 which=$2 folder words example name line
+  folder=$(mktemp -d) || exit 1
+  for words in "$top"/examples/*.words; do
+    example=${words%.words}
+    name=${example##*/}
+    if [ "$(head -n 1 "$words")" = listen ]; then line=listen; else line=run; fi
+    [ $line = "$which" ] || continue
+    cp "$example.steps" "$folder/$name"
+    cp "$words" "$folder/$name.args"
+    text_of "$example.report" "" | head -n -1 >"$folder/$name.stdout"
+  done
+  (cd "$top/crates/$main" && rt try --seconds 600 --cases "$folder") </dev/null >"$folder/.told" 2>&1
+  for words in "$folder"/*.args; do
+    name=${words##*/}
+    name=${name%.args}
+    wanted=$(cat "$top/examples/$name.status" 2>/dev/null || echo 0)
+    line=$(grep -F "case=$name " "$folder/.told" | grep -o 'status=[0-9]*\|output=[a-z]*' | sort | tr '\n' ' ')
+    compare "$name, unproved" "$line" "output=expected status=$wanted "
+  done
+  rm -r "$folder"
+}
+
+if [ "$program" = --unproved ]; then
+  run_unproved txn_main run
+  run_unproved txn_main_listen listen
+  echo "$count runs, $failed of them wrong"
+  [ "$failed" -eq 0 ]
+  exit
+fi
 
 for words in "$top"/examples/*.words; do
   example=${words%.words}
@@ -53,10 +86,12 @@ planned --starve 1 6 8 "$want 0\n"
 planned --starve 2 7 8 "$want 0\n$first"
 planned --starve 3 7 8 "$want 1\n${first}taken transfer 1 1 true - 50\n"
 
-# The stored run of the program is one of them.
-stored=$top/crates/txn_main
-for pair in stdin:steps args:words stdout:report status:status; do
-  cmp "$stored/${pair%:*}" "$top/examples/listen-late-post.${pair#*:}" || failed=$((failed + 1))
+# The stored run of each main is one of them.
+for stored in txn_main:interleaved txn_main_listen:listen-late-post; do
+  for pair in stdin:steps args:words stdout:report status:status; do
+    example=$top/examples/${stored#*:}.${pair#*:}
+    [ ! -e "$example" ] || cmp "$top/crates/${stored%:*}/${pair%:*}" "$example" || failed=$((failed + 1))
+  done
 done
 
 echo "$count runs, $failed of them wrong"

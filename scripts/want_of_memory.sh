@@ -8,11 +8,11 @@
 # status 6 and nothing written; with status 8 and the stop below-no-memory; or with a report in which an
 # attach is refused as below-no-memory; make, which writes no report, with its summary and status 8, or
 # with status 1 where its attach was refused. Any other end is a failure.
-# Needs gcc, and the built program: one run of txn_program builds it.
+# Needs gcc, and the built programs (`txn_program --prove` builds them), or the one that PROGRAM names.
 top=$(cd "$(dirname "$(readlink -f "$0")")/.." && pwd) || exit 1
 [ $# -ne 1 ] || { echo "usage: want_of_memory.sh [FILE WORD..]" >&2; exit 2; }
-program=${PROGRAM:-$top/crates/txn_main/out/txn_main}
-[ -x "$program" ] || { echo "run $top/txn_program make 1 first: it builds the program" >&2; exit 1; }
+runs=${PROGRAM:-$("$top/txn_program" --which run)} || exit 1
+listens=${PROGRAM:-$("$top/txn_program" --which listen)} || exit 1
 work=$(mktemp -d) || exit 1
 trap 'rm -r "$work"' EXIT
 
@@ -49,6 +49,8 @@ gcc -O1 -shared -fPIC -o "$work/failing.so" "$work/failing.c" -ldl || exit 1
 
 # The text of the run in which that allocation fails, and its status.
 run_with() {
+  local program=$runs
+  [ "${words[0]}" != listen ] || program=$listens
   head -c 8 /dev/zero >"$work/count"
   COUNT_IN=$work/count FAIL_AT=$1 LD_PRELOAD=$work/failing.so "$program" "${words[@]}" <"$file" 2>/dev/null
   echo "status $?"

@@ -1,5 +1,6 @@
 pub use Rattle.amqp_below_sessions.specs.AttachErrors
 pub use Rattle.amqp_below_sessions.specs.Queues
+pub use Rattle.amqp_below_sessions.specs.Sessions
 pub use Rattle.amqp_below_connections.specs.Connections
 pub use Rattle.amqp_below_connections.specs.MemoryConnections
 pub use Rattle.amqp_accept_links.specs.Modes

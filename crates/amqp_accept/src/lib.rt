@@ -15,20 +15,34 @@
 //! | [`ListenerSession`] | a session whose peer's attaches wait to be accepted |
 //! | [`AcceptingListener`] | a listener that accepts each link as it comes |
 //!
-//! | from `amqp_below_connections` | |
+//! | from below | |
 //! |---|---|
-//! | [`ListenerSessionEndpoint`], [`ConnectionEnd`] | the ends that acceptors work on |
-//! | [`MemoryConnection`] | a connection in memory |
+//! | [`ListenerSessionEndpoint`] | a session from whose queue links are accepted |
+//! | [`ConnectionEnd`], [`MemoryConnection`] | the end of a connection, and one in memory |
+//! | [`Poll`] | what `accept` answers; it isn't std's |
+//! | [`SenderAttachError`], [`ReceiverAttachError`], [`AllocLinkError`] | why there is no link |
+//! | [`BeginError`] | why a session isn't begun |
+//!
+//! The links of a session that an acceptor of sessions accepted, which an engine runs (both are of
+//! `amqp_engine` and `amqp_resource`):
 //!
 //! ```text
-//! let mut listener = ListenerSession::new(alloc, session, ControlLinkAcceptor::default());
 //! let acceptor = LinkAcceptor::builder().credit_mode(CreditMode::Auto(10)).build();
-//! let mut handle = SessionHandle::new(&mut listener);
+//! let turn = engine.on_incoming(frame)?; // after an attach: it waits in the queue now
+//! let mut handle = SessionHandle::new(engine.session_mut());
 //! match acceptor.accept(alloc, &mut handle) {
-//!     Poll::Pending => {}                              // no attach waits
-//!     Poll::Ready(Ok((endpoint, frames))) => { .. }    // send the frames
-//!     Poll::Ready(Err(error)) => { .. }
+//!     Poll::Pending => {}                           // no attach waits
+//!     Poll::Ready(Ok((endpoint, frames))) => { .. } // the link's end; send the frames
+//!     Poll::Ready(Err(AcceptorAttachError::SessionStopped(reason))) => { .. } // it stopped
+//!     Poll::Ready(Err(error)) => { .. }             // this link isn't accepted, the next may be
 //! }
+//! ```
+//!
+//! Who ends a session closes its queue, however the listener is wrapped: what waits is still given
+//! and then `accept` answers `SessionStopped`. With the queue open it stays `Pending`.
+//!
+//! ```text
+//! engine.session_mut().close_listener();
 //! ```
 //!
 //! This crate has nothing of its own: it passes these on, and their definitions too.
@@ -46,4 +60,7 @@ pub use amqp_accept_listener::ListenerSession;
 pub use amqp_below_connections::{
     AllocSessionError, ConnectionEnd, IncomingSession, MemoryConnection,
 };
-pub use amqp_below_sessions::{ListenerSessionEndpoint, ReceiverAttachError, SenderAttachError};
+pub use amqp_below_sessions::{
+    AllocLinkError, BeginError, ListenerSessionEndpoint, ReceiverAttachError, SenderAttachError,
+};
+pub use amqp_links::Poll;

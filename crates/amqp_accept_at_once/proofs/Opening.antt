@@ -11,11 +11,10 @@ use Rattle.amqp_txn_types.specs.Frames.{is_coordinator_attach}
 use Rattle.amqp_below_layer.specs.declared.inner_error.SessionInnerError.{SessionInnerError}
 use Rattle.amqp_below_layer.specs.Inner.{Took}
 use Rattle.amqp_below_layer.specs.Told.{Told}
-use Rattle.amqp_below_sessions.specs.Names.{AttachLeaves, LeftBy, Names, Placed, SameNames, leaves-at_once, left-map}
-use Rattle.amqp_below_sessions.specs.Sessions.{Kept, LeavesFrame}
+use Rattle.amqp_below_sessions.specs.Names.{AttachLeaves, LeftBy, Names, Placed, SameNames, leaves-at_once, left-map, left-same}
+use Rattle.amqp_below_sessions.specs.Sessions.{Kept, LeavesFrame, kept-same}
 use Rattle.amqp_below_sessions.specs.declared.relay.NameState.{NameState}
 use Rattle.amqp_below_sessions.specs.declared.relay.NameState.TheVariants.{Unknown, Waiting, Taken}
-use Rattle.amqp_accept_listener.specs.ListenerLaws.{left-same}
 use Rattle.amqp_accept_listener.specs.Listening.{queue_of}
 use Rattle.amqp_accept_listener.specs.declared.listener.ListenerSession.{ListenerSession}
 use Rattle.amqp_accept_at_once.specs.AtOnce.{Accepted, AcceptsAttach, AcceptsLeaves, AcceptsQueued, AttachCause, HearsAttach, OpensAtOnce, TakesQueued}
@@ -115,7 +114,10 @@ module _ {S : Type 0} (told : ListenerSession S → Told) (kept : ListenerSessio
       subst Opens (sym is) (record {
         hears = hears-unwaited (Heard attach) Accepts _ old taken taken attach (Err error)
             (Err error) differs takes (refl, refl);
-        leaves = record { kept = same_kept; names = left-same _ _ error same_names };
+        leaves = record {
+          kept = kept-same (kept old) (kept taken) (frames.Attach attach) (Err error) same_kept;
+          names = left-same _ _ error same_names;
+        };
         cause = λ some none other. rose;
         queue = queue;
       })
@@ -135,7 +137,7 @@ module _ {S : Type 0} (told : ListenerSession S → Told) (kept : ListenerSessio
         hears = hears-unwaited (Heard attach) Accepts _ old taken new attach (Ok attach) result differs
             takes accepts;
         leaves = record {
-          kept = then_kept ∙ same_kept;
+          kept = kept-same (kept old) (kept new) (frames.Attach attach) result (then_kept ∙ same_kept);
           names = accepted-names (names old) (names taken) (names new) attach.name result same_names
               then_names;
         };

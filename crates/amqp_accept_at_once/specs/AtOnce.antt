@@ -1,7 +1,7 @@
 -- What a listener keeps that accepts links at once, and what its calls do to that. Part 2 of the
 -- standard, section 2.6.3 (establishing a link).
 use Rattle.std.specs.Prelude.{ℕ, ◌≡◌, Bool, true, false, Option, None, Result, Ok, Err, List, IfErr}
-use Rattle.amqp_txn_types.specs.Counts.{Rose}
+use Rattle.amqp_txn_types.specs.Counts.{Rose, counted}
 use Rattle.amqp_txn_types.specs.Frames.{attaches_coordinator}
 use Rattle.amqp_txn_types.specs.declared.delivery.SessionStopReason.{SessionStopReason}
 use Rattle.amqp_txn_types.specs.declared.performatives.Attach.{Attach}
@@ -37,7 +37,7 @@ use Rattle.amqp_accept_links.specs.declared.endpoint.LinkEndpoint.{LinkEndpoint}
 use Rattle.amqp_accept_links.specs.declared.link.LinkAcceptor.{LinkAcceptor}
 use Rattle.amqp_accept_links.specs.LinkAcceptors.{AcceptsLink}
 use Rattle.amqp_accept_links.specs.Opening.{OpensThrough}
-use Rattle.amqp_accept_listener.specs.Listening.{ChangesQueue, counted, queue_of}
+use Rattle.amqp_accept_listener.specs.Listening.{ChangesQueue, queue_of}
 use Rattle.amqp_accept_listener.specs.declared.listener.ListenerSession.{ListenerSession}
 use Rattle.amqp_accept_at_once.specs.declared.accepting.AcceptingListener.{AcceptingListener}
 
@@ -124,7 +124,7 @@ attach_refusal (errors.LocalReceiver error) = receiver_refusal error
 abbrev pub Accepted : Type 0
 Accepted = Result (LinkEndpoint × List Frame) AcceptorAttachError
 
--- the acceptor's frames, or why it doesn't accept; the link's end is let go
+-- the acceptor's frames, or why it doesn't accept; the link's end is dropped
 abbrev pub attach_answer : Accepted → Result (List Frame) SessionInnerError
 attach_answer (Ok accepted) = Ok accepted.1
 attach_answer (Err error) = Err (attach_refusal error)

@@ -7,16 +7,17 @@ mod endpoint_calls;
 mod session_calls;
 
 use crate::hearing::{Acceptor, hear_attach};
-use amqp_accept_listener::{ListenerSession, count_answer};
+use amqp_accept_listener::ListenerSession;
 use amqp_below_layer::{LayerBelow, SessionInnerError, Tells, Verdict};
 use amqp_below_sessions::Session;
 use amqp_txn_types::{
     Attach, Detach, Disposition, Flow, Frames, NoMemory, Payload, SessionState, Transfer,
+    count_answer,
 };
 use std::alloc::Global;
 
 /// A listener that accepts each link at once: an attach that went to the queue is taken out of it
-/// and accepted in the same call, which gives the acceptor's frames. The link's end is let go.
+/// and accepted in the same call, which gives the acceptor's frames. The link's end is dropped.
 ///
 /// A link that the acceptor refuses is the call's Err. It counts its own calls that are answered
 /// with an Err, and tells none of the lists of a layer. All else is the listener's.

@@ -23,9 +23,9 @@
 //! let frames = listener.on_incoming_attach(attach)?; // send them
 //! ```
 //!
-//! Below stand the acceptors of `amqp_accept_links` and the listener of `amqp_accept_listener`. The promise
-//! that this crate carries: after each attach the queue is as it was; a link that the acceptor
-//! refuses is the call's Err; each Err is counted. 'The standard' is OASIS AMQP 1.0.
+//! Below stand the acceptors of `amqp_accept_links` and the listener of `amqp_accept_listener`. The
+//! promise that this crate carries: after each attach the queue is as it was; a link that the
+//! acceptor refuses is the call's Err; each Err is counted. 'The standard' is OASIS AMQP 1.0.
 #![tactic(auto)]
 
 mod accepting;

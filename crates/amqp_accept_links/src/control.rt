@@ -76,7 +76,8 @@ impl ControlLinkAcceptor {
         }
     }
 
-    /// A control link, ready to be opened. The only error is out of memory.
+    /// A control link, ready to be opened. Its target is a coordinator, whatever the attach's is.
+    /// The only error is out of memory.
     pub fn prepare(&self, alloc: Global, remote: &Attach) -> Result<Opening, NoMemory>
         ensures { IfOk result (λ opening. opening ≡ control_opening self.now remote.now) }
     {
@@ -93,9 +94,14 @@ impl ControlLinkAcceptor {
     /// is granted, the flow that grants it. Part 2 of the standard, section 2.6.3 (establishing a
     /// link).
     ///
-    /// Errors: `Alloc` where the session doesn't allocate the link; `Session` where the session
-    /// refuses the flow, and the output handle that it allocated is then freed; `NoMemory` where
-    /// memory runs out, of the session too. It is never `CoordinatorIsNotImplemented`.
+    /// # Errors
+    ///
+    /// - `Alloc` where the session doesn't allocate the link.
+    /// - `Session` where the session refuses the flow; the output handle that it allocated is then
+    ///   freed.
+    /// - `NoMemory` where memory runs out, of the session too.
+    ///
+    /// It is never `CoordinatorIsNotImplemented`.
     ///
     /// # Requires
     ///

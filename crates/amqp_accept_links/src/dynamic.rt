@@ -44,7 +44,7 @@ impl<T: Drop> OnDynamic<T> for RejectDynamic {
 #[derive(Drop)]
 pub struct Ask<T, F> {
     /// The closure.
-    pub ask: F,
+    ask: F,
     termini: PhantomData<T>,
 }
 

@@ -1,7 +1,8 @@
 //! A session that is lent to accept its links.
 
 ghost use Rattle.std.specs.Prelude.{◌≡◌};
-ghost use Rattle.amqp_below_sessions.specs.Sessions.{Leaves};
+ghost use Rattle.amqp_below_sessions.specs.Names.{SameNames};
+ghost use Rattle.amqp_below_sessions.specs.Sessions.{with_queue};
 ghost use Rattle.amqp_accept_links.specs.Handles.{next_incoming};
 ghost use Rattle.amqp_below_sessions.specs.Queues.{first_waiting, without_first};
 
@@ -35,13 +36,13 @@ impl<E: ListenerSessionEndpoint> SessionHandle<'_, E> {
     /// memory.
     pub fn next_incoming_attach(&mut self) -> Poll<Option<Attach>>
         ensures same { self.new.session.ghost_name ≡ self.old.session.ghost_name }
-        ensures next { result ≡ next_incoming (E.queue self.old.session.now) }
-        ensures rest { E.queue self.new.session.now ≡ without_first (E.queue self.old.session.now) }
+        ensures next { result ≡ next_incoming (E.kept self.old.session.now).queue }
+        ensures kept { E.kept self.new.session.now ≡ with_queue (E.kept self.old.session.now)
+            (without_first (E.kept self.old.session.now).queue) }
         ensures told { E.told self.new.session.now ≡ E.told self.old.session.now }
-        ensures leaves { Leaves (E.kept self.old.session.now) (E.kept self.new.session.now)
-            (E.names self.old.session.now) (E.names self.new.session.now) }
+        ensures names { SameNames (E.names self.old.session.now) (E.names self.new.session.now) }
         ensures gives { E.next_attach_gives self.old.session.now self.new.session.now
-            (first_waiting (E.queue self.old.session.now)) }
+            (first_waiting (E.kept self.old.session.now).queue) }
     {
         match self.session.next_attach() {
             Some(attach) => Poll::Ready(Some(attach)),

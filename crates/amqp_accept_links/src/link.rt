@@ -142,14 +142,18 @@ impl<FS: OnDynamic<Source>, FT: OnDynamic<Target>> LinkAcceptor<FS, FT> {
     ghost use Rattle.amqp_accept_links.specs.Handles.{AcceptsNext, NextLeaves, NextStoppedBy, NextTold, next_incoming};
     ghost use Rattle.amqp_accept_links.specs.LinkAcceptors.{AcceptsEnd, AcceptsLink, LinkTold, LinkToldStop, link_output};
     ghost use Rattle.amqp_accept_links.specs.Opening.{OpensThrough};
+    ghost use Rattle.amqp_below_sessions.specs.Queues.{without_first};
+    ghost use Rattle.amqp_below_sessions.specs.Sessions.{with_queue};
 
     /// Accepts a link: its frames are the attach that answers the peer's and, for a local receiver
     /// that grants credit, the flow that grants it.
     ///
-    /// Errors: `SessionStopped` where the session keeps a reason why it stopped; else
-    /// `LocalReceiver` with `CoordinatorIsNotImplemented` where the target is a coordinator,
-    /// whatever the peer's role; else that of the local end, by the peer's role. Out of memory is
-    /// that of the local end.
+    /// # Errors
+    ///
+    /// - `SessionStopped` where the session keeps a reason why it stopped.
+    /// - Else `LocalReceiver` with `CoordinatorIsNotImplemented` where the target is a coordinator,
+    ///   whatever the peer's role.
+    /// - Else that of the local end, by the peer's role. Out of memory is that of the local end.
     ///
     /// # Requires
     ///
@@ -189,12 +193,16 @@ impl<FS: OnDynamic<Source>, FT: OnDynamic<Target>> LinkAcceptor<FS, FT> {
     }
 
     /// Takes the attach that came first out of the session's queue, and accepts it. It is `Pending`
-    /// exactly where the queue is empty and not closed.
+    /// exactly where the queue is empty and not closed. The queue is then the old one without its
+    /// first attach, whatever is answered.
     ///
-    /// Errors: `SessionStopped` where the queue is closed and empty, with the reason that the
-    /// session keeps, or `Ended` where it keeps none; else those of
-    /// [`LinkAcceptor::accept_incoming_attach`], and the attach is then out of the queue. Out of
-    /// memory to copy the kept reason is that of a local receiver.
+    /// # Errors
+    ///
+    /// - `SessionStopped` where the queue is closed and empty, with the reason that the session
+    ///   keeps, or `Ended` where it keeps none; out of memory to copy that reason is that of a
+    ///   local receiver.
+    /// - Else those of [`LinkAcceptor::accept_incoming_attach`]; the attach is then out of the
+    ///   queue.
     ///
     /// # Requires
     ///
@@ -209,12 +217,13 @@ impl<FS: OnDynamic<Source>, FT: OnDynamic<Target>> LinkAcceptor<FS, FT> {
         ensures same { handle.new.session.ghost_name ≡ handle.old.session.ghost_name }
         ensures told { NextTold (E.told handle.old.session.now) (E.told handle.new.session.now)
             result }
-        ensures kept { E.kept handle.new.session.now ≡ E.kept handle.old.session.now }
-        ensures stopped { NextStoppedBy (next_incoming (E.queue handle.old.session.now))
+        ensures kept { E.kept handle.new.session.now ≡ with_queue (E.kept handle.old.session.now)
+            (without_first (E.kept handle.old.session.now).queue) }
+        ensures stopped { NextStoppedBy (next_incoming (E.kept handle.old.session.now).queue)
             (E.kept handle.old.session.now).stop result }
-        ensures names { NextLeaves (next_incoming (E.queue handle.old.session.now))
+        ensures names { NextLeaves (next_incoming (E.kept handle.old.session.now).queue)
             (E.names handle.old.session.now) (E.names handle.new.session.now) result }
-        ensures accepts { AcceptsNext E.next_attach_gives (E.queue handle.old.session.now)
+        ensures accepts { AcceptsNext E.next_attach_gives (E.kept handle.old.session.now).queue
             (E.kept handle.old.session.now).stop (λ remote. AcceptsLink
             (FS.decides self.now.local_sender_acceptor.on_dynamic_source)
             (FT.decides self.now.local_receiver_acceptor.on_dynamic_target)

@@ -101,8 +101,10 @@ impl Opening {
     /// Opens the link: the session allocates it, and then its reply is sent. It gives the link's
     /// output handle and the frames of the reply.
     ///
-    /// Errors: `Alloc` where the session doesn't allocate it; `Session` where the session refuses
-    /// its flow, and the output handle is then freed.
+    /// # Errors
+    ///
+    /// - `Alloc` where the session doesn't allocate it.
+    /// - `Session` where the session refuses its flow; the output handle is then freed.
     pub fn open<S: Session>(self, session: &mut S) -> Result<(OutputHandle, Frames), OpenError>
         ensures told { Checks (S.told session.old) (S.told session.new) result }
         ensures kept { S.kept session.new ≡ S.kept session.old }

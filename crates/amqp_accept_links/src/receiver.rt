@@ -137,10 +137,13 @@ impl<T: TargetKind, F: OnDynamic<T>> LocalReceiverLinkAcceptor<T, F> {
     /// the attach that answers the peer's and, where credit is granted, the flow that grants it.
     /// Part 2 of the standard, section 2.6.3 (establishing a link).
     ///
-    /// Errors: `CoordinatorIsNotImplemented` exactly where there is a target and it is of another
-    /// kind; else `Alloc` where the session doesn't allocate the link; `Session` where the session
-    /// refuses the flow, and the output handle that it allocated is then freed; `NoMemory` where
-    /// memory runs out, of the session too.
+    /// # Errors
+    ///
+    /// - `CoordinatorIsNotImplemented` exactly where there is a target and it is of another kind.
+    /// - Else `Alloc` where the session doesn't allocate the link.
+    /// - `Session` where the session refuses the flow; the output handle that it allocated is then
+    ///   freed.
+    /// - `NoMemory` where memory runs out, of the session too.
     ///
     /// # Requires
     ///

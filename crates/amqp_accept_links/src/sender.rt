@@ -90,8 +90,12 @@ impl<F: OnDynamic<Source>> LocalSenderLinkAcceptor<F> {
     /// 2 of the standard, section 2.6.3 (establishing a link). The peer's target is answered as it
     /// is.
     ///
-    /// Errors: `Alloc` where the session doesn't allocate the link; `NoMemory` where memory runs
-    /// out, of the session too. It is never `SessionStopped` or `Session`.
+    /// # Errors
+    ///
+    /// - `Alloc` where the session doesn't allocate the link.
+    /// - `NoMemory` where memory runs out, of the session too.
+    ///
+    /// It is never `SessionStopped` or `Session`.
     ///
     /// # Requires
     ///

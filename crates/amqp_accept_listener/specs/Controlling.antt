@@ -1,7 +1,9 @@
 -- How a control link is opened through a listener. Part 4 of the standard, section 4.2 (declaring a
 -- transaction).
 use Rattle.std.specs.Prelude.{◌≡◌, ◌⊎◌, Bool, false, IfErr, Result, Ok, Err, List}
-use Rattle.amqp_txn_types.specs.Counts.{Rose}
+use Rattle.std.specs.Bool.{OnFalse, OnTrue}
+use Rattle.amqp_txn_types.specs.Counts.{Rose, counted}
+use Rattle.amqp_txn_types.specs.Frames.{attaches_coordinator}
 use Rattle.amqp_txn_types.specs.declared.small.InputHandle.{InputHandle}
 use Rattle.amqp_txn_types.specs.declared.small.OutputHandle.{OutputHandle}
 use Rattle.amqp_txn_types.specs.declared.performatives.Attach.{Attach}
@@ -24,7 +26,7 @@ use Rattle.amqp_accept_links.specs.declared.opening.OpenError.TheVariants as err
 use Rattle.amqp_accept_links.specs.Receivers.{control_opening}
 use Rattle.amqp_accept_links.specs.Replies.{SendsReply}
 use Rattle.amqp_accept_listener.specs.declared.listener.ListenerSession.{ListenerSession}
-use Rattle.amqp_accept_listener.specs.Listening.{AllocatesHeld, NoRoom, control_of, counted, held_of, inner_of, own_of, queue_of}
+use Rattle.amqp_accept_listener.specs.Listening.{AllocatesHeld, Unasked, control_of, held_of, inner_of, own_of, queue_of}
 
 -- why a control link isn't opened: that it isn't allocated, or the session's own refusal of its
 -- flow
@@ -85,19 +87,26 @@ OpensControl told names allocates flows frees old new held held_now opening resu
     ((opened : Result (OutputHandle × List Frame) OpenError)
     × OpensHeld told names allocates flows frees old new held held_now opening opened
     × (result ≡ control_answer opened))
-    ⊎ NoRoom old new held held_now faults.NoMemory result
+    ⊎ Unasked old new held held_now faults.NoMemory result
 
--- the attach of a control link through a listener; an Err is counted
+-- the attach of a control link through a listener: one whose target is no coordinator is refused; an
+-- Err is counted
 pub record HearsControl {S : Type 0} (told : S → Told) (kept : S → Kept) (names : S → Names)
     (allocates : S → S → Text → Relay → InputHandle → Result OutputHandle AllocLinkError → Type 0)
     (flows : S → S → LinkFlow → Result Flow SessionInnerError → Type 0)
     (frees : S → S → OutputHandle → Bool → Type 0) (old new : ListenerSession S) (attach : Attach)
     (result : Result (List Frame) SessionInnerError) : Type 0 where
   pub opens :
-      OpensControl told names allocates flows frees (inner_of old) (inner_of new) (held_of old)
-      (held_of new) (control_opening (control_of old) attach) result
+      OnTrue (attaches_coordinator attach)
+      (OpensControl told names allocates flows frees (inner_of old) (inner_of new) (held_of old)
+      (held_of new) (control_opening (control_of old) attach) result)
+  pub refuses :
+      OnFalse (attaches_coordinator attach)
+      (Unasked (inner_of old) (inner_of new) (held_of old) (held_of new) faults.IllegalState result)
   pub steady : Steady (told (inner_of old)) (told (inner_of new))
-  pub cause : IfErr result (λ error. CausedBelow error (told (inner_of old)) (told (inner_of new)))
+  pub cause :
+      OnTrue (attaches_coordinator attach)
+      (IfErr result (λ error. CausedBelow error (told (inner_of old)) (told (inner_of new))))
   pub leaves :
       LeavesOpening (kept (inner_of old)) (kept (inner_of new)) (names (inner_of old))
       (names (inner_of new)) attach result

@@ -1,5 +1,6 @@
 -- What a listener does with the frames that come.
 use Rattle.std.specs.Prelude.{◌≡◌, ◌⊎◌, Bool, true, false, if◌then◌else◌, Result, Ok, Err, List, []}
+use Rattle.amqp_txn_types.specs.Counts.{counted}
 use Rattle.amqp_txn_types.specs.declared.small.InputHandle.{InputHandle}
 use Rattle.amqp_txn_types.specs.declared.performatives.Attach.{Attach}
 use Rattle.amqp_txn_types.specs.declared.performatives.Flow.{Flow}
@@ -17,7 +18,7 @@ use Rattle.amqp_below_sessions.specs.declared.relay.NameState.TheVariants.{Waiti
 use Rattle.amqp_below_sessions.specs.Queues.{Queue, with_last}
 use Rattle.amqp_accept_listener.specs.declared.listener.ListenerSession.{ListenerSession}
 use Rattle.amqp_accept_listener.specs.Held.{SameHeld, link_flow_in, with_held}
-use Rattle.amqp_accept_listener.specs.Listening.{Keeps, NoRoom, control_of, counted, held_of, inner_of, own_of, queue_of}
+use Rattle.amqp_accept_listener.specs.Listening.{Keeps, Unasked, control_of, held_of, inner_of, own_of, queue_of}
 
 -- why an attach isn't queued at a closed queue, by how its name is known
 abbrev pub unqueued_fault : NameState → SessionInnerError
@@ -76,7 +77,7 @@ abbrev pub HearsFlow : {S : Type 0} → (Result (List Frame) SessionInnerError �
 HearsFlow Inner old new held held_now flow result =
     ((answer : Result (List Frame) SessionInnerError)
     × AnswersFlow Inner held held_now flow answer result)
-    ⊎ NoRoom old new held held_now faults.NoMemory result
+    ⊎ Unasked old new held held_now faults.NoMemory result
 
 -- a transfer goes to the session, and is dropped where that answers that its handle isn't attached
 abbrev pub HearsTransfer : (Result (List Frame) SessionInnerError → Type 0)

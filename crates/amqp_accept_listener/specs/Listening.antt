@@ -1,6 +1,6 @@
 -- What a listener keeps beside the session in it, and what its calls do to both.
 use Rattle.std.specs.Prelude.{ℕ, ◌≡◌, ◌⊎◌, [], Option, Some, None, Result, Ok, Err, List, OnOk}
-use Rattle.amqp_txn_types.specs.Counts.{one_more}
+use Rattle.amqp_txn_types.specs.Counts.{counted, one_more}
 use Rattle.amqp_txn_types.specs.declared.small.InputHandle.{InputHandle}
 use Rattle.amqp_txn_types.specs.declared.small.OutputHandle.{OutputHandle}
 use Rattle.amqp_txn_types.specs.declared.performatives.Attach.{Attach}
@@ -14,6 +14,7 @@ use Rattle.amqp_below_sessions.specs.declared.relay.Relay.{Relay}
 use Rattle.amqp_below_sessions.specs.declared.session_errors.AllocLinkError.{AllocLinkError}
 use Rattle.amqp_below_sessions.specs.declared.session_errors.AllocLinkError.TheVariants as refusals
 use Rattle.amqp_below_sessions.specs.Queues.{Queue, with_last}
+use Rattle.amqp_below_sessions.specs.Sessions.{Kept, with_queue}
 use Rattle.amqp_accept_links.specs.declared.control.ControlLinkAcceptor.{ControlLinkAcceptor}
 use Rattle.amqp_accept_listener.specs.declared.listener.ListenerSession.{ListenerSession}
 use Rattle.amqp_accept_listener.specs.Held.{SameHeld, flows_for, replaying, with_flows}
@@ -30,6 +31,10 @@ queue_of l = l.queue
 abbrev pub held_of : {S : Type 0} → ListenerSession S → InputHandle → List LinkFlow
 held_of l = flows_for l.held
 
+-- what a listener keeps: what the session in it keeps, with the listener's own queue
+abbrev pub kept_with : {S : Type 0} → (S → Kept) → ListenerSession S → Kept
+kept_with kept l = with_queue (kept (inner_of l)) (queue_of l)
+
 -- the acceptor of a listener's control links
 abbrev pub control_of : {S : Type 0} → ListenerSession S → ControlLinkAcceptor
 control_of l = l.control
@@ -37,11 +42,6 @@ control_of l = l.control
 -- how many of its own calls a listener answered with an Err
 abbrev pub own_of : {S : Type 0} → ListenerSession S → ℕ
 own_of l = l.refusals
-
--- a count, with one more where the answer is an Err
-abbrev pub counted : {T E : Type 0} → Result T E → ℕ → ℕ
-counted (Ok value) count = count
-counted (Err error) count = one_more count
 
 -- what a listener keeps beside its session and its count is as it was: queue, flows and acceptor
 pub record Keeps {S : Type 0} (old new : ListenerSession S) : Type 0 where
@@ -109,8 +109,8 @@ pub record RefusesUncopied {S : Type 0} (told : S → Told)
   pub held_is : SameHeld held held_now
   pub refused : OnOk result ⊥
 
--- there was no room for the copies, and the session wasn't asked
-pub record NoRoom {S T E : Type 0} (old new : S) (held held_now : InputHandle → List LinkFlow)
+-- the session wasn't asked, what is held stays, and this fault is answered
+pub record Unasked {S T E : Type 0} (old new : S) (held held_now : InputHandle → List LinkFlow)
     (fault : E) (result : Result T E) : Type 0 where
   pub inner : new ≡ old
   pub held_is : SameHeld held held_now
@@ -125,7 +125,7 @@ abbrev pub AllocatesHeld : {S : Type 0} → (S → Told)
     → Relay → InputHandle → Result OutputHandle AllocLinkError → Type 0
 AllocatesHeld told gives old new Unknown held held_now name relay input result =
     Replays told gives old new held held_now name relay input result
-    ⊎ NoRoom old new held held_now refusals.NoMemory result
+    ⊎ Unasked old new held held_now refusals.NoMemory result
 AllocatesHeld told gives old new state held held_now name relay input result =
     RefusesUncopied told gives old new held held_now name relay input result
 

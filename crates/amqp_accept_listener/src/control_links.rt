@@ -1,19 +1,23 @@
 //! Control links that are opened through a listener.
 
+ghost use Rattle.std.specs.Bool.{OnFalse, OnTrue};
 ghost use Rattle.std.specs.Prelude.{◌≡◌, IfErr};
+ghost use Rattle.amqp_txn_types.specs.Frames.{attaches_coordinator};
+ghost use Rattle.amqp_below_layer.specs.declared.inner_error.SessionInnerError.TheVariants as faults;
 ghost use Rattle.amqp_below_layer.specs.Told.{Steady};
 ghost use Rattle.amqp_below_sessions.specs.Sessions.{LeavesOpening};
 ghost use Rattle.amqp_accept_links.specs.Opening.{OpenLeaves};
 ghost use Rattle.amqp_accept_links.specs.Receivers.{control_opening};
 ghost use Rattle.amqp_accept_listener.specs.Controlling.{CausedBelow, OpensControl, OpensHeld, control_refusal};
 ghost use Rattle.amqp_accept_listener.specs.Held.{flows_for};
+ghost use Rattle.amqp_accept_listener.specs.Listening.{Unasked};
 
 use crate::hearing::allocate_held;
 use crate::held_flows::HeldFlows;
 use amqp_accept_links::{ControlLinkAcceptor, OpenError, Opening};
 use amqp_below_layer::SessionInnerError;
 use amqp_below_sessions::{Session, control_error};
-use amqp_txn_types::{Attach, Frames, OutputHandle};
+use amqp_txn_types::{Attach, Frames, OutputHandle, is_coordinator};
 use std::alloc::Global;
 
 /// Why a control link isn't opened.
@@ -53,9 +57,36 @@ fn open_held<S: Session>(
     Ok((output, frames))
 }
 
+/// Opens a control link: its frames are those of the acceptor's reply. An attach whose target is no
+/// coordinator is refused by `IllegalState`, and nothing is asked of the session.
+pub fn open_control<S: Session>(
+    session: &mut S,
+    held: &mut HeldFlows,
+    control: &ControlLinkAcceptor,
+    alloc: Global,
+    attach: &Attach,
+) -> Result<Frames, SessionInnerError>
+    ensures steady { Steady (S.told session.old) (S.told session.new) }
+    ensures cause { OnTrue (attaches_coordinator attach.now) (IfErr result (λ error.
+        CausedBelow error (S.told session.old) (S.told session.new))) }
+    ensures leaves { LeavesOpening (S.kept session.old) (S.kept session.new) (S.names session.old)
+        (S.names session.new) attach.now result }
+    ensures opens { OnTrue (attaches_coordinator attach.now) (OpensControl S.told S.names
+        S.allocate_incoming_link_gives S.outgoing_flow_gives S.deallocate_link_gives session.old
+        session.new (flows_for held.old) (flows_for held.new)
+        (control_opening control.now attach.now) result) }
+    ensures refuses { OnFalse (attaches_coordinator attach.now) (Unasked session.old session.new
+        (flows_for held.old) (flows_for held.new) faults.IllegalState result) }
+{
+    if !is_coordinator(attach) {
+        return Err(SessionInnerError::IllegalState);
+    }
+    open_coordinator(session, held, control, alloc, attach)
+}
+
 /// Opens a control link: the acceptor makes it ready, and gives the frames of its reply. Room for
 /// these is made first.
-pub fn open_control<S: Session>(
+fn open_coordinator<S: Session>(
     session: &mut S,
     held: &mut HeldFlows,
     control: &ControlLinkAcceptor,

@@ -1,7 +1,6 @@
 //! What a listener does with the frames that come, over its session, its queue and what it holds.
 
-ghost use Rattle.std.specs.Prelude.{◌≡◌, ◌≤◌, IfErr, OnErr};
-ghost use Rattle.amqp_txn_types.specs.Counts.{Rose, one_more};
+ghost use Rattle.std.specs.Prelude.{◌≡◌, IfErr};
 ghost use Rattle.amqp_txn_types.specs.declared.performatives.Frame.TheVariants as frames;
 ghost use Rattle.amqp_below_layer.specs.Inner.{Took};
 ghost use Rattle.amqp_below_layer.specs.Told.{Steady};
@@ -12,42 +11,14 @@ ghost use Rattle.amqp_below_sessions.specs.Sessions.{StoppedBy};
 ghost use Rattle.amqp_below_sessions.specs.declared.relay.NameState.TheVariants.{Taken};
 ghost use Rattle.amqp_accept_listener.specs.Held.{flows_for};
 ghost use Rattle.amqp_accept_listener.specs.Hearing.{HearsAttach, HearsFlow, HearsTransfer, Queues, lacks_handle, unqueued_fault};
-ghost use Rattle.amqp_accept_listener.specs.Listening.{AllocatesHeld, counted};
+ghost use Rattle.amqp_accept_listener.specs.Listening.{AllocatesHeld};
 
 use crate::attach_queue::AttachQueue;
 use crate::held_flows::HeldFlows;
 use amqp_below_layer::{LayerBelow, SessionInnerError};
 use amqp_below_sessions::{AllocLinkError, NameState, Relay, Session};
-use amqp_txn_types::{
-    Attach, Flow, Frames, InputHandle, OutputHandle, Payload, Text, Transfer, count_refusal,
-};
+use amqp_txn_types::{Attach, Flow, Frames, InputHandle, OutputHandle, Payload, Text, Transfer};
 use std::alloc::Global;
-
-/// Counts one more refusal.
-pub fn count_one(refusals: &mut u64)
-    ensures counted { refusals.new ≡ one_more refusals.old }
-    ensures later { refusals.old ≤ refusals.new }
-    ensures rose { Rose refusals.old refusals.new }
-{
-    let _count = *refusals;
-    count_refusal(refusals);
-}
-
-/// Counts an answer that is an Err, and gives the answer.
-pub fn count_answer<T, E>(refusals: &mut u64, answer: Result<T, E>) -> Result<T, E>
-    ensures answer { result ≡ answer }
-    ensures counted { refusals.new ≡ counted answer refusals.old }
-    ensures later { refusals.old ≤ refusals.new }
-    ensures cause { OnErr answer (Rose refusals.old refusals.new) }
-{
-    match answer {
-        Ok(value) => Ok(value),
-        Err(error) => {
-            count_one(refusals);
-            Err(error)
-        }
-    }
-}
 
 /// Why an attach isn't queued at a closed queue.
 fn unqueued_fault(state: NameState) -> SessionInnerError

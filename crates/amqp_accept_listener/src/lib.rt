@@ -29,11 +29,18 @@
 //! let output = listener.allocate_incoming_link(attach.name, relay, input)?; // replayed
 //! ```
 //!
-//! Below stand the sessions of `amqp_below_sessions`, the endpoints of `amqp_below_connections` and the acceptor
-//! of control links of `amqp_accept_links`. The promise that this crate carries: the queue gives
-//! attaches in the order in which they came, and its owner may take back the last; held flows are
-//! replayed in that order where their handle is allocated, and stay held where that is refused.
-//! 'The standard' is OASIS AMQP 1.0.
+//! Who ends the session closes the queue, and those who accept from it are then told the stop:
+//!
+//! ```text
+//! listener.set_session_stop_reason(SessionStopReason::Ended);
+//! listener.close_listener(); // what waits is still given, and nothing more is queued
+//! ```
+//!
+//! Below stand the sessions of `amqp_below_sessions` and the acceptor of control links of
+//! `amqp_accept_links`. The promise that this crate carries: the queue gives attaches in the order
+//! in which they came, and its owner may take back the last; no call but an attach that comes and
+//! those on the queue changes it; held flows are replayed in that order where their handle is
+//! allocated, and stay held where that is refused. 'The standard' is OASIS AMQP 1.0.
 #![tactic(auto)]
 
 mod attach_queue;
@@ -42,5 +49,4 @@ mod hearing;
 mod held_flows;
 mod listener;
 
-pub use hearing::count_answer;
 pub use listener::ListenerSession;

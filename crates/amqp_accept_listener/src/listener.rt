@@ -1,6 +1,6 @@
 //! A session whose peer's attaches wait to be accepted.
 
-ghost use Rattle.std.specs.Prelude.{◌≡◌, [], true, false};
+ghost use Rattle.std.specs.Prelude.{◌≡◌, [], false};
 ghost use Rattle.amqp_txn_types.specs.declared.small.InputHandle.{InputHandle as Input};
 ghost use Rattle.amqp_accept_listener.specs.Listening.{ChangesQueue, TakesNewest, control_of, held_of, inner_of, own_of, queue_of};
 
@@ -10,13 +10,14 @@ mod transactional_calls;
 
 use crate::attach_queue::AttachQueue;
 use crate::control_links::open_control;
-use crate::hearing::{count_answer, hear_attach, hear_flow, hear_transfer};
+use crate::hearing::{hear_attach, hear_flow, hear_transfer};
 use crate::held_flows::HeldFlows;
 use amqp_accept_links::ControlLinkAcceptor;
 use amqp_below_layer::{LayerBelow, SessionInnerError, Tells, Verdict};
 use amqp_below_sessions::Session;
 use amqp_txn_types::{
     Attach, Detach, Disposition, Flow, Frames, NoMemory, Payload, SessionState, Transfer,
+    count_answer,
 };
 use std::alloc::Global;
 
@@ -62,13 +63,6 @@ impl<S: Session> ListenerSession<S> {
         ensures { result.now ≡ inner_of self.now }
     {
         &self.session
-    }
-
-    /// Closes the queue: from now on no attach is queued. Those that wait are still given.
-    pub fn close_listener(&mut self)
-        ensures { ChangesQueue self.old self.new (record (queue_of self.old) { closed = true }) }
-    {
-        self.queue.close();
     }
 
     /// Takes the attach that came last out of the queue: what an owner that accepts each attach as

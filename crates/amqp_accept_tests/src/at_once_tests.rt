@@ -106,3 +106,14 @@ fn no_link_is_accepted_once_the_session_stopped(rt: HostRuntime) {
     assert!(rt; none_waits(&mut listener));
     drop(listener);
 }
+
+#[test]
+fn no_link_is_accepted_once_the_queue_is_closed(rt: HostRuntime) {
+    let alloc = rt.alloc();
+    let mut listener = accepting(alloc);
+    listener.close_listener();
+    let answer = attach(alloc, &mut listener, Role::Sender, None);
+    assert!(rt; refuses(answer, SessionInnerError::UnattachedHandle));
+    assert!(rt; listener.listener_closed());
+    drop(listener);
+}

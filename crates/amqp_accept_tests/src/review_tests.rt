@@ -2,10 +2,9 @@
 
 use crate::listener_tests::listener;
 use amqp_accept_links::{AcceptorAttachError, LinkAcceptor, LinkEndpoint, SessionHandle};
-use amqp_accept_listener::ListenerSession;
 use amqp_below_layer::{LayerBelow, Verdict};
 use amqp_below_recorder::Recorder;
-use amqp_below_sessions::{ListenerSessionEndpoint, PlainSession, Session};
+use amqp_below_sessions::{ListenerSessionEndpoint, Session};
 use amqp_links::Poll;
 use amqp_test_values::{judges, sender_attach, takes_work};
 use amqp_txn_types::{ConnectionStopReason, Frames, SessionStopReason, Text};
@@ -29,9 +28,9 @@ fn hears_attach<S: LayerBelow>(alloc: Global, session: &mut S) -> bool {
 }
 
 /// Accepts the next link.
-fn accept(alloc: Global, listener: &mut ListenerSession<PlainSession>) -> Accepted {
+fn accept<E: ListenerSessionEndpoint>(alloc: Global, session: &mut E) -> Accepted {
     let acceptor = LinkAcceptor::new();
-    let mut handle = SessionHandle::new(listener);
+    let mut handle = SessionHandle::new(session);
     let accepted = acceptor.accept(alloc, &mut handle);
     drop(acceptor);
     accepted
@@ -130,12 +129,13 @@ fn a_recorder_gives_the_attaches_of_its_listener(rt: HostRuntime) {
 }
 
 #[test]
-fn a_recorder_tells_that_its_listener_is_closed(rt: HostRuntime) {
+fn a_queue_that_is_closed_through_a_recorder_tells_the_stop(rt: HostRuntime) {
     let alloc = rt.alloc();
-    let mut listener = listener(alloc);
-    listener.close_listener();
-    let recorder = Recorder::new(alloc, listener);
-    assert!(rt; recorder.listener_closed());
+    let mut recorder = Recorder::new(alloc, listener(alloc));
+    assert!(rt; hears_attach(alloc, &mut recorder));
+    recorder.close_listener();
+    assert!(rt; is_receiver(accept(alloc, &mut recorder), 2));
+    assert!(rt; is_stopped(accept(alloc, &mut recorder), SessionStopReason::Ended));
     drop(recorder);
 }
 

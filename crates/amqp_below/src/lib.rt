@@ -12,8 +12,9 @@
 //! | [`ByteSource`], [`SureSource`], [`MemorySource`] | where octets come from |
 //! | [`ByteSink`], [`SureSink`], [`MemorySink`] | where octets go |
 //!
-//! They are from `amqp_below_layer`, `amqp_below_sessions`, `amqp_below_connections`, `amqp_below_recorder`, `amqp_below_ids` and
-//! `amqp_below_streams`.
+//! They are from `amqp_below_layer`, `amqp_below_sessions`, `amqp_below_connections`,
+//! `amqp_below_recorder`, `amqp_below_ids` and `amqp_below_streams`; `Poll` and `Progress` are those
+//! of `amqp_links`.
 //!
 //! This crate has nothing of its own: it passes these on, and their definitions too.
 #![tactic(auto)]

@@ -1,11 +1,11 @@
 //! The end of a connection in memory.
 
-ghost use Rattle.std.specs.Prelude.{◌≡◌, [], None, OnOk, IfErr};
+ghost use Rattle.std.specs.Prelude.{◌≡◌, [], None, OnOk, OnErr, IfErr};
 ghost use Rattle.amqp_below_connections.specs.MemoryConnections.{IsStopFault, with_session, with_stop};
 
 use crate::connection::{AllocSessionError, ConnectionEnd, IncomingSession};
 use amqp_links::Poll;
-use amqp_txn_types::{ConnectionStopReason, NoMemory, OutgoingChannel, TryClone, count_refusal};
+use amqp_txn_types::{ConnectionStopReason, NoMemory, OutgoingChannel, TryClone, count_one};
 use std::alloc::Global;
 use std::collections::VecDeque;
 use std::marker::Model;
@@ -59,8 +59,11 @@ impl MemoryConnection {
         }
     }
 
-    /// Has a session wait after those that do. Where memory runs out it comes back, and the
-    /// connection is as it was.
+    /// Has a session wait after those that do.
+    ///
+    /// # Errors
+    ///
+    /// Out of memory: the session is handed back, and the connection is as it was.
     pub fn push_session(
         &mut self,
         session: IncomingSession,
@@ -71,6 +74,25 @@ impl MemoryConnection {
         match self.waiting.push_back(session) {
             Ok(()) => Ok(()),
             Err(unkept) => Err((unkept.value, NoMemory)),
+        }
+    }
+
+    /// Has a session wait after those that do.
+    ///
+    /// # Errors
+    ///
+    /// Out of memory: the session is dropped, and the connection is as it was.
+    /// [`MemoryConnection::push_session`] hands it back.
+    pub fn append_session(&mut self, session: IncomingSession) -> Result<(), NoMemory>
+        ensures ok { OnOk result (self.new ≡ with_session self.old session) }
+        ensures err { OnErr result (self.new ≡ self.old) }
+    {
+        match self.push_session(session) {
+            Ok(()) => Ok(()),
+            Err((session, error)) => {
+                drop(session);
+                Err(error)
+            }
         }
     }
 
@@ -113,11 +135,11 @@ impl ConnectionEnd for MemoryConnection {
     fn allocate_session(&mut self) -> Result<OutgoingChannel, AllocSessionError> {
         if let Some(reason) = &self.stop {
             let error = stop_fault(reason);
-            count_refusal(&mut self.faults);
+            count_one(&mut self.faults);
             return Err(error);
         }
         if self.next > self.channel_max as u32 {
-            count_refusal(&mut self.faults);
+            count_one(&mut self.faults);
             return Err(AllocSessionError::ChannelMaxReached);
         }
         let channel = OutgoingChannel(self.next as u16);

@@ -1,6 +1,6 @@
 -- What the calls of a recorder leave of the session in it: the laws of `Session` for a recorder.
-use Rattle.std.specs.Prelude.{◌≡◌, ◌⊎◌, Bool, Result, Ok, Err, List}
-use Rattle.std.proofs.Common.{ap, inl, inr}
+use Rattle.std.specs.Prelude.{◌≡◌, Bool, Result, Ok, Err, List}
+use Rattle.std.proofs.Common.{ap, inr}
 use Rattle.amqp_txn_types.specs.declared.performatives.Attach.{Attach}
 use Rattle.amqp_txn_types.specs.declared.performatives.Frame.{Frame}
 use Rattle.amqp_below_layer.specs.declared.inner_error.SessionInnerError.{SessionInnerError}
@@ -9,26 +9,12 @@ use Rattle.amqp_below_recorder.specs.declared.call_numbers.Planned.{Planned}
 use Rattle.amqp_below_recorder.specs.declared.recorder.Recorder.{Recorder}
 use Rattle.amqp_below_recorder.specs.Recording.{RecordsCall, RecordsOpen, WhyErr, error_uncopied, given_uncopied, inner_of, no_room, passed, planned_so}
 use Rattle.amqp_below_layer.specs.Told.{Told}
-use Rattle.amqp_below_sessions.specs.Names.{LeftBy, Names, SameNames}
-use Rattle.amqp_below_sessions.specs.Sessions.{Kept, Leaves, LeavesFrame, LeavesOpening}
+use Rattle.amqp_below_sessions.specs.Names.{LeftBy, Names, SameNames, left-uncopied}
+use Rattle.amqp_below_sessions.specs.Sessions.{Kept, Leaves, LeavesFrame, LeavesKept, LeavesOpening, kept-same, kept-uncopied}
 use Rattle.amqp_txn_types.specs.declared.items.NoMemory.{NoMemory}
 use Rattle.amqp_below_layer.specs.declared.verdict.Verdict.{Verdict}
 use Rattle.amqp_below_layer.specs.declared.verdict.Verdict.TheVariants as verdicts
 use Rattle.amqp_below_recorder.specs.Vetoing.{RecordsReview}
-
--- what a refusal leaves is what out of memory may leave
-left-weakened : {Done Same : Type 0} (error : SessionInnerError) → LeftBy Done Same (Err error)
-    → Done ⊎ Same
-left-weakened faults.UnattachedHandle same = inr same
-left-weakened faults.RemoteAttachingLinkNameNotFound same = inr same
-left-weakened faults.HandleInUse same = inr same
-left-weakened faults.IllegalState same = inr same
-left-weakened (faults.ConnectionStopped reason) same = inr same
-left-weakened faults.TransferFrameToSender same = inr same
-left-weakened faults.RemoteEnded same = inr same
-left-weakened (faults.RemoteEndedWithError cause) same = inr same
-left-weakened faults.UnknownTxnId same = inr same
-left-weakened faults.NoMemory left = left
 
 module _ {S : Type 0} (told : S → Told) (kept : S → Kept) (names : S → Names) where
   -- a session that is the same has the same names
@@ -41,22 +27,28 @@ module _ {S : Type 0} (told : S → Told) (kept : S → Kept) (names : S → Nam
   -- a call that a recorder refused, or whose answer it couldn't keep, leaves what the layer in it
   -- left, or all
   refused-left : (old new : S) (Done : Type 0)
-      (Inner : Result (List Frame) SessionInnerError → Type 0)
+      (Inner KeptLeft : Result (List Frame) SessionInnerError → Type 0)
+      → ((answer : Result (List Frame) SessionInnerError) → kept new ≡ kept old
+      → KeptLeft answer)
+      → ((answer : Result (List Frame) SessionInnerError) → KeptLeft answer
+      → KeptLeft (Err faults.NoMemory))
       → ((answer : Result (List Frame) SessionInnerError) → Inner answer
-      → (kept new ≡ kept old) × LeftBy Done (SameNames (names old) (names new)) answer)
+      → KeptLeft answer × LeftBy Done (SameNames (names old) (names new)) answer)
       → (planned : Planned) (error : SessionInnerError) (rose : Bool)
       → WhyErr Inner (new ≡ old) planned error rose
-      → (kept new ≡ kept old) × LeftBy Done (SameNames (names old) (names new)) (Err error)
-  refused-left old new Done Inner law planned _ _ (planned_so is_planned same) =
-      (ap kept same, names-same old new same)
-  refused-left old new Done Inner law planned _ _ (no_room same) =
-      (ap kept same, inr (names-same old new same))
-  refused-left old new Done Inner law planned _ _ (passed error no_plan inner) =
+      → KeptLeft (Err error) × LeftBy Done (SameNames (names old) (names new)) (Err error)
+  refused-left old new Done Inner KeptLeft untouched uncopied law planned _ _ (planned_so is_planned same) =
+      (untouched (Err faults.IllegalState) (ap kept same), names-same old new same)
+  refused-left old new Done Inner KeptLeft untouched uncopied law planned _ _ (no_room same) =
+      (untouched (Err faults.NoMemory) (ap kept same), inr (names-same old new same))
+  refused-left old new Done Inner KeptLeft untouched uncopied law planned _ _ (passed error no_plan inner) =
       law (Err error) inner
-  refused-left old new Done Inner law planned _ _ (error_uncopied error no_plan inner) =
-      let left = law (Err error) inner in (left.0, left-weakened error left.1)
-  refused-left old new Done Inner law planned _ _ (given_uncopied given some no_plan inner) =
-      let left = law (Ok given) inner in (left.0, inl left.1)
+  refused-left old new Done Inner KeptLeft untouched uncopied law planned _ _ (error_uncopied error no_plan inner) =
+      let left = law (Err error) inner in
+      (uncopied (Err error) left.0, left-uncopied Done (SameNames (names old) (names new)) (Err error) left.1)
+  refused-left old new Done Inner KeptLeft untouched uncopied law planned _ _ (given_uncopied given some no_plan inner) =
+      let left = law (Ok given) inner in
+      (uncopied (Ok given) left.0, left-uncopied Done (SameNames (names old) (names new)) (Ok given) left.1)
 
   -- an incoming frame call
   pub recorded-leaves : (at_once : Bool)
@@ -72,6 +64,9 @@ module _ {S : Type 0} (told : S → Told) (kept : S → Kept) (names : S → Nam
       law (inner_of old) (inner_of new) frame (Ok given) records.recorded.1.gave
   recorded-leaves at_once gives law old new frame (Err error) records =
       let left = refused-left (inner_of old) (inner_of new) _ _
+      (LeavesKept (kept (inner_of old)) (kept (inner_of new)) frame)
+      (kept-same (kept (inner_of old)) (kept (inner_of new)) frame)
+      (kept-uncopied (kept (inner_of old)) (kept (inner_of new)) frame)
       (λ answer took.
       let leaves = law (inner_of old) (inner_of new) frame answer took.gave in
       (leaves.kept, leaves.names))
@@ -93,6 +88,8 @@ module _ {S : Type 0} (told : S → Told) (kept : S → Kept) (names : S → Nam
       law (inner_of old) (inner_of new) attach (Ok given) records.recorded.1.gave
   recorded_opening-leaves gives law old new attach (Err error) records =
       let left = refused-left (inner_of old) (inner_of new) _ _
+      (λ answer. kept (inner_of new) ≡ kept (inner_of old)) (λ answer same. same)
+      (λ answer same. same)
       (λ answer opened.
       let leaves = law (inner_of old) (inner_of new) attach answer opened.gave in
       (leaves.kept, leaves.names))

@@ -16,7 +16,7 @@ use amqp_below_layer::{
 };
 use amqp_txn_types::{
     Attach, CallNumbers, Detach, Disposition, Flow, Frame, Frames, NoMemory, Payload, SessionState,
-    Transfer, count_refusal, refuse,
+    Transfer, count_one, refuse,
 };
 use std::alloc::Global;
 
@@ -284,14 +284,14 @@ impl<S: LayerBelow> LayerBelow for Recorder<S> {
     fn on_control_attach(&mut self, attach: &Attach) -> Result<Frames, SessionInnerError> {
         self.unused = false;
         let Ok(copy) = prepare(attach, &mut self.opened.items, &mut self.refused.items) else {
-            count_refusal(&mut self.refusals);
+            count_one(&mut self.refusals);
             return Err(SessionInnerError::NoMemory);
         };
         match self.session.on_control_attach(attach) {
             Ok(given) => match keep_taken(self.alloc, &mut self.opened.items, copy, given) {
                 Ok(given) => Ok(given),
                 Err(_) => {
-                    count_refusal(&mut self.refusals);
+                    count_one(&mut self.refusals);
                     Err(SessionInnerError::NoMemory)
                 }
             },
@@ -318,7 +318,7 @@ impl<S: LayerBelow> LayerBelow for Recorder<S> {
             let Ok(copy) = prepare_review(frames, &mut self.vetoed.items) else {
                 return refuse(&mut self.refusals, NoMemory);
             };
-            self.vetoes = self.vetoes.saturating_add(1);
+            count_one(&mut self.vetoes);
             self.vetoed.items.push_reserved(copy);
             return Ok(Verdict::Veto);
         }

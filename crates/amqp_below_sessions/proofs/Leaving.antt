@@ -20,7 +20,7 @@ use Rattle.amqp_below_sessions.specs.Names.{SameNames, attaches-leaves}
 use Rattle.amqp_below_sessions.specs.Plain.{RefusedBy, attach_fault_by, input_of, mapped_fault}
 use Rattle.amqp_below_sessions.specs.PlainFrames.{PlainTakes, TakesAttach, TakesDetach, TakesFlow, TakesTransfer}
 use Rattle.amqp_below_sessions.specs.PlainSessions.{kept_of, names_of, links_of, slots_of}
-use Rattle.amqp_below_sessions.specs.Sessions.{LeavesOpening}
+use Rattle.amqp_below_sessions.specs.Sessions.{LeavesOpening, kept-same}
 use Rattle.amqp_below_sessions.proofs.NamesKept.{attaches-names, changes-same, detaches-names, placed-names, with_flow-input, with_flow-name, with_transfer-input, with_transfer-name}
 
 -- a call that only a mapped session takes was taken
@@ -44,7 +44,7 @@ pub takes-attach : (old new : PlainSession) (attach : Attach) (given : List Fram
 takes-attach old new attach given takes = record {
   takes = takes;
   leaves = record {
-    kept = ap kept_of takes.rest;
+    kept = kept-same (kept_of old) (kept_of new) (frames.Attach attach) (Ok given) (ap kept_of takes.rest);
     names =
         let waited = name-waited (name_state_of (slots_of old) attach.name) _ given (mapped-only _ _ given takes.fault) in
         attaches-leaves (is_coordinator_attach (frames.Attach attach)) (names_of old) (names_of new) attach.name (attaches-names (links_of old) (links_of new) attach takes.attached waited);
@@ -64,7 +64,7 @@ pub takes-flow : (old new : PlainSession) (flow : Flow) (given : List Frame) →
 takes-flow old new flow given takes = record {
   takes = takes;
   leaves = record {
-    kept = ap kept_of takes.rest;
+    kept = kept-same (kept_of old) (kept_of new) (frames.Flow flow) (Ok given) (ap kept_of takes.rest);
     names = flow-names flow.handle (links_of old) (links_of new) flow takes.added;
   };
 }
@@ -74,7 +74,7 @@ pub takes-transfer : (old new : PlainSession) (transfer : Transfer) (payload : L
 takes-transfer old new transfer payload given takes = record {
   takes = takes;
   leaves = record {
-    kept = ap kept_of takes.rest;
+    kept = kept-same (kept_of old) (kept_of new) (frames.Transfer transfer payload) (Ok given) (ap kept_of takes.rest);
     names = changes-same (output_mapped (slots_of old) (input_of transfer.handle)) (links_of old) (links_of new) with_transfer with_transfer-name with_transfer-input takes.counted;
   };
 }
@@ -84,7 +84,7 @@ pub takes-detach : (old new : PlainSession) (detach : Detach) (given : List Fram
 takes-detach old new detach given takes = record {
   takes = takes;
   leaves = record {
-    kept = ap kept_of takes.rest;
+    kept = kept-same (kept_of old) (kept_of new) (frames.Detach detach) (Ok given) (ap kept_of takes.rest);
     names = detaches-names (output_mapped (slots_of old) (input_of detach.handle)) (links_of old) (links_of new) detach given takes.detached;
   };
 }

@@ -117,6 +117,35 @@ LeftBy Done Same (Ok given) = Done
 LeftBy Done Same (Err faults.NoMemory) = Done ⊎ Same
 LeftBy Done Same (Err error) = Same
 
+-- a refusal that leaves all
+pub left-same : (Done Same : Type 0) (error : SessionInnerError) → Same
+    → LeftBy Done Same (Err error)
+left-same Done Same faults.NoMemory same = inr same
+left-same Done Same faults.UnattachedHandle same = same
+left-same Done Same faults.RemoteAttachingLinkNameNotFound same = same
+left-same Done Same faults.HandleInUse same = same
+left-same Done Same faults.IllegalState same = same
+left-same Done Same (faults.ConnectionStopped reason) same = same
+left-same Done Same faults.TransferFrameToSender same = same
+left-same Done Same faults.RemoteEnded same = same
+left-same Done Same (faults.RemoteEndedWithError cause) same = same
+left-same Done Same faults.UnknownTxnId same = same
+
+-- what any answer leaves is left where memory runs out to keep that answer
+pub left-uncopied : (Done Same : Type 0) (result : Result (List Frame) SessionInnerError)
+    → LeftBy Done Same result → LeftBy Done Same (Err faults.NoMemory)
+left-uncopied Done Same (Ok given) left = inl left
+left-uncopied Done Same (Err faults.NoMemory) left = left
+left-uncopied Done Same (Err faults.UnattachedHandle) left = inr left
+left-uncopied Done Same (Err faults.RemoteAttachingLinkNameNotFound) left = inr left
+left-uncopied Done Same (Err faults.HandleInUse) left = inr left
+left-uncopied Done Same (Err faults.IllegalState) left = inr left
+left-uncopied Done Same (Err (faults.ConnectionStopped reason)) left = inr left
+left-uncopied Done Same (Err faults.TransferFrameToSender) left = inr left
+left-uncopied Done Same (Err faults.RemoteEnded) left = inr left
+left-uncopied Done Same (Err (faults.RemoteEndedWithError cause)) left = inr left
+left-uncopied Done Same (Err faults.UnknownTxnId) left = inr left
+
 -- an Ok leaves what its fact says
 pub left-map : (Before After Same : Type 0) (result : Result (List Frame) SessionInnerError)
     → (Before → After) → LeftBy Before Same result → LeftBy After Same result

@@ -19,6 +19,7 @@ use Rattle.amqp_below_sessions.specs.LinkMoves.{names_in}
 use Rattle.amqp_below_sessions.specs.Links.{LinkTable}
 use Rattle.amqp_below_sessions.specs.Names.{Names}
 use Rattle.amqp_below_sessions.specs.Numbers.{after_begin, after_flow, counted_in, numbered}
+use Rattle.amqp_below_sessions.specs.Queues.{no_queue}
 use Rattle.amqp_below_sessions.specs.Sessions.{Kept}
 
 -- its state
@@ -69,12 +70,13 @@ refusals_of session = session.refusals
 abbrev pub vetoes_of : PlainSession → ℕ
 vetoes_of session = session.vetoes
 
--- what it keeps beside its links
+-- what it keeps beside its links: no attaches wait at it
 abbrev pub kept_of : PlainSession → Kept
 kept_of session = record {
   channel = session.channel;
   stop = session.stop;
   connection = session.connection_stop;
+  queue = no_queue;
 }
 
 -- how it knows names

@@ -59,7 +59,9 @@ pub trait Session: LayerBelow {
     ghost use Rattle.amqp_below_sessions.specs.SessionStates.{begin_received, begin_sent, end_received, end_sent};
     ghost use Rattle.amqp_below_sessions.specs.Sessions.{Kept, Leaves, LeavesFrame, LeavesOpening, Moves, StoppedBy, cut_off_for, stopped_for};
 
-    /// What it keeps beside its links: its channel and why it and its connection stopped.
+    /// What it keeps beside its links: its channel, why it and its connection stopped, and the
+    /// attaches that wait at it to be accepted. A session that is no listener has none, as one
+    /// whose queue is closed.
     ghost kept: { Self → Kept };
 
     /// How it knows each name, and the name of the link under each output handle.
@@ -249,7 +251,8 @@ pub trait Session: LayerBelow {
         ensures leaves { Leaves (kept self.old) (kept self.new) (names self.old) (names self.new) }
         ensures gives { outgoing_detach_gives self.old self.new detach.now result };
 
-    /// An incoming frame call leaves what is kept, and of the names what a frame of its kind may.
+    /// An incoming frame call leaves what is kept, but that an attach may wait in the queue now;
+    /// and of the names it leaves what a frame of its kind may.
     ghost incoming_leaves: { (old new : Self) (frame : Came) (answer : Result (List Came) Fault)
         → Self.incoming_gives old new frame answer
         → LeavesFrame accepts_at_once (kept old) (kept new) (names old) (names new) frame answer };

@@ -2,7 +2,7 @@
 
 use amqp_below_connections::*;
 use amqp_below_layer::SessionInnerError;
-use amqp_below_sessions::{AllocLinkError, BeginError};
+use amqp_below_sessions::{AllocLinkError, BeginError, ReceiverAttachError, SenderAttachError};
 use amqp_links::Poll;
 use amqp_test_values::{begin, other_text, same};
 use amqp_txn_types::{ConnectionStopReason, OutgoingChannel, SessionStopReason, TryClone};
@@ -19,7 +19,7 @@ fn sessions_come_in_order(rt: HostRuntime) {
     let mut connection = MemoryConnection::new(rt.alloc(), 1);
     assert!(rt; same(connection.next_incoming_session(), Poll::Pending));
     connection.push_session(incoming(3)).expect(&rt, "an Ok");
-    connection.push_session(incoming(4)).expect(&rt, "an Ok");
+    connection.append_session(incoming(4)).expect(&rt, "an Ok");
     assert!(rt;
         same(
             connection.next_incoming_session(),

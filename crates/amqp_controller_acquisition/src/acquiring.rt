@@ -1,6 +1,6 @@
 //! Transactions that may acquire deliveries.
 
-ghost use Rattle.std.specs.Prelude.{◌≡◌, Ok, IfErr, IfOk};
+ghost use Rattle.std.specs.Prelude.{◌≡◌, Ok, refl, IfErr, IfOk};
 ghost use Rattle.amqp_controller_acquisition.specs.Acquiring.{OneAcquisition, RefusesToAcquire};
 ghost use Rattle.amqp_controller_acquisition.specs.Acquisitions.{lent_to, recver_of, txn_of};
 
@@ -16,13 +16,22 @@ use std::alloc::Global;
 /// released where that is rolled back. Part 4 of the standard, section 4.4.3 (transactional
 /// acquisition).
 pub trait TransactionAcquisition: TransactionBase + TransactionDischarge + TransactionRetirement {
+    /// The id that it names is that of the transaction that it ends.
+    ghost one_id: { (transaction : Self) → Self.id transaction
+        ≡ (Self.begun transaction).txn_id };
+
     /// Names the transaction in the receiver's properties, and puts a flow with the credit and the
     /// properties: see [`acquire_on_link`].
     ///
-    /// Errors, each with the transaction handed back: `IllegalState` exactly where the properties
-    /// named a transaction already, or the receiver's `send_flow` answered it; what else that
-    /// answered; or `NoMemory`. The receiver's properties are as before then, and no map of them is
-    /// as an empty one.
+    /// # Errors
+    ///
+    /// Each hands the transaction back, and leaves the receiver's properties as before, where no
+    /// map of them is as an empty one.
+    ///
+    /// - `IllegalState`: exactly where the properties named a transaction already, or the receiver's
+    ///   `send_flow` answered it.
+    /// - what else that answered.
+    /// - `NoMemory`: memory runs out for the property.
     final fn acquire<'r, R: ReceiverLink>(
         self,
         alloc: Global,
@@ -49,10 +58,14 @@ pub trait TransactionAcquisition: TransactionBase + TransactionDischarge + Trans
 /// All that a transaction does.
 pub trait TransactionExt: TransactionAcquisition + TransactionPosting {}
 
-impl<L: SenderLink> TransactionAcquisition for Transaction<'_, L> {}
+impl<L: SenderLink> TransactionAcquisition for Transaction<'_, L> {
+    ghost one_id = { λ _. refl };
+}
 
 impl<L: SenderLink> TransactionExt for Transaction<'_, L> {}
 
-impl<L: SenderLink + Drop> TransactionAcquisition for OwnedTransaction<L> {}
+impl<L: SenderLink + Drop> TransactionAcquisition for OwnedTransaction<L> {
+    ghost one_id = { λ _. refl };
+}
 
 impl<L: SenderLink + Drop> TransactionExt for OwnedTransaction<L> {}

@@ -73,8 +73,11 @@ impl<'r, Txn: TransactionBase, R: ReceiverLink> TxnAcquisition<'r, Txn, R> {
     }
 
     /// Takes the transaction out of the receiver's properties, and tells the peer so: without
-    /// credit, to be drained, to be answered. After an error, which is that of the receiver's
-    /// `send_flow`, it is taken out all the same.
+    /// credit, to be drained, to be answered.
+    ///
+    /// # Errors
+    ///
+    /// That of the receiver's `send_flow`; the transaction is taken out all the same.
     pub fn cleanup(&mut self) -> Result<(), FlowError>
         ensures recver { OneCleanup R.told R.remove_gives R.flow_gives (recver_of self.old)
             (recver_of self.new) result }
@@ -124,8 +127,8 @@ impl<'r, Txn: TransactionDischarge, R> TxnAcquisition<'r, Txn, R> {
         rt: &W,
         waiting: Txn::Waiting,
     ) -> Progress<Txn::Waiting, Result<(), Txn::Error>>
-        ensures polls { PollsDischarge (Txn.begun (txn_of self.old)) (Txn.begun (txn_of self.new))
-            waiting result }
+        ensures polls { PollsDischarge Txn.is_rollback (Txn.begun (txn_of self.old))
+            (Txn.begun (txn_of self.new)) waiting result }
         ensures gives { IfUndischarged (Txn.begun (txn_of self.old))
             (Txn.poll_gives waiting result) }
         ensures cause { OnPolledErr result (λ error. Txn.of_spend error ≡ false) }

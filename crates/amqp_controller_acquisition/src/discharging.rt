@@ -20,8 +20,12 @@ pub struct AcquisitionDischarging<'r, Txn: TransactionDischarge, R> {
 }
 
 impl<'r, Txn: TransactionBase + TransactionDischarge, R: ReceiverLink> TxnAcquisition<'r, Txn, R> {
-    /// Cleans up, and asks for a commit: puts one discharge, whose `fail` is false. An error hands
-    /// the acquisition back; its receiver is cleaned up all the same.
+    /// Cleans up, and asks for a commit: puts one discharge, whose `fail` is false.
+    ///
+    /// # Errors
+    ///
+    /// Each hands the acquisition back, whose receiver is cleaned up all the same: what the flow of
+    /// the cleanup answered, and no discharge is put then; or why the discharge isn't put.
     pub fn commit<W: Wait>(self, rt: &W) -> EndAsked<'r, Txn, R, Txn::Error>
     where
         Txn::Error: From<FlowError>,
@@ -32,8 +36,11 @@ impl<'r, Txn: TransactionBase + TransactionDischarge, R: ReceiverLink> TxnAcquis
         discharge(self, rt, false)
     }
 
-    /// Cleans up, and asks for a rollback: puts one discharge, whose `fail` is true. An error hands
-    /// the acquisition back; its receiver is cleaned up all the same.
+    /// Cleans up, and asks for a rollback: puts one discharge, whose `fail` is true.
+    ///
+    /// # Errors
+    ///
+    /// As those of [`TxnAcquisition::commit`].
     pub fn rollback<W: Wait>(self, rt: &W) -> EndAsked<'r, Txn, R, Txn::Error>
     where
         Txn::Error: From<FlowError>,
@@ -112,15 +119,17 @@ impl<'r, Txn: TransactionBase + TransactionDischarge, R: ReceiverLink> Acquisiti
 
     /// Looks once for the outcome, and lets the transaction go once it was discharged.
     ///
-    /// An error hands the acquisition back: with its transaction discharged, where that couldn't be
-    /// let go, else as it was. Where it was discharged before, only the first of these comes, and
-    /// it isn't `Pending`.
+    /// # Errors
+    ///
+    /// Each hands the acquisition back: with its transaction discharged, where that couldn't be
+    /// let go, else as it was but for the mark of a rollback that was read. Where it was discharged
+    /// before, only the first of these comes, and it isn't `Pending`.
     pub fn poll<W: Wait>(
         self,
         rt: &W,
     ) -> Progress<Self, Result<(), (TxnAcquisition<'r, Txn, R>, Txn::Error)>>
         ensures polls { PollsToEnd (λ acquisition. Txn.begun (txn_of acquisition)) acquisition_of
-            Txn.of_spend (Txn.begun (txn_of (acquisition_of self.entry))) result }
+            Txn.of_spend Txn.is_rollback (Txn.begun (txn_of (acquisition_of self.entry))) result }
         ensures waits { WaitsOn waiting_of (waiting_of self.entry) result }
         ensures finds { IfUndischarged (Txn.begun (txn_of (acquisition_of self.entry)))
             (FindsEnd waiting_of Txn.of_spend (Txn.poll_gives (waiting_of self.entry)) result) }

@@ -56,6 +56,7 @@ abandoned_by (Some (Err fault)) = ends.Failed (errors.LinkStateError fault)
 -- the end is that of a rollback that was tried
 abbrev pub WasTried : Abandoned → Type 0
 WasTried ends.Discharged = ⊥
+WasTried ends.RolledBack = ⊥
 WasTried ends.Skipped = ⊥
 WasTried end = Unit {0}
 

@@ -18,7 +18,9 @@ use std::alloc::Global;
 pub enum Abandoned {
     /// It was discharged before: nothing was put.
     Discharged,
-    /// It was to be given up without a rollback: nothing was put.
+    /// The coordinator rolled it back before: nothing was put.
+    RolledBack,
+    /// Its trials are 0, so it was to be given up without a rollback: nothing was put.
     Skipped,
     /// A rollback was put, and this is its outcome; `None` is an answer without a state.
     Answered(Option<DeliveryState>),
@@ -32,9 +34,10 @@ pub enum Abandoned {
 /// `trials` times. It doesn't wait between looks. Part 4 of the standard, section 4.3 (discharging
 /// a transaction).
 ///
-/// `Answered` with the outcome that was found; `Unanswered` exactly where each of `trials` looks
-/// found none; `Failed` with the link's fault where `send` or a look answered one, or with
-/// `NoMemory` where there is none for the octets, and nothing is put then.
+/// - `Answered`: with the outcome that was found.
+/// - `Unanswered`: exactly where each of `trials` looks found none.
+/// - `Failed`: with the link's fault where `send` or a look answered one, or with `NoMemory` where
+///   memory runs out for the octets; the link isn't asked then.
 ///
 /// # Requires
 ///

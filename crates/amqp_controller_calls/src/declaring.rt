@@ -32,8 +32,10 @@ impl Model for DeclareOnLink {
 /// Asks for a new transaction: puts one declare, unsettled, without a state, not batchable. Part 4
 /// of the standard, section 4.2 (declaring a transaction).
 ///
-/// Errors: what the link's `send` answered, by its name; `NoMemory` also where there is none for
-/// the octets, and nothing is put then.
+/// # Errors
+///
+/// What the link's `send` answered, by its name. `NoMemory` also where memory runs out for the
+/// octets; the link isn't asked then.
 pub fn declare_on_link<L: SenderLink>(
     alloc: Global,
     link: &mut L,
@@ -48,12 +50,23 @@ pub fn declare_on_link<L: SenderLink>(
 }
 
 impl DeclareOnLink {
+    /// How the declare was sent: unsettled, under the token of its answer.
+    pub fn sent(&self) -> Sent
+        ensures { result ≡ self.now }
+    {
+        self.sent
+    }
+
     /// Looks once for the outcome. It is `Pending` exactly where the link has no answer yet.
     ///
-    /// `Ok` exactly where the answer is `Declared`. Errors: `Rejected` where the coordinator
-    /// rejected the declare, `NonTerminalDeliveryState` where no state was answered,
-    /// `LinkStateError` where the link answered one, and `IllegalDeliveryState` at every other
-    /// state, or where the declare was sent settled.
+    /// `Ok` exactly where the answer is `Declared`.
+    ///
+    /// # Errors
+    ///
+    /// - `Rejected`: the coordinator rejected the declare.
+    /// - `NonTerminalDeliveryState`: no state was answered.
+    /// - `LinkStateError`: the link answered one.
+    /// - `IllegalDeliveryState`: any other state, or the declare was sent settled.
     pub fn poll<L: SenderLink>(
         self,
         link: &mut L,

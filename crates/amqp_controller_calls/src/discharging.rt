@@ -33,9 +33,12 @@ impl Model for DischargeOnLink {
 /// Ends a transaction: puts one discharge, unsettled, without a state, not batchable. Part 4 of the
 /// standard, section 4.3 (discharging a transaction).
 ///
-/// A `fail` of `Some(true)` asks for a rollback, `Some(false)` and `None` for a commit. Errors:
-/// what the link's `send` answered, by its name; `NoMemory` also where there is none for the
-/// octets, and nothing is put then.
+/// A `fail` of `Some(true)` asks for a rollback, `Some(false)` and `None` for a commit.
+///
+/// # Errors
+///
+/// What the link's `send` answered, by its name. `NoMemory` also where memory runs out for the
+/// octets; the link isn't asked then.
 pub fn discharge_on_link<L: SenderLink>(
     alloc: Global,
     link: &mut L,
@@ -64,12 +67,24 @@ impl DischargeOnLink {
         }
     }
 
+    /// How the discharge was sent: unsettled, under the token of its answer; `Settled` where it
+    /// wasn't sent.
+    pub fn sent(&self) -> Sent
+        ensures { result ≡ self.now }
+    {
+        self.sent
+    }
+
     /// Looks once for the outcome. It is `Pending` exactly where the link has no answer yet.
     ///
-    /// `Ok` exactly where the answer is `Accepted`. Errors: `Rejected` where the coordinator
-    /// rejected the discharge, `NonTerminalDeliveryState` where no state was answered,
-    /// `LinkStateError` where the link answered one, and `IllegalDeliveryState` at every other
-    /// state, or where the discharge was sent settled.
+    /// `Ok` exactly where the answer is `Accepted`.
+    ///
+    /// # Errors
+    ///
+    /// - `Rejected`: the coordinator rejected the discharge.
+    /// - `NonTerminalDeliveryState`: no state was answered.
+    /// - `LinkStateError`: the link answered one.
+    /// - `IllegalDeliveryState`: any other state, or the discharge was sent settled.
     pub fn poll<L: SenderLink>(
         self,
         link: &mut L,

@@ -1,13 +1,13 @@
 //! Why a call on a control link fails.
 
 ghost use Rattle.std.specs.Prelude.{◌≡◌};
-ghost use Rattle.amqp_controller_calls.specs.Errors.{link_state, unsent};
+ghost use Rattle.amqp_controller_calls.specs.Errors.{is_rollback, is_rollback_condition, link_state, names_rollback, unsent};
 ghost use Rattle.amqp_controller_calls.specs.declared.errors.ControllerSendError.TheVariants as errors;
 
 use amqp_links::{
     DetachError, IllegalLinkStateError, LinkStateError, MessageSizeExceeded, SendError,
 };
-use amqp_txn_types::{NoMemory, Rejected};
+use amqp_txn_types::{Error, ErrorCondition, NoMemory, Rejected, TransactionError};
 use thiserror::Error as ThisError;
 
 /// Why a declare or a discharge isn't sent, or what was answered in place of its outcome.
@@ -38,6 +38,40 @@ pub enum ControllerSendError {
     /// Out of memory.
     #[error("out of memory")]
     NoMemory,
+}
+
+impl ControllerSendError {
+    /// Whether the coordinator rejected the message because it rolled the transaction back: the
+    /// rejection's condition is `amqp:transaction:rollback`, as
+    /// [`TransactionError::Rollback`]. A custom condition with that symbol isn't read as it.
+    pub fn is_rollback(&self) -> bool
+        ensures { result ≡ is_rollback self.now }
+    {
+        match self {
+            ControllerSendError::Rejected(rejected) => names_rollback(&rejected.error),
+            _ => false,
+        }
+    }
+}
+
+/// Whether an error is there whose condition says that the transaction was rolled back.
+fn names_rollback(error: &Option<Error>) -> bool
+    ensures { result ≡ names_rollback error.now }
+{
+    match error {
+        Some(error) => is_rollback_condition(&error.condition),
+        None => false,
+    }
+}
+
+/// Whether the condition says that the transaction was rolled back.
+fn is_rollback_condition(condition: &ErrorCondition) -> bool
+    ensures { result ≡ is_rollback_condition condition.now }
+{
+    match condition {
+        ErrorCondition::TransactionError(TransactionError::Rollback) => true,
+        _ => false,
+    }
 }
 
 impl From<NoMemory> for ControllerSendError {

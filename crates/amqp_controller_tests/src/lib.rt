@@ -4,4 +4,4 @@
 #[cfg(test)]
 mod acquisition_tests;
 #[cfg(test)]
-mod tests;
+mod transaction_tests;

@@ -14,6 +14,7 @@ use Rattle.amqp_below_sessions.specs.declared.attach_errors.SenderAttachError.{S
 use Rattle.amqp_links.specs.declared.progress.Progress.{Progress}
 use Rattle.amqp_links.specs.declared.progress.Progress.TheVariants as waits
 use Rattle.amqp_controller_calls.specs.declared.errors.ControllerSendError.{ControllerSendError}
+use Rattle.amqp_controller_calls.specs.Errors.{is_rollback}
 use Rattle.amqp_controller_calls.specs.Polling.{LooksOn}
 use Rattle.amqp_controller_calls.specs.Sending.{SendsOn}
 use Rattle.amqp_controller_transactions.specs.declared.begun.Begun.{Begun}
@@ -33,6 +34,11 @@ use Rattle.amqp_controller_transactions.specs.Locked.{ClosesOn, ClosesUnder, Dis
 abbrev pub is_close_error : OwnedDischargeError → Bool
 is_close_error (discharges.DetachError fault) = true
 is_close_error (discharges.ControllerSendError fault) = false
+
+-- the error says that the transaction was rolled back
+abbrev pub is_owned_rollback : OwnedDischargeError → Bool
+is_owned_rollback (discharges.DetachError fault) = false
+is_owned_rollback (discharges.ControllerSendError fault) = is_rollback fault
 
 -- what its owner sees of a transaction
 abbrev pub owned_begun : {L : Type 0} → OwnedTransaction L → Begun

@@ -34,8 +34,12 @@ impl Attaching {
     }
 
     /// Looks once whether the peer attached the link: `Ready(Ok)` exactly where the session knows
-    /// its name as that of an attached link. `SessionStopped` exactly where it doesn't and keeps a
-    /// reason why it stopped, unless there is no memory to copy that; else it is pending.
+    /// its name as that of an attached link, and `Pending` exactly where it doesn't and keeps no
+    /// reason why it stopped.
+    ///
+    /// # Errors
+    ///
+    /// `SessionStopped` with that reason, or `NoMemory` where memory runs out for its copy.
     pub fn poll<S: Session>(
         self,
         session: &mut S,
@@ -51,13 +55,13 @@ impl Attaching {
         }
         match session.session_stop_reason() {
             None => Progress::Pending(self),
-            Some(reason) => Progress::Ready(Err(stopped(reason))),
+            Some(reason) => Progress::Ready(Err(name_stop(reason))),
         }
     }
 }
 
 /// Why a link isn't attached where its session stopped.
-fn stopped(reason: &SessionStopReason) -> SenderAttachError
+fn name_stop(reason: &SessionStopReason) -> SenderAttachError
     ensures { IsStopped reason.now result }
 {
     match reason.try_clone() {

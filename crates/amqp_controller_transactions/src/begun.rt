@@ -1,6 +1,7 @@
 //! A transaction that was declared, as its owner sees it.
 
 ghost use Rattle.std.specs.Prelude.{◌≡◌};
+ghost use Rattle.amqp_controller_calls.specs.Errors.{is_rollback};
 ghost use Rattle.amqp_controller_transactions.specs.Begun.{AsksToDischarge, GivesUp, IfTried, IfUndischarged, PollsDischarge, begun_as};
 ghost use Rattle.amqp_controller_transactions.specs.Locked.{DischargesUnder, GivesUpUnder, PollsUnder};
 
@@ -20,6 +21,8 @@ pub struct Begun {
     pub txn_id: TransactionId,
     /// Whether a discharge was accepted.
     pub is_discharged: bool,
+    /// Whether a poll of its discharge read that the coordinator rolled it back.
+    pub is_rolled_back: bool,
     /// How often an abandon looks for the outcome of its rollback.
     pub rollback_on_drop_trials: u32,
 }
@@ -32,6 +35,7 @@ impl Begun {
         Begun {
             txn_id,
             is_discharged: false,
+            is_rolled_back: false,
             rollback_on_drop_trials: DEFAULT_ROLLBACK_ON_DROP_TRIALS,
         }
     }
@@ -53,14 +57,14 @@ impl Begun {
         controller.discharge(rt, &self.txn_id, fail)
     }
 
-    /// Polls a discharge, and marks the value where it was accepted.
+    /// Polls a discharge, and marks the value where it was accepted, or answered by a rollback.
     pub(crate) fn poll_discharge<L: SenderLink, R: Wait>(
         &mut self,
         rt: &R,
         controller: &Controller<L>,
         waiting: DischargeOnLink,
     ) -> Progress<DischargeOnLink, Result<(), ControllerSendError>>
-        ensures polls { PollsDischarge self.old self.new waiting result }
+        ensures polls { PollsDischarge is_rollback self.old self.new waiting result }
         ensures looks { IfUndischarged self.old (PollsUnder L.outcome_gives L.told waiting
             result) }
     {
@@ -73,11 +77,16 @@ impl Begun {
                 self.is_discharged = true;
                 Progress::Ready(Ok(()))
             }
-            Progress::Ready(Err(error)) => Progress::Ready(Err(error)),
+            Progress::Ready(Err(error)) => {
+                if error.is_rollback() {
+                    self.is_rolled_back = true;
+                }
+                Progress::Ready(Err(error))
+            }
         }
     }
 
-    /// Rolls back, unless it was discharged or there are no trials.
+    /// Rolls back, unless it was discharged or rolled back before, or there are no trials.
     pub(crate) fn abandon<L: SenderLink, R: Wait>(
         &self,
         rt: &R,
@@ -89,6 +98,9 @@ impl Begun {
     {
         if self.is_discharged {
             return Abandoned::Discharged;
+        }
+        if self.is_rolled_back {
+            return Abandoned::RolledBack;
         }
         if self.rollback_on_drop_trials == 0 {
             return Abandoned::Skipped;

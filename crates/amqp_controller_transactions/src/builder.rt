@@ -101,48 +101,40 @@ impl Controller<WireSender> {
 
 impl ControllerBuilder {
     /// Sets the link's name.
-    pub fn name(self, name: Text) -> Self
+    pub fn name(mut self, name: Text) -> Self
         ensures { result ≡ record self { name = name } }
     {
-        ControllerBuilder {
-            name,
-            coordinator: self.coordinator,
-            sender_settle_mode: self.sender_settle_mode,
-            alloc: self.alloc,
-        }
+        self.name = name;
+        self
     }
 
     /// Sets the coordinator that the attach names. Part 4 of the standard, section 4.5.1.
-    pub fn coordinator(self, coordinator: Coordinator) -> Self
+    pub fn coordinator(mut self, coordinator: Coordinator) -> Self
         ensures { result ≡ record self { coordinator = coordinator } }
     {
-        ControllerBuilder {
-            name: self.name,
-            coordinator,
-            sender_settle_mode: self.sender_settle_mode,
-            alloc: self.alloc,
-        }
+        self.coordinator = coordinator;
+        self
     }
 
     /// Sets when the link's sender settles, as its attach says. Control messages are sent unsettled
     /// whatever it says.
-    pub fn sender_settle_mode(self, sender_settle_mode: SenderSettleMode) -> Self
+    pub fn sender_settle_mode(mut self, sender_settle_mode: SenderSettleMode) -> Self
         ensures { result ≡ record self { sender_settle_mode = sender_settle_mode } }
     {
-        ControllerBuilder {
-            name: self.name,
-            coordinator: self.coordinator,
-            sender_settle_mode,
-            alloc: self.alloc,
-        }
+        self.sender_settle_mode = sender_settle_mode;
+        self
     }
 
     /// Gives the link an output handle on the session, and the attach that is to be sent, which the
     /// session let pass. Part 2 of the standard, section 2.6.3 (establishing a link).
     ///
-    /// Errors: `Alloc` with what the session's allocation answered, `Session` with what its check
-    /// of the attach answered, and the handle is freed again then; `NoMemory` also where there is
-    /// none for the copies of the name, and the session isn't asked then.
+    /// # Errors
+    ///
+    /// - `Alloc`: with what the session's allocation answered. A session that stopped answers
+    ///   `SessionStopped` there.
+    /// - `Session`: with what the session's check of the attach answered; the handle is freed again.
+    /// - `NoMemory`: the session answered it, or memory runs out for the copies of the name; the
+    ///   session isn't asked then.
     pub fn attach<S: Session>(
         self,
         session: &mut S,
@@ -210,24 +202,9 @@ fn attach_of(wanted: ControllerBuilder, output: OutputHandle) -> Attach
         sender_settle_mode,
         alloc: _,
     } = wanted;
-    Attach {
-        name,
-        handle: Handle(output.0),
-        role: Role::Sender,
-        snd_settle_mode: sender_settle_mode,
-        rcv_settle_mode: ReceiverSettleMode::First,
-        source: Some(Source {
-            address: None,
-            dynamic: false,
-            dynamic_node_properties: None,
-            outcomes: None,
-            capabilities: None,
-        }),
-        target: Some(TargetArchetype::Coordinator(coordinator)),
-        initial_delivery_count: Some(0),
-        max_message_size: None,
-        offered_capabilities: None,
-        desired_capabilities: None,
-        properties: None,
-    }
+    Attach::new(name, Handle(output.0), Role::Sender)
+        .snd_settle_mode(sender_settle_mode)
+        .source(Source::default())
+        .target(TargetArchetype::Coordinator(coordinator))
+        .initial_delivery_count(0)
 }

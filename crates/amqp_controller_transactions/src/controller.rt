@@ -36,6 +36,10 @@ impl<L: SenderLink> Controller<L> {
     }
 
     /// Takes the lock and lends the link, so that its owner can read and answer it.
+    ///
+    /// Each call of a transaction over this controller takes the same lock: one that is made while
+    /// the guard lives waits for ever. Drop the guard first, and bind what is read of it by a `let`,
+    /// since a `match` on a call of the guard keeps it to its end.
     pub fn link<R: Wait>(&self, rt: &R) -> MutexGuard<'_, L> {
         self.link.lock(rt)
     }
@@ -118,7 +122,9 @@ impl<L: SenderLink + Drop> Controller<L> {
     /// Closes the control link. Part 2 of the standard, section 2.6.6 (closing a link). The
     /// coordinator rolls back what wasn't discharged.
     ///
-    /// An error is the link's, with the controller handed back as it was.
+    /// # Errors
+    ///
+    /// The link's, with the controller handed back as it was.
     pub fn close<R: Wait>(self, rt: &R) -> Result<(), (Self, DetachError)>
         ensures { ClosesUnder L.close_gives L.told None (error_of result) }
     {
@@ -129,6 +135,10 @@ impl<L: SenderLink + Drop> Controller<L> {
     }
 
     /// Closes the control link with an error, as [`Controller::close`] does without one.
+    ///
+    /// # Errors
+    ///
+    /// The link's, with the controller handed back as it was.
     pub fn close_with_error<R: Wait>(self, rt: &R, error: Error) -> Result<(), (Self, DetachError)>
         ensures { ClosesUnder L.close_gives L.told (Some error) (error_of result) }
     {

@@ -20,9 +20,9 @@ use std::sync::Wait;
 /// ```
 pub trait TransactionDischarge: Sized {
     ghost use Rattle.std.specs.Prelude.{Bool, Result};
-    ghost use Rattle.amqp_links.specs.declared.progress.Progress.{Progress as Polled};
-    ghost use Rattle.amqp_controller_calls.specs.declared.abandoning.Abandoned.{Abandoned as End};
-    ghost use Rattle.amqp_controller_transactions.specs.declared.begun.Begun.{Begun as Seen};
+    ghost use Rattle.amqp_links.specs.declared.progress.Progress.{Progress};
+    ghost use Rattle.amqp_controller_calls.specs.declared.abandoning.Abandoned.{Abandoned};
+    ghost use Rattle.amqp_controller_transactions.specs.declared.begun.Begun.{Begun};
 
     /// Why it isn't discharged.
     type Error: Drop;
@@ -31,19 +31,22 @@ pub trait TransactionDischarge: Sized {
     type Waiting: Drop;
 
     /// What the owner sees of it.
-    ghost begun: { Self → Seen };
+    ghost begun: { Self → Begun };
 
     /// Whether the error is that of a `spend`.
     ghost of_spend: { Self.Error → Bool };
 
+    /// Whether the error says that the coordinator rolled it back.
+    ghost is_rollback: { Self.Error → Bool };
+
     /// What its control link answers to a discharge, by whether that is a rollback.
-    ghost discharge_gives: { Seen → Bool → Result Self.Waiting Self.Error → Type 0 };
+    ghost discharge_gives: { Begun → Bool → Result Self.Waiting Self.Error → Type 0 };
 
     /// What its control link answers to a poll of a discharge.
-    ghost poll_gives: { Self.Waiting → Polled Self.Waiting (Result Unit Self.Error) → Type 0 };
+    ghost poll_gives: { Self.Waiting → Progress Self.Waiting (Result Unit Self.Error) → Type 0 };
 
     /// What its control link answers where it is given up with a rollback.
-    ghost abandon_gives: { Seen → End → Type 0 };
+    ghost abandon_gives: { Begun → Abandoned → Type 0 };
 
     /// What its control link answers where it is let go.
     ghost spend_gives: { Result Unit Self.Error → Type 0 };
@@ -54,6 +57,10 @@ pub trait TransactionDischarge: Sized {
 
     /// Puts one discharge: a rollback where `fail` is true, else a commit. Where it was discharged
     /// before it puts nothing.
+    ///
+    /// # Errors
+    ///
+    /// Why the discharge isn't put.
     fn discharge<R: Wait>(&mut self, rt: &R, fail: bool) -> Result<Self::Waiting, Self::Error>
         ensures asks { AsksToDischarge (begun self.old) (begun self.new) result }
         ensures gives { IfUndischarged (begun self.old)
@@ -61,13 +68,15 @@ pub trait TransactionDischarge: Sized {
         ensures cause { IfErr result (λ error. of_spend error ≡ false) };
 
     /// Looks once for the outcome of a discharge of this value. Where it was discharged before it
-    /// looks at nothing and is `Ready(Ok)`.
+    /// looks at nothing and is `Ready(Ok)`. An error leaves it undischarged, so that it can be
+    /// discharged again; one that says that the coordinator rolled it back marks it so.
     fn poll_discharge<R: Wait>(
         &mut self,
         rt: &R,
         waiting: Self::Waiting,
     ) -> Progress<Self::Waiting, Result<(), Self::Error>>
-        ensures polls { PollsDischarge (begun self.old) (begun self.new) waiting result }
+        ensures polls { PollsDischarge is_rollback (begun self.old) (begun self.new)
+            waiting result }
         ensures gives { IfUndischarged (begun self.old) (poll_gives waiting result) }
         ensures cause { OnPolledErr result (λ error. of_spend error ≡ false) };
 
@@ -83,14 +92,18 @@ pub trait TransactionDischarge: Sized {
         ensures cause { IfErr result (λ refused. of_spend refused.1 ≡ true) };
 
     /// Gives it up: see [`abandon_on_link`](amqp_controller_calls::abandon_on_link). `Discharged`
-    /// exactly where it was discharged, else `Skipped` exactly where its trials are 0; nothing is
-    /// put in both cases.
+    /// exactly where it was discharged, else `RolledBack` exactly where a poll of its discharge
+    /// read that the coordinator rolled it back, else `Skipped` exactly where its trials are 0;
+    /// nothing is put in these cases.
     fn abandon<R: Wait>(self, rt: &R) -> Abandoned
         ensures given { GivesUp (begun self) result }
         ensures gives { IfTried (begun self) (abandon_gives (begun self) result) };
 
-    /// Asks for a commit: puts one discharge, whose `fail` is false. An error hands the value back
-    /// as it was.
+    /// Asks for a commit: puts one discharge, whose `fail` is false.
+    ///
+    /// # Errors
+    ///
+    /// Why the discharge isn't put, with the value handed back as it was.
     final fn commit<R: Wait>(self, rt: &R) -> Result<Discharging<Self>, (Self, Self::Error)>
         ensures wait { IfOk result (λ wait. begun (value_of wait) ≡ begun self) }
         ensures back { IfErr result (λ refused. begun refused.0 ≡ begun self) }
@@ -102,8 +115,11 @@ pub trait TransactionDischarge: Sized {
         begin_discharge(self, rt, false)
     }
 
-    /// Asks for a rollback: puts one discharge, whose `fail` is true. An error hands the value back
-    /// as it was.
+    /// Asks for a rollback: puts one discharge, whose `fail` is true.
+    ///
+    /// # Errors
+    ///
+    /// Why the discharge isn't put, with the value handed back as it was.
     final fn rollback<R: Wait>(self, rt: &R) -> Result<Discharging<Self>, (Self, Self::Error)>
         ensures wait { IfOk result (λ wait. begun (value_of wait) ≡ begun self) }
         ensures back { IfErr result (λ refused. begun refused.0 ≡ begun self) }

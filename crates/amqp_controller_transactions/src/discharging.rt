@@ -40,10 +40,13 @@ impl<T: TransactionDischarge> Discharging<T> {
 
     /// Looks once for the outcome, and lets the transaction go once it was discharged.
     ///
-    /// An error hands the transaction back: discharged, where it couldn't be let go, else as it
-    /// was. Where it was discharged before, only the first of these comes, and it isn't `Pending`.
+    /// # Errors
+    ///
+    /// Each hands the transaction back: discharged, where it couldn't be let go, else as it
+    /// was but for the mark of a rollback that was read. Where it was discharged before, only the first of these comes, and it isn't `Pending`.
     pub fn poll<R: Wait>(self, rt: &R) -> Progress<Discharging<T>, Result<(), (T, T::Error)>>
-        ensures ends { PollsToEnd T.begun value_of T.of_spend (T.begun (value_of self)) result }
+        ensures ends { PollsToEnd T.begun value_of T.of_spend T.is_rollback
+            (T.begun (value_of self)) result }
         ensures waits { WaitsOn waiting_of (waiting_of self) result }
         ensures finds { IfUndischarged (T.begun (value_of self))
             (FindsEnd waiting_of T.of_spend (T.poll_gives (waiting_of self)) result) }

@@ -60,7 +60,9 @@ impl OwnedTransaction<WireSender> {
     /// capabilities: the attach is to be sent, and the declare is put by the poll that finds the
     /// link attached.
     ///
-    /// Errors: `AttachError` with those of [`Controller::attach`].
+    /// # Errors
+    ///
+    /// `AttachError` with those of [`Controller::attach`].
     pub fn declare<S: Session>(
         alloc: Global,
         session: &mut S,
@@ -105,9 +107,13 @@ impl OwnedDeclaring {
     /// declare. The poll that finds the link attached puts the declare, and is pending unless that
     /// is refused.
     ///
-    /// Errors: `AttachError` with `SessionStopped` where the session stopped before the link was
-    /// attached, or `NoMemory` for the copy of its reason; else `ControllerSendError` with those of
-    /// the declare. The controller is handed back exactly where the link was attached.
+    /// # Errors
+    ///
+    /// The controller is handed back exactly where the link was attached.
+    ///
+    /// - `AttachError`: with `SessionStopped` where the session stopped before the link was
+    ///   attached, or with `NoMemory` where memory runs out for the copy of its reason.
+    /// - `ControllerSendError`: with those of the declare.
     pub fn poll<S: Session, R: Wait>(self, rt: &R, session: &mut S) -> DeclareProgress
         ensures answer { PollsOwned ⟦<WireSender as SenderLink>⟧.send_gives
             ⟦<WireSender as SenderLink>⟧.outcome_gives ⟦<WireSender as SenderLink>⟧.told
@@ -145,7 +151,7 @@ fn put_declare<R: Wait>(
             let awaited = Awaited::Declare(declaring);
             Progress::Pending(OwnedDeclaring { awaited })
         }
-        Err((controller, error)) => undeclared(controller, error),
+        Err((controller, error)) => fail_declare(controller, error),
     }
 }
 
@@ -161,12 +167,12 @@ fn poll_declare<R: Wait>(rt: &R, declaring: OwnedDeclaringOn<WireSender>) -> Dec
             Progress::Pending(OwnedDeclaring { awaited })
         }
         Progress::Ready(Ok(transaction)) => Progress::Ready(Ok(transaction)),
-        Progress::Ready(Err((controller, error))) => undeclared(controller, error),
+        Progress::Ready(Err((controller, error))) => fail_declare(controller, error),
     }
 }
 
 /// A declare that failed, with the controller of its link handed back.
-fn undeclared(controller: Controller<WireSender>, error: ControllerSendError) -> DeclareProgress
+fn fail_declare(controller: Controller<WireSender>, error: ControllerSendError) -> DeclareProgress
     ensures { result ≡ waits.Ready (Err (Some controller, declares.ControllerSendError error)) }
 {
     let error = OwnedDeclareError::ControllerSendError(error);

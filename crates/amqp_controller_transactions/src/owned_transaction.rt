@@ -4,7 +4,7 @@ ghost use Rattle.std.specs.Prelude.{◌≡◌};
 ghost use Rattle.amqp_controller_transactions.specs.Begun.{with_trials};
 ghost use Rattle.amqp_controller_transactions.specs.Declaring.{PollsToBegin};
 ghost use Rattle.amqp_controller_transactions.specs.Locked.{GivesUpUnder, SendsUnder, declare_of};
-ghost use Rattle.amqp_controller_transactions.specs.Owned.{ClosesAtEnd, OwnedDischarges, OwnedPolls, is_close_error, owned_begun, owned_declare_sent, owned_sent};
+ghost use Rattle.amqp_controller_transactions.specs.Owned.{ClosesAtEnd, OwnedDischarges, OwnedPolls, is_close_error, is_owned_rollback, owned_begun, owned_declare_sent, owned_sent};
 
 use crate::begun::Begun;
 use crate::controller::Controller;
@@ -32,8 +32,10 @@ impl<L: SenderLink> OwnedTransaction<L> {
     /// Asks the coordinator of the link for a transaction: puts one declare. Part 4 of the
     /// standard, section 4.2 (declaring a transaction).
     ///
-    /// An error is that of [`declare_on_link`](amqp_controller_calls::declare_on_link), with the
-    /// controller handed back as it was.
+    /// # Errors
+    ///
+    /// Those of [`declare_on_link`](amqp_controller_calls::declare_on_link), with the controller
+    /// handed back as it was.
     pub fn declare_with_controller<R: Wait>(
         controller: Controller<L>,
         rt: &R,
@@ -54,6 +56,16 @@ impl<L: SenderLink> OwnedTransaction<L> {
     /// The controller of the transaction's link.
     pub fn controller(&self) -> &Controller<L> {
         &self.controller
+    }
+
+    /// Whether a poll of this value's discharge read that the coordinator rolled the transaction
+    /// back: that it was rejected with the condition `amqp:transaction:rollback`. It isn't
+    /// discharged for that, so a second `commit` puts a discharge again, and an `abandon` puts
+    /// nothing. Part 4 of the standard, section 4.5.8 (transaction error).
+    pub fn is_rolled_back(&self) -> bool
+        ensures { result ≡ (owned_begun self.now).is_rolled_back }
+    {
+        self.begun.is_rolled_back
     }
 
     /// How often an abandon looks for the outcome of its rollback.
@@ -94,6 +106,8 @@ impl<L: SenderLink + Drop> TransactionDischarge for OwnedTransaction<L> {
     ghost begun = { owned_begun };
 
     ghost of_spend = { is_close_error };
+
+    ghost is_rollback = { is_owned_rollback };
 
     ghost discharge_gives = { OwnedDischarges L.send_gives L.told };
 
@@ -165,7 +179,9 @@ impl<L: SenderLink> OwnedDeclaringOn<L> {
     /// Looks once for the outcome of the declare. The transaction isn't discharged, and its trials
     /// are [`DEFAULT_ROLLBACK_ON_DROP_TRIALS`](crate::DEFAULT_ROLLBACK_ON_DROP_TRIALS).
     ///
-    /// An error is that of [`DeclareOnLink::poll`], with the controller handed back.
+    /// # Errors
+    ///
+    /// Those of [`DeclareOnLink::poll`], with the controller handed back.
     pub fn poll<R: Wait>(
         self,
         rt: &R,

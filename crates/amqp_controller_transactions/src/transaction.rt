@@ -1,6 +1,7 @@
 //! Transactions that borrow their controller.
 
 ghost use Rattle.std.specs.Prelude.{◌≡◌, Ok, false, IfOk};
+ghost use Rattle.amqp_controller_calls.specs.Errors.{is_rollback};
 ghost use Rattle.amqp_controller_transactions.specs.Begun.{with_trials};
 ghost use Rattle.amqp_controller_transactions.specs.Declaring.{OnBegun, PollsToBegin};
 ghost use Rattle.amqp_controller_transactions.specs.Locked.{DischargesUnder, GivesUpUnder, PollsUnder, SendsUnder, declare_of};
@@ -30,7 +31,9 @@ impl<'t, L: SenderLink> Transaction<'t, L> {
     /// Asks the coordinator for a transaction: puts one declare. Part 4 of the standard, section
     /// 4.2 (declaring a transaction).
     ///
-    /// Errors are those of [`declare_on_link`](amqp_controller_calls::declare_on_link).
+    /// # Errors
+    ///
+    /// Those of [`declare_on_link`](amqp_controller_calls::declare_on_link).
     pub fn declare<R: Wait>(
         controller: &'t Controller<L>,
         rt: &R,
@@ -54,6 +57,16 @@ impl<'t, L: SenderLink> Transaction<'t, L> {
         ensures { result ≡ controller_of self.now }
     {
         self.controller
+    }
+
+    /// Whether a poll of this value's discharge read that the coordinator rolled the transaction
+    /// back: that it was rejected with the condition `amqp:transaction:rollback`. It isn't
+    /// discharged for that, so a second `commit` puts a discharge again, and an `abandon` puts
+    /// nothing. Part 4 of the standard, section 4.5.8 (transaction error).
+    pub fn is_rolled_back(&self) -> bool
+        ensures { result ≡ (begun_of self.now).is_rolled_back }
+    {
+        self.begun.is_rolled_back
     }
 
     /// How often an abandon looks for the outcome of its rollback.
@@ -94,6 +107,8 @@ impl<L: SenderLink> TransactionDischarge for Transaction<'_, L> {
     ghost begun = { begun_of };
 
     ghost of_spend = { λ _. false };
+
+    ghost is_rollback = { is_rollback };
 
     ghost discharge_gives = { DischargesUnder L.send_gives L.told };
 
@@ -148,7 +163,9 @@ impl<'t, L: SenderLink> Declaring<'t, L> {
     /// Looks once for the outcome of the declare. The transaction isn't discharged, and its trials
     /// are [`DEFAULT_ROLLBACK_ON_DROP_TRIALS`](crate::DEFAULT_ROLLBACK_ON_DROP_TRIALS).
     ///
-    /// Errors are those of [`DeclareOnLink::poll`].
+    /// # Errors
+    ///
+    /// Those of [`DeclareOnLink::poll`].
     pub fn poll<R: Wait>(
         self,
         rt: &R,

@@ -134,8 +134,11 @@ impl Builder {
         self
     }
 
-    /// Adds one thing that this side can do, after the others. Where memory runs out, the only
-    /// error, the builder comes back as it was.
+    /// Adds one thing that this side can do, after the others.
+    ///
+    /// # Errors
+    ///
+    /// `NoMemory` alone, with the builder as it was.
     pub fn add_offered_capabilities(
         mut self,
         alloc: Global,
@@ -152,6 +155,30 @@ impl Builder {
         }
     }
 
+    /// Adds one thing that this side can do, after the others. See
+    /// [`Builder::add_offered_capabilities`], which hands the builder back where memory runs out.
+    ///
+    /// # Errors
+    ///
+    /// `NoMemory` alone, and the builder is dropped.
+    pub fn append_offered_capabilities(
+        mut self,
+        alloc: Global,
+        capability: Symbol,
+    ) -> Result<Self, NoMemory>
+        ensures { IfOk result (λ builder. builder ≡ record self {
+          offered_capabilities = with_symbol self.offered_capabilities capability;
+        }) }
+    {
+        match append(alloc, &mut self.offered_capabilities, capability) {
+            Ok(()) => Ok(self),
+            Err(error) => {
+                drop(self);
+                Err(error)
+            }
+        }
+    }
+
     /// Sets what this side wants the peer to do.
     pub fn set_desired_capabilities(mut self, value: Symbols) -> Self
         ensures { result ≡ record self { desired_capabilities = Some value } }
@@ -160,8 +187,11 @@ impl Builder {
         self
     }
 
-    /// Adds one thing that this side wants the peer to do, after the others. Where memory runs out,
-    /// the only error, the builder comes back as it was.
+    /// Adds one thing that this side wants the peer to do, after the others.
+    ///
+    /// # Errors
+    ///
+    /// `NoMemory` alone, with the builder as it was.
     pub fn add_desired_capabilities(
         mut self,
         alloc: Global,
@@ -175,6 +205,30 @@ impl Builder {
         match append(alloc, &mut self.desired_capabilities, capability) {
             Ok(()) => Ok(self),
             Err(error) => Err((self, error)),
+        }
+    }
+
+    /// Adds one thing that this side wants the peer to do, after the others. See
+    /// [`Builder::add_desired_capabilities`], which hands the builder back where memory runs out.
+    ///
+    /// # Errors
+    ///
+    /// `NoMemory` alone, and the builder is dropped.
+    pub fn append_desired_capabilities(
+        mut self,
+        alloc: Global,
+        capability: Symbol,
+    ) -> Result<Self, NoMemory>
+        ensures { IfOk result (λ builder. builder ≡ record self {
+          desired_capabilities = with_symbol self.desired_capabilities capability;
+        }) }
+    {
+        match append(alloc, &mut self.desired_capabilities, capability) {
+            Ok(()) => Ok(self),
+            Err(error) => {
+                drop(self);
+                Err(error)
+            }
         }
     }
 
@@ -202,6 +256,22 @@ impl Builder {
         self
     }
 
+    /// The begin of the session that is built. It names no channel of the peer's.
+    pub fn into_begin(self) -> Begin
+        ensures { result ≡ begin_built self }
+    {
+        Begin {
+            remote_channel: None,
+            next_outgoing_id: self.next_outgoing_id,
+            incoming_window: self.incoming_window,
+            outgoing_window: self.outgoing_window,
+            handle_max: self.handle_max,
+            offered_capabilities: self.offered_capabilities,
+            desired_capabilities: self.desired_capabilities,
+            properties: self.properties,
+        }
+    }
+
     /// The session that is built, in this state. It makes its lists on `alloc`, and takes no
     /// memory.
     pub fn into_session(
@@ -212,17 +282,7 @@ impl Builder {
     ) -> PlainSession
         ensures { IsNew result channel state (begin_built self) }
     {
-        let begin = Begin {
-            remote_channel: None,
-            next_outgoing_id: self.next_outgoing_id,
-            incoming_window: self.incoming_window,
-            outgoing_window: self.outgoing_window,
-            handle_max: self.handle_max,
-            offered_capabilities: self.offered_capabilities,
-            desired_capabilities: self.desired_capabilities,
-            properties: self.properties,
-        };
-        PlainSession::new(alloc, channel, state, begin)
+        PlainSession::new(alloc, channel, state, self.into_begin())
     }
 
     /// Begins a session of this side on a channel that the connection gives: its begin is to be
@@ -232,9 +292,11 @@ impl Builder {
     ///
     /// No acceptor for control links is set.
     ///
-    /// Errors: `LocalChannelMaxReached` and `ConnectionStopped` exactly where the connection
-    /// answers `ChannelMaxReached` and `ConnectionStopped`; else out of memory alone, after which a
-    /// channel may have been given.
+    /// # Errors
+    ///
+    /// - `LocalChannelMaxReached` exactly where the connection answers `ChannelMaxReached`.
+    /// - `ConnectionStopped` exactly where the connection answers `ConnectionStopped`.
+    /// - Else `NoMemory` alone, after which a channel may have been given.
     pub fn begin<C: ConnectionEnd>(
         self,
         alloc: Global,

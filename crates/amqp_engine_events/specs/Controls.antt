@@ -115,9 +115,9 @@ ControlsLinks told kept names Makes Incoming Drops old new _ result = Unit {0}
 -- the session was asked for an id
 pub record IdAsked {S : Type 0} (told : S → Told)
     (Gives : Result DrawnIds AllocTxnIdError → Type 0) (old new : S)
-    (before after : ℕ → TransactionId) (answer : Result DrawnIds AllocTxnIdError) : Type 0 where
+    (old_ids new_ids : ℕ → TransactionId) (answer : Result DrawnIds AllocTxnIdError) : Type 0 where
   pub checks : Checks (told old) (told new) answer
-  pub drew : Allocates before after answer
+  pub drew : Allocates old_ids new_ids answer
   pub gives : Gives answer
 
 -- the session was asked to commit
@@ -147,10 +147,10 @@ abbrev pub Declares : {S : Type 0} → (S → Told)
     → (S → S → (ℕ → TransactionId) → (ℕ → TransactionId) → Result DrawnIds AllocTxnIdError
     → Type 0)
     → S → S → (ℕ → TransactionId) → (ℕ → TransactionId) → Result Turn SessionInnerError → Type 0
-Declares told Gives old new before after result =
+Declares told Gives old new old_ids new_ids result =
     (answer : Result DrawnIds AllocTxnIdError)
     × (result ≡ Ok (replying (replies.Allocated answer)))
-    × IdAsked told (Gives old new before after) old new before after answer
+    × IdAsked told (Gives old new old_ids new_ids) old new old_ids new_ids answer
 
 -- a commit is asked for, and what the session answered is the reply
 abbrev pub Commits : {S : Type 0} → (S → Told)
@@ -185,19 +185,19 @@ abbrev pub ControlsTransactions : {S : Type 0} → (S → Told)
     → (S → S → TransactionId → Result Accepted TransactionError → Type 0)
     → S → S → (ℕ → TransactionId) → (ℕ → TransactionId)
     → SessionControl → Result Turn SessionInnerError → Type 0
-ControlsTransactions told Allocate Commit Rollback old new before after
+ControlsTransactions told Allocate Commit Rollback old new old_ids new_ids
     controls.AllocateTransactionId result =
-    Declares told Allocate old new before after result
-ControlsTransactions told Allocate Commit Rollback old new before after
+    Declares told Allocate old new old_ids new_ids result
+ControlsTransactions told Allocate Commit Rollback old new old_ids new_ids
     (controls.CommitTransaction id) result =
     Commits told Commit old new id result
-ControlsTransactions told Allocate Commit Rollback old new before after
+ControlsTransactions told Allocate Commit Rollback old new old_ids new_ids
     (controls.RollbackTransaction id) result =
     RollsBack told Rollback old new id rolled_back result
-ControlsTransactions told Allocate Commit Rollback old new before after
+ControlsTransactions told Allocate Commit Rollback old new old_ids new_ids
     (controls.AbortTransaction id) result =
     RollsBack told Rollback old new id aborted result
-ControlsTransactions told Allocate Commit Rollback old new before after _ result = Unit {0}
+ControlsTransactions told Allocate Commit Rollback old new old_ids new_ids _ result = Unit {0}
 
 -- ---- the others
 

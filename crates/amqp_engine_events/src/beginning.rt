@@ -47,9 +47,14 @@ impl<S> ClientBegin<S> {
 impl<S: Session> ClientBegin<S> {
     /// The first frame that comes for the session: the peer's begin makes it ready.
     ///
-    /// Errors, with the session: for a begin that the session refuses, its refusal by name where
-    /// there is one of that name, else `IllegalState`; for an end `RemoteEnded` or
-    /// `RemoteEndedWithError`, and for a link's frame `IllegalState`; neither is given to it.
+    /// # Errors
+    ///
+    /// Each comes with the session.
+    ///
+    /// - For a begin that the session refuses, its refusal by name where there is one of that name,
+    ///   else `IllegalState`.
+    /// - For an end `RemoteEnded` or `RemoteEndedWithError`; it isn't given to the session.
+    /// - For a link's frame `IllegalState`; it isn't given to the session.
     pub fn on_frame(self, frame: SessionFrame) -> Result<SessionEngine<S>, (S, BeginError)>
         ensures { FirstFrame S.told S.kept S.names S.begin_received_gives self
             (record { 0 = frame.channel }) frame.body result }

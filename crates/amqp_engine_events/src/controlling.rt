@@ -26,6 +26,7 @@ pub(crate) fn is_end(control: &SessionControl) -> bool
     matches!(control, SessionControl::End(_))
 }
 
+/// An output handle is asked for a link of this side, and the answer is the reply.
 fn allocate_link<S: Session>(
     alloc: Global,
     session: &mut S,
@@ -40,6 +41,7 @@ fn allocate_link<S: Session>(
     Ok(replying(alloc, ControlReply::Linked(answer)))
 }
 
+/// The same for a link that the peer attached.
 fn allocate_incoming_link<S: Session>(
     alloc: Global,
     session: &mut S,
@@ -55,6 +57,7 @@ fn allocate_incoming_link<S: Session>(
     Ok(replying(alloc, ControlReply::Linked(answer)))
 }
 
+/// An output handle is freed. Nobody waits to hear whether it was in use.
 fn deallocate_link<S: Session>(
     alloc: Global,
     session: &mut S,
@@ -67,6 +70,7 @@ fn deallocate_link<S: Session>(
     Ok(quiet(alloc, Running::Continue))
 }
 
+/// The error that the connection is to be closed with.
 fn closing_error(condition: ConnectionError, text: Option<Text>) -> Error
     ensures { result ≡ closing_error condition text }
 {
@@ -77,6 +81,7 @@ fn closing_error(condition: ConnectionError, text: Option<Text>) -> Error
     }
 }
 
+/// An id is asked for, and the answer is the reply.
 fn allocate_id<S: HandleDeclare, G: IdSource>(
     alloc: Global,
     session: &mut S,
@@ -90,6 +95,7 @@ fn allocate_id<S: HandleDeclare, G: IdSource>(
     Ok(replying(alloc, ControlReply::Allocated(answer)))
 }
 
+/// A commit is asked for, and the answer is the reply; its fault is the error that it carries.
 fn commit<S: HandleDischarge>(
     alloc: Global,
     session: &mut S,
@@ -106,6 +112,7 @@ fn commit<S: HandleDischarge>(
     }
 }
 
+/// A rollback is asked for, and the answer is the reply.
 fn roll_back<S: HandleDischarge>(
     alloc: Global,
     session: &mut S,
@@ -117,6 +124,7 @@ fn roll_back<S: HandleDischarge>(
     Ok(replying(alloc, ControlReply::RolledBack(answer)))
 }
 
+/// A rollback is asked for, whose answer nobody waits for.
 fn abort<S: HandleDischarge>(
     alloc: Global,
     session: &mut S,

@@ -52,8 +52,12 @@ impl<S> Model for SessionEngine<S> {
 }
 
 impl<S> SessionEngine<S> {
-    /// The engine of a session that has begun.
-    pub(crate) fn new(alloc: Global, session: S) -> Self
+    ghost use Rattle.std.specs.Borrow.{Lends, sem};
+    ghost use Rattle.amqp_engine_events.specs.contracts.engine.SessionEngine.{the_row};
+
+    /// The engine of a session in whatever state it is: what the session has still to send, as its
+    /// begin, is its owner's to send. Turns take their memory from `alloc`.
+    pub fn new(alloc: Global, session: S) -> Self
         ensures { result ≡ session }
     {
         SessionEngine { session, alloc }
@@ -65,13 +69,29 @@ impl<S> SessionEngine<S> {
     {
         &self.session
     }
+
+    /// The session, to be changed: links are accepted and attached on it, and its listener is
+    /// closed.
+    ///
+    /// The engine keeps nothing of the session beside it, so each later event is answered by the
+    /// state that it is left in. Frames that its calls give are the caller's to send, before those
+    /// of any later turn. That holds of its end too: once the session has sent it, the engine
+    /// awaits the peer's, and sends none.
+    pub fn session_mut(&mut self) -> &mut S
+        ensures* writes_back { sem 𝓛 (Lends (the_row S.row) S.row self.entry result (λ w. w)) }
+        ensures value { result.now ≡ self.old }
+    {
+        &mut self.session
+    }
 }
 
 impl<S: Session> SessionEngine<S> {
     /// Begins a session of this side: its begin is to be sent, and the peer's is awaited. It takes
     /// no memory of its own; later turns take it from `alloc`.
     ///
-    /// Errors: the session's refusal to send a begin, with the session.
+    /// # Errors
+    ///
+    /// The session's refusal to send a begin, with the session.
     pub fn begin_client_session(
         alloc: Global,
         session: S,
@@ -93,10 +113,13 @@ impl<S: Session> SessionEngine<S> {
     /// `Mapped` is given to it, keeps why the session stopped, and is answered with an end without
     /// an error; one that is awaited is given to it. Either is the session's last turn.
     ///
-    /// Errors: `IllegalState` for an end in any other state; what the session refused; `NoMemory`
-    /// where the reason why the connection stopped can't be copied, which leaves the session as it
-    /// was: the end has to be given again, or the session dropped. Where the session refuses to
-    /// send its end, the peer's end has been taken and the reason is kept.
+    /// # Errors
+    ///
+    /// - `IllegalState` for an end in any other state.
+    /// - What the session refused. Where it refuses to send its end, the peer's end has been taken
+    ///   and the reason is kept.
+    /// - `NoMemory` where the reason why the connection stopped can't be copied, which leaves the
+    ///   session as it was: the end has to be given again, or the session dropped.
     pub fn on_incoming(&mut self, frame: SessionFrame) -> Result<Turn, SessionInnerError>
         ensures link { OnLink frame.body (λ link.
             MatchBool (awaits_end (S.told self.old).fixed.state)
@@ -127,8 +150,12 @@ impl<S: Session> SessionEngine<S> {
     /// A frame that a link of the session sends: it is to be sent as the session's outgoing call of
     /// that frame leaves it, a link's flow as the flow that the session makes of it.
     ///
-    /// Errors: `IllegalState` where the state isn't `Mapped`; what the session refused; `NoMemory`
-    /// for want of room for the frame, which is made before the session is asked.
+    /// # Errors
+    ///
+    /// - `IllegalState` where the state isn't `Mapped`.
+    /// - What the session refused.
+    /// - `NoMemory` where there is no room for the frame, which is made before the session is
+    ///   asked.
     pub fn on_outgoing_link_frames(&mut self, frame: LinkFrame) -> Result<Turn, SessionInnerError>
         ensures sends { MatchBool (is_mapped (S.told self.old).fixed.state)
             (OrNoMemory self.old self.new (SendsLink S.told S.kept S.names S.outgoing_attach_gives
@@ -157,9 +184,13 @@ impl<S: Session> SessionEngine<S> {
     /// | `NoMemory` | `amqp:internal-error` | |
     /// | `RemoteEnded`, `RemoteEndedWithError` | no error | |
     ///
-    /// Errors: `ConnectionStopped` where that is the fault, and nothing is sent then; what the
-    /// session refused; `NoMemory` where memory runs out for the text or for the copy of the
-    /// connection's reason. The first and the last leave the session as it was.
+    /// # Errors
+    ///
+    /// - `ConnectionStopped` where that is the fault: nothing is sent then, and the session is as
+    ///   it was.
+    /// - What the session refused.
+    /// - `NoMemory` where memory runs out for the text or for the copy of the connection's reason,
+    ///   which leaves the session as it was.
     pub fn on_error(&mut self, kind: &SessionInnerError) -> Result<Turn, SessionInnerError>
         ensures ends { EndsFor self.old self.new (λ answer. EndsSession S.told S.kept S.names
             S.end_sent_gives self.old self.new (error_of_fault kind.now) answer) kind.now result }
@@ -171,7 +202,9 @@ impl<S: Session> SessionEngine<S> {
 
     /// Ends the session: its end is sent where it still owes one.
     ///
-    /// Errors: what the session refused.
+    /// # Errors
+    ///
+    /// What the session refused.
     pub fn end_session(&mut self, error: Option<Error>) -> Result<Turn, SessionInnerError>
         ensures ends { EndsSession S.told S.kept S.names S.end_sent_gives self.old self.new error
             result }
@@ -183,9 +216,12 @@ impl<S: Session> SessionEngine<S> {
 
     /// The session, once its engine has done its work: the reason that the outcome tells is kept,
     /// where none is; else the session stays as it is. The outcome is answered, but that the
-    /// connection stopped is no fault of the session: that is answered Ok. Where no reason was
-    /// kept, the error of a `RemoteEndedWithError` is in the reason and in the answer; where it
-    /// can't be copied, the answer is `NoMemory`.
+    /// connection stopped is no fault of the session: that is answered Ok.
+    ///
+    /// # Errors
+    ///
+    /// That of the outcome. Where no reason was kept, the error of a `RemoteEndedWithError` is in
+    /// the reason and in the answer; where it can't be copied, the answer is `NoMemory`.
     pub fn finish(
         self,
         outcome: Result<(), SessionInnerError>,
@@ -214,7 +250,9 @@ impl<S: ListenerSessionEndpoint> SessionEngine<S> {
     /// Begins a session of a listener: its begin is to be sent, and it is ready where the peer's
     /// had come. It takes no memory of its own; later turns take it from `alloc`.
     ///
-    /// Errors: the session's refusal to send a begin, with the session.
+    /// # Errors
+    ///
+    /// The session's refusal to send a begin, with the session.
     pub fn begin_listener_session(
         alloc: Global,
         session: S,
@@ -234,10 +272,12 @@ impl<S: Session + HandleDeclare + HandleDischarge> SessionEngine<S> {
     /// What is asked of the session: each control by the session's call of that name, whose answer
     /// is the reply. An end keeps why the session stops, and ends it.
     ///
-    /// Errors: `IllegalState` where the state isn't `Mapped`, for every control but an end; what
-    /// the session refused, for an end, a disposition and a commit; `NoMemory` where memory runs
-    /// out for the reason of an end and of room for a disposition, which are made before the
-    /// session is asked.
+    /// # Errors
+    ///
+    /// - `IllegalState` where the state isn't `Mapped`, for every control but an end.
+    /// - What the session refused, for an end, a disposition and a commit.
+    /// - `NoMemory` where memory runs out for the reason of an end or the room for a disposition,
+    ///   which are made before the session is asked.
     pub fn on_control<G: IdSource>(
         &mut self,
         control: SessionControl,

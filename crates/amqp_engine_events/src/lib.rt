@@ -8,16 +8,28 @@
 //! | [`SessionControl`], [`ConnectionControl`] | what is asked of a session and of a connection |
 //! | [`Turn`], [`Running`], [`ControlReply`] | what an event is answered: frames and a reply |
 //!
+//! A session of this side begins by [`SessionEngine::begin_client_session`], and is run by its
+//! engine once the peer's begin has come. For each frame that comes then:
+//!
 //! ```text
-//! let (begun, begin) = SessionEngine::begin_client_session(alloc, session)?; // send the begin
-//! let mut engine = begun.on_frame(frame)?; // the peer's begin
-//! let turn = match engine.on_incoming(frame) {
-//!     Ok(turn) => turn,
-//!     Err(fault) => engine.on_error(&fault)?,
-//! };
-//! // send turn.sent, then turn.ended; after `Running::Stop`:
-//! let (session, outcome) = engine.finish(Ok(()));
+//! fn take<S: Session>(
+//!     engine: &mut SessionEngine<S>,
+//!     frame: SessionFrame,
+//! ) -> Result<Turn, SessionInnerError> {
+//!     match engine.on_incoming(frame) {
+//!         Ok(turn) => Ok(turn), // send turn.sent, then turn.ended
+//!         Err(fault) => {
+//!             let turn = engine.on_error(&fault); // the same, or nothing more can be sent
+//!             drop(fault);
+//!             turn
+//!         }
+//!     }
+//! }
 //! ```
+//!
+//! After `Running::Stop` the session is taken out by [`SessionEngine::finish`]. Until then it is lent
+//! by [`SessionEngine::session_mut`], so that a peer's links are accepted on it and a controller is
+//! attached to it.
 //!
 //! The states of a session (part 2 of the standard, section 2.5.5), and the calls that move it:
 //!
@@ -48,9 +60,9 @@
 //! stop is kept, of the session and of its connection.
 //!
 //! Contracts say of each event which of the session's own calls was made and what it answered, by
-//! the relations of its traits, over any session. Below stand the sessions of `amqp_below_sessions`,
-//! `take_frame` of `amqp_below_layer` and the ends of `amqp_below_connections`. The promise that this crate
-//! carries: a session is run by the table of its events. 'The standard' is OASIS AMQP 1.0.
+//! the relations of its traits, over any session. Below stand the sessions of `amqp_below_sessions`
+//! and `take_frame` of `amqp_below_layer`. The promise that this crate carries: a session is run by
+//! the table of its events. 'The standard' is OASIS AMQP 1.0.
 #![tactic(auto)]
 
 mod beginning;

@@ -2,7 +2,7 @@
 
 ghost use Rattle.std.specs.Prelude.{◌≡◌, ◌<◌, [], false, vec_capacity, vec_len};
 ghost use Rattle.amqp_txn_types.specs.declared.performatives.Frame.TheVariants as frames;
-ghost use Rattle.amqp_txn_types.specs.declared.performatives.Transfer.{Transfer as Numbered};
+ghost use Rattle.amqp_txn_types.specs.declared.performatives.Transfer.{Transfer};
 ghost use Rattle.amqp_txn_types.specs.Counts.{Rose};
 ghost use Rattle.amqp_engine_events.specs.Asking.{OrNoMemory};
 ghost use Rattle.amqp_engine_events.specs.Turns.{CausedBy};
@@ -82,7 +82,7 @@ fn pass_transfer<S: Session>(
 ) -> Result<Turn, SessionInnerError>
     requires empty { room.items ≡ [] }
     requires room { vec_len room < vec_capacity room }
-    ensures passes { ((numbered : Numbered) × Passes S.told S.kept S.names
+    ensures passes { ((numbered : Transfer) × Passes S.told S.kept S.names
         (S.outgoing_transfer_gives session.old session.new input transfer numbered is_first)
         session.old session.new (frames.Transfer numbered payload) result) }
     ensures cause { CausedBy false (Rose (S.told session.old).refusals

@@ -117,6 +117,31 @@ fn desired_capabilities_are_added(rt: HostRuntime) {
     assert!(rt; builder.offered_capabilities.is_none());
 }
 
+/// A builder with one thing that this side can do, and one that it wants the peer to do.
+fn appended(alloc: Global) -> Option<Builder> {
+    let offered = symbol(alloc, "a")?;
+    let desired = symbol(alloc, "b")?;
+    let builder = Builder::new()
+        .append_offered_capabilities(alloc, offered)
+        .ok()?;
+    builder.append_desired_capabilities(alloc, desired).ok()
+}
+
+/// A list of one symbol.
+fn only(alloc: Global, text: &str) -> Option<Symbols> {
+    let mut symbols = Symbols::new(alloc);
+    symbols.append(symbol(alloc, text)?).ok()?;
+    Some(symbols)
+}
+
+#[test]
+fn capabilities_are_appended(rt: HostRuntime) {
+    let alloc = rt.alloc();
+    let builder = appended(alloc).expect(&rt, "memory");
+    assert!(rt; builder.offered_capabilities == only(alloc, "a"));
+    assert!(rt; builder.desired_capabilities == only(alloc, "b"));
+}
+
 #[test]
 fn a_session_is_built(rt: HostRuntime) {
     let builder = Builder::new();

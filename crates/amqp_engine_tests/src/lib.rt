@@ -6,6 +6,8 @@ mod builder_tests;
 #[cfg(test)]
 mod control_tests;
 #[cfg(test)]
+mod controller_tests;
+#[cfg(test)]
 mod engine_tests;
 #[cfg(test)]
 mod test_values;

@@ -11,6 +11,7 @@ use Rattle.amqp_links.specs.declared.errors.DetachError.{DetachError}
 use Rattle.amqp_links.specs.declared.errors.DetachError.TheVariants as detach_errors
 use Rattle.amqp_links.specs.declared.errors.LinkStateError.TheVariants as link_errors
 use Rattle.amqp_links.specs.declared.errors.SendError.{SendError}
+use Rattle.amqp_links.specs.declared.errors.SendError.TheVariants as send_errors
 use Rattle.amqp_links.specs.declared.messages.SentMessage.{SentMessage}
 use Rattle.amqp_links.specs.declared.poll.Poll.{Poll}
 use Rattle.amqp_links.specs.declared.sendable.Sendable.{Sendable}
@@ -72,6 +73,14 @@ abbrev pub after_send : SenderWire → Sendable → Option DeliveryState → Boo
     → SenderWire
 after_send wire sendable state batchable result =
     record (with_send wire sendable state batchable result) { calls = after_call wire.calls result }
+
+-- a send on a wire: it fails where it is to, and is put where it is Ok
+abbrev pub SendsOnWire : SenderWire → SenderWire → Sendable → Option DeliveryState → Bool
+    → Result Sent SendError → Type 0
+SendsOnWire old new sendable state batchable result =
+    FailsAsListed (is_failing old.calls) (send_errors.LinkStateError link_errors.IllegalState)
+    send_errors.NoMemory result
+    × (new ≡ after_send old sendable state batchable result)
 
 -- the slot of a number becomes another, where there is one
 abbrev pub with_slot : List AnswerSlot → ℕ → Option AnswerSlot → List AnswerSlot

@@ -8,7 +8,7 @@ ghost use Rattle.amqp_links.specs.Answers.{answer_in, is_awaited};
 ghost use Rattle.amqp_txn_types.specs.Calls.{is_failing};
 ghost use Rattle.amqp_links.specs.Calls.{FailsAsListed};
 ghost use Rattle.amqp_links.specs.Sending.{Sends, Looks, Closes as ClosesLink, sent_after};
-ghost use Rattle.amqp_links.specs.SenderWire.{SenderWire, sender_tells, after_send, after_close, answered, filled_at, given_at, looked, with_failing, with_message, ClosesOnWire};
+ghost use Rattle.amqp_links.specs.SenderWire.{SenderWire, sender_tells, after_send, after_close, answered, filled_at, given_at, looked, with_failing, with_message, ClosesOnWire, SendsOnWire};
 
 use crate::answer_slot::AnswerSlot;
 use crate::errors::{DetachError, LinkStateError, SendError};
@@ -184,8 +184,7 @@ fn give_at(answers: &mut Items<AnswerSlot>, token: Token) -> Option<Answer>
 impl SenderLink for WireSender {
     ghost told = { sender_tells };
 
-    ghost send_gives = { λ old new sendable state batchable result.
-        new ≡ after_send old sendable state batchable result };
+    ghost send_gives = { SendsOnWire };
 
     ghost outcome_gives = { λ old new token result. new ≡ looked old token result };
 

@@ -3,7 +3,6 @@ use Rattle.std.specs.Prelude.{◌≡◌, false, Option, Some, None, Result, Ok, 
 use Rattle.amqp_txn_types.specs.declared.performatives.Begin.{Begin}
 use Rattle.amqp_txn_types.specs.declared.small.InputHandle.{InputHandle}
 use Rattle.amqp_txn_types.specs.declared.small.OutgoingChannel.{OutgoingChannel}
-use Rattle.amqp_txn_types.specs.declared.small.SessionState.{SessionState}
 use Rattle.amqp_txn_types.specs.declared.small.SessionState.TheVariants as states
 use Rattle.amqp_below_sessions.specs.declared.plain_session.PlainSession.{PlainSession}
 use Rattle.amqp_below_sessions.specs.declared.session_errors.BeginError.{BeginError}
@@ -17,20 +16,21 @@ use Rattle.amqp_accept_links.specs.Receivers.{IsDefaultReceiver}
 use Rattle.amqp_accept_listener.specs.declared.listener.ListenerSession.{ListenerSession}
 use Rattle.amqp_accept_listener.specs.Listening.{control_of, held_of, inner_of, own_of, queue_of}
 use Rattle.amqp_resource_session.specs.declared.session.TxnSession.{TxnSession}
-use Rattle.amqp_resource_session.specs.Session.{FitsTogether, StandsFor, below_of, refusals_of as own_refusals_of, stop_of as code_of, vetoes_of as own_vetoes_of}
+use Rattle.amqp_resource_session.specs.Session.{FitsTogether, StandsFor, below_of, owed_of, refusals_of as own_refusals_of, stop_of as code_of, vetoes_of as own_vetoes_of}
 use Rattle.amqp_engine_builder.specs.declared.builder.Builder.{Builder}
 use Rattle.amqp_engine_builder.specs.Builders.{begin_built}
 use Rattle.amqp_resource_accepted.specs.declared.accepted.AcceptedSession.{AcceptedSession}
 use Rattle.amqp_resource_accepted.specs.declared.accepted.AcceptedSession.TheVariants as accepteds
+use Rattle.amqp_resource_accepted.specs.declared.accepted.Parts.{Parts}
 
--- a session with a builder's fields that the peer's begin came to, and nothing else
-pub record HasBegun (session : PlainSession) (state : SessionState) (builder : Builder)
-    (begun : IncomingSession) (channel : OutgoingChannel) : Type 0 where
-  pub in_state : state_of session ≡ state
+-- a session with this begin that the peer's begin came to, and nothing else
+pub record HasBegun (session : PlainSession) (begin : Begin) (begun : IncomingSession)
+    (channel : OutgoingChannel) : Type 0 where
+  pub in_state : state_of session ≡ states.Mapped
   pub on_channel : channel_of session ≡ channel
-  pub with_begin : begin_of session ≡ begin_built builder
+  pub with_begin : begin_of session ≡ begin
   pub incoming : incoming_of session ≡ Some (record { 0 = begun.channel })
-  pub numbers : numbers_of session ≡ after_begin (at_first (begin_built builder)) begun.begin
+  pub numbers : numbers_of session ≡ after_begin (at_first begin) begun.begin
   pub slots : slots_of session ≡ []
   pub next : (links_of session).next ≡ 0
   pub untold : untold_of session ≡ 0
@@ -45,9 +45,9 @@ IsDefaultControl control = (control.shared ≡ default_shared) × IsDefaultRecei
 
 -- a listener over such a session, with an open queue in which no attach waits
 pub record IsListening (Control : ControlLinkAcceptor → Type 0)
-    (listener : ListenerSession PlainSession) (state : SessionState) (builder : Builder)
-    (begun : IncomingSession) (channel : OutgoingChannel) : Type 0 where
-  pub session : HasBegun (inner_of listener) state builder begun channel
+    (listener : ListenerSession PlainSession) (begin : Begin) (begun : IncomingSession)
+    (channel : OutgoingChannel) : Type 0 where
+  pub session : HasBegun (inner_of listener) begin begun channel
   pub control : Control (control_of listener)
   pub queue : queue_of listener ≡ record { waiting = []; closed = false }
   pub held : (input : InputHandle) → held_of listener input ≡ []
@@ -55,33 +55,42 @@ pub record IsListening (Control : ControlLinkAcceptor → Type 0)
 
 -- a transactional session over such a listener, with no live id, no link opened and not stopped
 pub record IsTransacting (Control : ControlLinkAcceptor → Type 0)
-    (session : TxnSession (ListenerSession PlainSession)) (state : SessionState) (builder : Builder)
-    (begun : IncomingSession) (channel : OutgoingChannel) : Type 0 where
-  pub listening : IsListening Control (below_of session) state builder begun channel
+    (session : TxnSession (ListenerSession PlainSession)) (begin : Begin) (begun : IncomingSession)
+    (channel : OutgoingChannel) : Type 0 where
+  pub listening : IsListening Control (below_of session) begin begun channel
   pub stands : StandsFor session []
   pub fits : FitsTogether session
+  pub owed : owed_of session ≡ 0
   pub runs : code_of session ≡ None
   pub own : own_refusals_of session ≡ 0
   pub vetoes : own_vetoes_of session ≡ 0
 
--- a session is transactional exactly where its builder has an acceptor of control links, which is
--- its listener's; the listener of any other has the default one
-abbrev pub IsAccepted : Option ControlLinkAcceptor → AcceptedSession → Builder → IncomingSession
+-- a session is transactional exactly where there is an acceptor of control links, which is its
+-- listener's; the listener of any other has the default one
+abbrev pub IsAccepted : Option ControlLinkAcceptor → AcceptedSession → Begin → IncomingSession
     → OutgoingChannel → Type 0
-IsAccepted None (accepteds.Plain engine) builder begun channel =
-    IsListening IsDefaultControl engine states.Mapped builder begun channel
-IsAccepted (Some control) (accepteds.Transactional engine) builder begun channel =
-    IsTransacting (λ kept. kept ≡ control) engine states.Mapped builder begun channel
-IsAccepted _ _ builder begun channel = ⊥
+IsAccepted None (accepteds.Plain engine) begin begun channel =
+    IsListening IsDefaultControl engine begin begun channel
+IsAccepted (Some control) (accepteds.Transactional engine) begin begun channel =
+    IsTransacting (λ kept. kept ≡ control) engine begin begun channel
+IsAccepted _ _ begin begun channel = ⊥
 
--- the begin that is sent: the builder's, for the peer's channel
-abbrev pub begin_answered : Builder → IncomingSession → Begin
-begin_answered builder begun = record (begin_built builder) { remote_channel = Some begun.channel }
+-- the begin that is sent: the session's own, for the peer's channel
+abbrev pub begin_answered : Begin → IncomingSession → Begin
+begin_answered begin begun = record begin { remote_channel = Some begun.channel }
+
+-- what a builder says of the session that is accepted
+abbrev pub parts_of : Builder → Parts
+parts_of builder = record {
+  begin = begin_built builder;
+  sent = begin_built builder;
+  control = builder.control_link_acceptor;
+}
 
 -- a session was accepted, and its begin is to be sent; the only error is out of memory
 abbrev pub AcceptsOn : Builder → IncomingSession → OutgoingChannel
     → Result (AcceptedSession × Begin) BeginError → Type 0
 AcceptsOn builder begun channel (Ok accepted) =
-    IsAccepted builder.control_link_acceptor accepted.0 builder begun channel
-    × (accepted.1 ≡ begin_answered builder begun)
+    IsAccepted builder.control_link_acceptor accepted.0 (begin_built builder) begun channel
+    × (accepted.1 ≡ begin_answered (begin_built builder) begun)
 AcceptsOn builder begun channel (Err error) = error ≡ refusals.NoMemory

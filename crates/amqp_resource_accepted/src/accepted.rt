@@ -1,17 +1,16 @@
 //! Sessions that were accepted.
 
-ghost use Rattle.std.specs.Prelude.{◌≡◌, None, Some};
-ghost use Rattle.amqp_txn_types.specs.declared.small.SessionState.TheVariants as states;
-ghost use Rattle.amqp_resource_accepted.specs.Accepted.{AcceptsOn, HasBegun};
+ghost use Rattle.std.specs.Prelude.{◌≡◌, IfOk, None, Some};
+ghost use Rattle.amqp_resource_accepted.specs.Accepted.{HasBegun, IsAccepted, begin_answered, parts_of};
 
 use amqp_accept_links::ControlLinkAcceptor;
 use amqp_accept_listener::ListenerSession;
 use amqp_below_connections::IncomingSession;
-use amqp_below_sessions::{BeginError, PlainSession, Session};
+use amqp_below_sessions::{PlainSession, Session};
 use amqp_engine_builder::Builder;
 use amqp_engine_events::SessionEngine;
 use amqp_resource_session::TxnSession;
-use amqp_txn_types::{Begin, IncomingChannel, OutgoingChannel, SessionState};
+use amqp_txn_types::{Begin, IncomingChannel, NoMemory, OutgoingChannel, SessionState, TryClone};
 use std::alloc::Global;
 
 /// The engine of a session that was accepted, whose peer's attaches wait at a listener.
@@ -23,16 +22,49 @@ pub enum AcceptedSession {
     Transactional(SessionEngine<TxnSession<ListenerSession<PlainSession>>>),
 }
 
-/// The session that the builder makes, with the peer's begin.
+/// What a session that is accepted is made of. It is there before the peer's session is taken, so
+/// that none is lost where memory runs out.
+#[derive(Drop)]
+pub(crate) struct Parts {
+    /// The session's begin.
+    pub(crate) begin: Begin,
+    /// The begin that is sent.
+    pub(crate) sent: Begin,
+    /// How its control links are accepted, where they are.
+    pub(crate) control: Option<ControlLinkAcceptor>,
+}
+
+/// The parts that a builder says, copied.
+pub(crate) fn copy_parts(builder: &Builder) -> Result<Parts, NoMemory>
+    ensures { IfOk result (λ parts. parts ≡ parts_of builder.now) }
+{
+    let mut copy = builder.try_clone()?;
+    let control = copy.control_link_acceptor.take();
+    let begin = copy.into_begin();
+    match begin.try_clone() {
+        Ok(sent) => Ok(Parts {
+            begin,
+            sent,
+            control,
+        }),
+        Err(error) => {
+            drop(begin);
+            drop(control);
+            Err(error)
+        }
+    }
+}
+
+/// The session of a begin that is sent, with the peer's begin.
 fn with_peers_begin(
     alloc: Global,
-    builder: Builder,
+    begin: Begin,
     begun: IncomingSession,
     channel: OutgoingChannel,
 ) -> PlainSession
-    ensures { HasBegun result states.BeginReceived builder begun channel }
+    ensures { HasBegun result begin begun channel }
 {
-    let mut session = builder.into_session(alloc, channel, SessionState::Unmapped);
+    let mut session = PlainSession::new(alloc, channel, SessionState::BeginSent, begin);
     let incoming = IncomingChannel(begun.channel);
     let Ok(()) = session.on_incoming_begin(incoming, begun.begin) else {
         unreachable!()
@@ -40,61 +72,52 @@ fn with_peers_begin(
     session
 }
 
-/// A session that does no transactions: its begin is to be sent.
+/// A session that does no transactions.
 fn accept_plain(
     alloc: Global,
-    builder: Builder,
+    begin: Begin,
     begun: IncomingSession,
     channel: OutgoingChannel,
-) -> Result<(AcceptedSession, Begin), BeginError>
-    requires { builder.control_link_acceptor ≡ None }
-    ensures { AcceptsOn builder begun channel result }
+) -> AcceptedSession
+    ensures { IsAccepted None result begin begun channel }
 {
-    let session = with_peers_begin(alloc, builder, begun, channel);
+    let session = with_peers_begin(alloc, begin, begun, channel);
     let listener = ListenerSession::new(alloc, session, ControlLinkAcceptor::default());
-    match SessionEngine::begin_listener_session(alloc, listener) {
-        Ok((engine, begin)) => Ok((AcceptedSession::Plain(engine), begin)),
-        Err((listener, error)) => {
-            drop(listener);
-            Err(error)
-        }
-    }
+    AcceptedSession::Plain(SessionEngine::new(alloc, listener))
 }
 
-/// A session that does transactions: its begin is to be sent.
+/// A session that does transactions.
 fn accept_transactional(
     alloc: Global,
-    builder: Builder,
+    begin: Begin,
     begun: IncomingSession,
     channel: OutgoingChannel,
     control: ControlLinkAcceptor,
-) -> Result<(AcceptedSession, Begin), BeginError>
-    ensures { AcceptsOn (record builder { control_link_acceptor = Some control }) begun channel
-        result }
+) -> AcceptedSession
+    ensures { IsAccepted (Some control) result begin begun channel }
 {
-    let session = with_peers_begin(alloc, builder, begun, channel);
+    let session = with_peers_begin(alloc, begin, begun, channel);
     let listener = ListenerSession::new(alloc, session, control);
     let session = TxnSession::new(alloc, listener);
-    match SessionEngine::begin_listener_session(alloc, session) {
-        Ok((engine, begin)) => Ok((AcceptedSession::Transactional(engine), begin)),
-        Err((session, error)) => {
-            drop(session);
-            Err(error)
-        }
-    }
+    AcceptedSession::Transactional(SessionEngine::new(alloc, session))
 }
 
-/// The session that the builder makes for the peer's begin.
-pub fn accept_built(
+/// The session of these parts with the peer's begin, and the begin that is to be sent.
+pub(crate) fn accept_parts(
     alloc: Global,
-    mut builder: Builder,
+    parts: Parts,
     begun: IncomingSession,
     channel: OutgoingChannel,
-) -> Result<(AcceptedSession, Begin), BeginError>
-    ensures { AcceptsOn builder begun channel result }
+) -> (AcceptedSession, Begin)
+    ensures session { IsAccepted parts.control result.0 parts.begin begun channel }
+    ensures begin { result.1 ≡ begin_answered parts.sent begun }
 {
-    match builder.control_link_acceptor.take() {
-        None => accept_plain(alloc, builder, begun, channel),
-        Some(control) => accept_transactional(alloc, builder, begun, channel, control),
-    }
+    let begin = parts.begin;
+    let mut sent = parts.sent;
+    sent.remote_channel = Some(begun.channel);
+    let session = match parts.control {
+        None => accept_plain(alloc, begin, begun, channel),
+        Some(control) => accept_transactional(alloc, begin, begun, channel, control),
+    };
+    (session, sent)
 }

@@ -4,9 +4,9 @@ ghost use Rattle.std.specs.Prelude.{◌≡◌};
 ghost use Rattle.amqp_engine_builder.specs.Builders.{default_builder};
 ghost use Rattle.amqp_engine_events.specs.Beginning.{StoppedEarly};
 ghost use Rattle.amqp_resource_accepted.specs.Accepted.{AcceptsOn};
-ghost use Rattle.amqp_resource_accepted.specs.Accepting.{AcceptsNext};
+ghost use Rattle.amqp_resource_accepted.specs.Accepting.{AcceptsNext, AcceptsOrNoMemory};
 
-use crate::accepted::{AcceptedSession, accept_built};
+use crate::accepted::{AcceptedSession, Parts, accept_parts, copy_parts};
 use crate::acceptor_builder::SessionAcceptorBuilder;
 use amqp_below_connections::{ConnectionEnd, IncomingSession};
 use amqp_below_sessions::BeginError;
@@ -61,7 +61,9 @@ impl SessionAcceptor {
     /// is to be sent. It is transactional exactly where the builder has an acceptor of control
     /// links. Later turns of the engine take their memory from `alloc`.
     ///
-    /// Errors: out of memory alone.
+    /// # Errors
+    ///
+    /// `NoMemory` alone.
     pub fn accept_incoming_session(
         &self,
         alloc: Global,
@@ -70,40 +72,63 @@ impl SessionAcceptor {
     ) -> Result<(AcceptedSession, Begin), BeginError>
         ensures { AcceptsOn self.now.0 incoming channel result }
     {
-        let Ok(builder) = self.0.try_clone() else {
+        let Ok(parts) = copy_parts(&self.0) else {
             drop(incoming);
             return Err(BeginError::NoMemory);
         };
-        accept_built(alloc, builder, incoming, channel)
+        Ok(accept_parts(alloc, parts, incoming, channel))
     }
 
     /// Accepts the session that waits longest at the connection, on a channel that the connection
-    /// gives. `Pending` exactly where none waits and the connection hasn't stopped.
+    /// gives. It is `Pending` where none waits and the connection hasn't stopped.
     ///
-    /// Errors: `ConnectionStopped` where none will come any more, with the reason that the
-    /// connection tells, or `Closed`, and where the connection answers it for the channel;
-    /// `LocalChannelMaxReached` where it answers `ChannelMaxReached`; else out of memory. A session
-    /// that waited has been taken by then.
+    /// # Errors
+    ///
+    /// - `NoMemory` where memory runs out for what the session is made of, which is copied first:
+    ///   the connection is as it was then, and the session still waits.
+    /// - `ConnectionStopped` where no session will come any more, with the reason that the
+    ///   connection tells, or `Closed`; `NoMemory` where memory runs out for a copy of the reason.
+    /// - What the connection refuses the channel for: `LocalChannelMaxReached` for
+    ///   `ChannelMaxReached`, else the error of its name. The session that waited is dropped then.
     pub fn accept<C: ConnectionEnd>(
         &self,
         alloc: Global,
         connection: &mut C,
     ) -> Poll<Result<(AcceptedSession, Begin), BeginError>>
-        ensures { AcceptsNext C.told C.next_session_gives C.allocate_gives connection.old
+        ensures { AcceptsOrNoMemory C.told C.next_session_gives C.allocate_gives connection.old
             connection.new self.now.0 result }
     {
-        let Poll::Ready(next) = connection.next_incoming_session() else {
-            return Poll::Pending;
+        let Ok(parts) = copy_parts(&self.0) else {
+            return Poll::Ready(Err(BeginError::NoMemory));
         };
-        let Some(incoming) = next else {
-            return Poll::Ready(Err(stopped_early(connection)));
-        };
-        match connection.allocate_session() {
-            Ok(channel) => Poll::Ready(self.accept_incoming_session(alloc, incoming, channel)),
-            Err(refused) => {
-                drop(incoming);
-                Poll::Ready(Err(BeginError::from(refused)))
-            }
+        accept_next(alloc, parts, connection)
+    }
+}
+
+/// Accepts the session that waits longest at the connection: it is made of these parts.
+fn accept_next<C: ConnectionEnd>(
+    alloc: Global,
+    parts: Parts,
+    connection: &mut C,
+) -> Poll<Result<(AcceptedSession, Begin), BeginError>>
+    requires { parts.sent ≡ parts.begin }
+    ensures { AcceptsNext C.told C.next_session_gives C.allocate_gives connection.old
+        connection.new parts.control parts.begin result }
+{
+    let Poll::Ready(next) = connection.next_incoming_session() else {
+        drop(parts);
+        return Poll::Pending;
+    };
+    let Some(incoming) = next else {
+        drop(parts);
+        return Poll::Ready(Err(stopped_early(connection)));
+    };
+    match connection.allocate_session() {
+        Ok(channel) => Poll::Ready(Ok(accept_parts(alloc, parts, incoming, channel))),
+        Err(refused) => {
+            drop(parts);
+            drop(incoming);
+            Poll::Ready(Err(BeginError::from(refused)))
         }
     }
 }

@@ -15,9 +15,9 @@ use std::marker::Model;
 pub struct SessionAcceptorBuilder(Builder);
 
 impl Model for SessionAcceptorBuilder {
-    ghost use Rattle.amqp_engine_builder.specs.declared.builder.Builder.{Builder as Built};
+    ghost use Rattle.amqp_engine_builder.specs.declared.builder.Builder.{Builder};
 
-    ghost Value = { Built };
+    ghost Value = { Builder };
 
     ghost view = { λ builder. builder.0 };
 }
@@ -100,8 +100,11 @@ impl SessionAcceptorBuilder {
         SessionAcceptorBuilder(self.0.control_link_acceptor(value))
     }
 
-    /// Adds one thing that this side can do, after the others. Where memory runs out, the only
-    /// error, the builder comes back as it was.
+    /// Adds one thing that this side can do, after the others.
+    ///
+    /// # Errors
+    ///
+    /// `NoMemory` alone, with the builder as it was.
     pub fn add_offered_capabilities(
         self,
         alloc: Global,
@@ -118,8 +121,33 @@ impl SessionAcceptorBuilder {
         }
     }
 
-    /// Adds one thing that this side wants the peer to do, after the others. Where memory runs out,
-    /// the only error, the builder comes back as it was.
+    /// Adds one thing that this side can do, after the others. See
+    /// [`SessionAcceptorBuilder::add_offered_capabilities`], which hands the builder back where
+    /// memory runs out.
+    ///
+    /// # Errors
+    ///
+    /// `NoMemory` alone, and the builder is dropped.
+    pub fn append_offered_capabilities(
+        self,
+        alloc: Global,
+        capability: Symbol,
+    ) -> Result<Self, NoMemory>
+        ensures { IfOk result (λ builder. builder ≡ record self {
+          offered_capabilities = with_symbol self.offered_capabilities capability;
+        }) }
+    {
+        match self.0.append_offered_capabilities(alloc, capability) {
+            Ok(builder) => Ok(SessionAcceptorBuilder(builder)),
+            Err(error) => Err(error),
+        }
+    }
+
+    /// Adds one thing that this side wants the peer to do, after the others.
+    ///
+    /// # Errors
+    ///
+    /// `NoMemory` alone, with the builder as it was.
     pub fn add_desired_capabilities(
         self,
         alloc: Global,
@@ -133,6 +161,28 @@ impl SessionAcceptorBuilder {
         match self.0.add_desired_capabilities(alloc, capability) {
             Ok(builder) => Ok(SessionAcceptorBuilder(builder)),
             Err((builder, error)) => Err((SessionAcceptorBuilder(builder), error)),
+        }
+    }
+
+    /// Adds one thing that this side wants the peer to do, after the others. See
+    /// [`SessionAcceptorBuilder::add_desired_capabilities`], which hands the builder back where
+    /// memory runs out.
+    ///
+    /// # Errors
+    ///
+    /// `NoMemory` alone, and the builder is dropped.
+    pub fn append_desired_capabilities(
+        self,
+        alloc: Global,
+        capability: Symbol,
+    ) -> Result<Self, NoMemory>
+        ensures { IfOk result (λ builder. builder ≡ record self {
+          desired_capabilities = with_symbol self.desired_capabilities capability;
+        }) }
+    {
+        match self.0.append_desired_capabilities(alloc, capability) {
+            Ok(builder) => Ok(SessionAcceptorBuilder(builder)),
+            Err(error) => Err(error),
         }
     }
 }

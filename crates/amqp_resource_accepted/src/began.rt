@@ -22,8 +22,8 @@ pub enum BeganSession {
 
 /// Begins a session that does no transactions.
 fn begin_plain<C: ConnectionEnd>(
-    builder: Builder,
     alloc: Global,
+    builder: Builder,
     connection: &mut C,
 ) -> Result<(BeganSession, Begin), BeginError>
     requires { builder.control_link_acceptor ≡ None }
@@ -37,8 +37,8 @@ fn begin_plain<C: ConnectionEnd>(
 
 /// Begins a session that does.
 fn begin_transactional<C: ConnectionEnd>(
-    builder: Builder,
     alloc: Global,
+    builder: Builder,
     connection: &mut C,
 ) -> Result<(BeganSession, Begin), BeginError>
     requires { IsSome builder.control_link_acceptor }
@@ -60,19 +60,21 @@ fn begin_transactional<C: ConnectionEnd>(
 /// and the peer's is awaited. It is transactional exactly where the builder has an acceptor of
 /// control links.
 ///
-/// Errors: `LocalChannelMaxReached` and `ConnectionStopped` exactly where the connection answers
-/// `ChannelMaxReached` and `ConnectionStopped`; else out of memory alone, after which a channel may
-/// have been given.
+/// # Errors
+///
+/// - `LocalChannelMaxReached` exactly where the connection answers `ChannelMaxReached`.
+/// - `ConnectionStopped` exactly where the connection answers `ConnectionStopped`.
+/// - Else `NoMemory` alone, after which a channel may have been given.
 pub fn begin<C: ConnectionEnd>(
-    builder: Builder,
     alloc: Global,
+    builder: Builder,
     connection: &mut C,
 ) -> Result<(BeganSession, Begin), BeginError>
     ensures { BeginsAny C.told C.allocate_gives connection.old connection.new builder result }
 {
     if builder.control_link_acceptor.is_some() {
-        begin_transactional(builder, alloc, connection)
+        begin_transactional(alloc, builder, connection)
     } else {
-        begin_plain(builder, alloc, connection)
+        begin_plain(alloc, builder, connection)
     }
 }

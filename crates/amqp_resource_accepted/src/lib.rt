@@ -7,18 +7,39 @@
 //! | [`begin`], [`BeganSession`] | the same for a session of this side |
 //!
 //! ```text
-//! let acceptor = SessionAcceptor::builder()
-//!     .control_link_acceptor(ControlLinkAcceptor::default())
-//!     .build();
-//! let Poll::Ready(accepted) = acceptor.accept(alloc, &mut connection) else { .. };
-//! let (AcceptedSession::Transactional(engine), begin) = accepted? else { .. };
+//! fn accept<C: ConnectionEnd>(
+//!     alloc: Global,
+//!     connection: &mut C,
+//! ) -> Poll<Result<(AcceptedSession, Begin), BeginError>> {
+//!     let acceptor = SessionAcceptor::builder()
+//!         .control_link_acceptor(ControlLinkAcceptor::default()) // else the session is plain
+//!         .build();
+//!     acceptor.accept(alloc, connection) // send the begin
+//! }
 //! ```
 //!
-//! Below stand the transactional session of `amqp_resource_session`, the listener of `amqp_accept_listener`, and
-//! the engine and the builder of sessions. The promise that this crate carries: an accepted session
-//! is a new one with the builder's fields, on the channel that the connection gave, that took the
-//! peer's begin and sends its own; each other answer comes exactly where its table says. 'The
-//! standard' is OASIS AMQP 1.0.
+//! The links that the peer attaches wait at the session's listener. They are accepted on the
+//! session that its engine lends:
+//!
+//! ```text
+//! fn accept_link<S: ListenerSessionEndpoint>(
+//!     alloc: Global,
+//!     engine: &mut SessionEngine<S>,
+//! ) -> Poll<Result<(LinkEndpoint, Frames), AcceptorAttachError>> {
+//!     let acceptor = LinkAcceptor::new();
+//!     let mut handle = SessionHandle::new(engine.session_mut());
+//!     acceptor.accept(alloc, &mut handle) // send the frames: an attach, and a flow of credit
+//! }
+//! ```
+//!
+//! Who ends a session closes its queue too, by `engine.session_mut().close_listener()`: once the
+//! queue is empty, `accept` answers why the session stopped.
+//!
+//! Below stand the transactional session of `amqp_resource_session`, the listener of
+//! `amqp_accept_listener`, and the engine and the builder of sessions. The promise that this crate
+//! carries: an accepted session is a new one with the builder's fields, on the channel that the
+//! connection gives, that took the peer's begin and sends its own; each other answer comes exactly
+//! where its table says. 'The standard' is OASIS AMQP 1.0.
 #![tactic(auto)]
 
 mod accepted;

@@ -5,4 +5,7 @@ mod accepting_tests;
 mod builder_tests;
 mod call_tests;
 mod driven_tests;
+mod engine_calls;
+mod link_tests;
+mod stop_tests;
 mod test_values;

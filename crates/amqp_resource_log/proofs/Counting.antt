@@ -1,5 +1,5 @@
 -- The live cells of the log are the frames that are kept for the live ids.
-use Rattle.amqp_resource_log.proofs.Words.{Agrees, AllByRecursion, Bool, Cell, EndsId, Err, Frame, Homes, IfOk, IsDistinct-head, IsDistinct-tail, Keeps, LetsGo, List, Live, Log, NoMemory, None, Ok, Result, Some, TransactionId, TxnWorkFrame, [], ap, arith, arrived, cond, cons_option, count_by, dead_count, false, frame_of_work, frames_in, frames_of, if◌then◌else◌, is_dead_cell, is_live_cell, is_opened, is_some, is_some-lookup, kept, keys_of, length, list_any, live_count, lookup, nat_list_eq_equiv, refl, same_id, same_text, sum_by, sum_by-append, sum_by-cons, sym, true, with_arrival, zero-add, ℕ, ◌+◌, ◌||◌, ◌∙◌, ◌∷◌, ◌≡◌}
+use Rattle.amqp_resource_log.proofs.Words.{Agrees, AllByRecursion, Bool, Cell, EndsId, Err, Frame, Homes, IfOk, IsDistinct-head, IsDistinct-tail, Keeps, LetsGo, List, Live, Log, NoMemory, None, Ok, Result, Some, TransactionId, TxnWorkFrame, [], ap, arith, arrived, cond, cons_option, count_by, dead_count, false, frame_of_work, frames_in, frames_of, if◌then◌else◌, is_dead_cell, is_live_cell, is_live, is_some, is_some-lookup, kept, keys_of, length, list_any, live_count, lookup, nat_list_eq_equiv, refl, same_id, same_text, sum_by, sum_by-append, sum_by-cons, sym, true, with_arrival, zero-add, ℕ, ◌+◌, ◌||◌, ◌∙◌, ◌∷◌, ◌≡◌}
 use Rattle.std.specs.List.{IsDistinct}
 use Rattle.amqp_resource_log.specs.declared.cell.Cell.TheVariants as cells
 use Rattle.amqp_resource_log.proofs.Emptied.{dead_emptied, live_emptied}
@@ -88,7 +88,7 @@ live-arrived log id w = sum_by-append (λ c. cond (is_live_cell c) 1 0) log.cell
 -- ---- what a change makes of the value
 
 -- the value of a log
-pub keeps : (old : Log) (id : TransactionId) (w : TxnWorkFrame) (result : Result Bool NoMemory) → Agrees old.homes old → IfOk result (λ opened. opened ≡ is_opened old id) → Keeps old (arrived result old id w) id (frame_of_work w) result
+pub keeps : (old : Log) (id : TransactionId) (w : TxnWorkFrame) (result : Result Bool NoMemory) → Agrees old.homes old → IfOk result (λ opened. opened ≡ is_live old id) → Keeps old (arrived result old id w) id (frame_of_work w) result
 keeps old id w (Ok true) agrees opened =
     let live = sym (opened ∙ sym (is_some-lookup (same_id id) old.homes)) in (
       sym (is_kept (frames_of old id) (lookup (same_id id) old.homes)) ∙ live,
@@ -99,7 +99,7 @@ keeps old id w (Ok true) agrees opened =
 keeps old id w (Ok false) agrees opened = (sym (is_kept (frames_of old id) (lookup (same_id id) old.homes)) ∙ sym (opened ∙ sym (is_some-lookup (same_id id) old.homes)), refl)
 keeps old id w (Err error) agrees opened = refl
 
-pub agrees_arrived : (old : Log) (id : TransactionId) (w : TxnWorkFrame) (result : Result Bool NoMemory) → Agrees old.homes old → IfOk result (λ opened. opened ≡ is_opened old id) → Agrees (arrived result old id w).homes (arrived result old id w)
+pub agrees_arrived : (old : Log) (id : TransactionId) (w : TxnWorkFrame) (result : Result Bool NoMemory) → Agrees old.homes old → IfOk result (λ opened. opened ≡ is_live old id) → Agrees (arrived result old id w).homes (arrived result old id w)
 agrees_arrived old id w (Ok true) agrees opened = agrees_more old.homes old id w (sym (opened ∙ sym (is_some-lookup (same_id id) old.homes))) agrees
 agrees_arrived old id w (Ok false) agrees opened = agrees
 agrees_arrived old id w (Err error) agrees opened = agrees

@@ -1,8 +1,8 @@
 -- The places that are kept for an id, after those of one id were changed.
-use Rattle.amqp_resource_log.proofs.Words.{Bool, Err, Index, List, None, Ok, OnOk, Opened, Option, Result, Some, TransactionId, Without, Written, [], ap, cond, false, homes_in, if◌then◌else◌, is_some, is_some-lookup, keys_of, length, list_any, lookup, nat_list_eq_equiv, option_map, places_in, places_kept, refl, same_id, same_text, set_value, subst, suc, sym, true, ℕ, ◌++◌, ◌+◌, ◌∙◌, ◌∷◌, ◌≡◌}
+use Rattle.amqp_resource_log.proofs.Words.{Bool, Err, Index, List, None, Ok, OnOk, LiveId, Option, Result, Some, TransactionId, Without, Written, [], ap, cond, false, homes_in, if◌then◌else◌, is_some, is_some-lookup, keys_of, length, list_any, lookup, nat_list_eq_equiv, option_map, places_in, places_kept, refl, same_id, same_text, set_value, subst, suc, sym, true, ℕ, ◌++◌, ◌+◌, ◌∙◌, ◌∷◌, ◌≡◌}
 use Rattle.std.specs.List.{IsDistinct}
 
-picked : (b : Bool) (w : Opened) (o : Option (Opened)) → places_in (cond b (Some w) o) ≡ cond b w.places.items (places_in o)
+picked : (b : Bool) (w : LiveId) (o : Option (LiveId)) → places_in (cond b (Some w) o) ≡ cond b w.places.items (places_in o)
 picked true w o = refl
 picked false w o = refl
 
@@ -15,7 +15,7 @@ pub kept_same : (index : Index) (t u : TransactionId) → same_id t u ≡ true �
 kept_same index t u s = ap (places_kept index) (same_text t u (sym s))
 
 -- the places of one id were written over by what f makes of them
-pub kept_written : (f : List ℕ → List ℕ) (old new : Index) (id : TransactionId) (found w : Opened) → Some found ≡ lookup (same_id id) old → ((t : TransactionId) → lookup (same_id t) new ≡ cond (same_id id t) (Some w) (lookup (same_id t) old)) → w.places.items ≡ f found.places.items → (t : TransactionId) → places_kept new t ≡ cond (same_id t id) (f (places_kept old t)) (places_kept old t)
+pub kept_written : (f : List ℕ → List ℕ) (old new : Index) (id : TransactionId) (found w : LiveId) → Some found ≡ lookup (same_id id) old → ((t : TransactionId) → lookup (same_id t) new ≡ cond (same_id id t) (Some w) (lookup (same_id t) old)) → w.places.items ≡ f found.places.items → (t : TransactionId) → places_kept new t ≡ cond (same_id t id) (f (places_kept old t)) (places_kept old t)
 kept_written f old new id found w at u made t =
     ap places_in (u t ∙ ap (λ b. cond b (Some w) (lookup (same_id t) old)) (nat_list_eq_equiv.symm id t))
     ∙ picked (same_id t id) w (lookup (same_id t) old)
@@ -44,14 +44,14 @@ among index t = is_some-lookup (same_id t) index
 pub not_found : (index : Index) (t : TransactionId) → list_any (same_id t) (keys_of index) ≡ false → lookup (same_id t) index ≡ None
 not_found index t e = none_in (lookup (same_id t) index) (among index t ∙ e)
 
--- an id is opened with no places
-pub kept_opened : (old new : Index) (id : TransactionId) (w : Opened) → lookup (same_id id) old ≡ None → ((t : TransactionId) → lookup (same_id t) new ≡ cond (same_id id t) (Some w) (lookup (same_id t) old)) → w.places.items ≡ [] → (t : TransactionId) → places_kept new t ≡ places_kept old t
+-- an id is live with no places
+pub kept_opened : (old new : Index) (id : TransactionId) (w : LiveId) → lookup (same_id id) old ≡ None → ((t : TransactionId) → lookup (same_id t) new ≡ cond (same_id id t) (Some w) (lookup (same_id t) old)) → w.places.items ≡ [] → (t : TransactionId) → places_kept new t ≡ places_kept old t
 kept_opened old new id w none u empty t =
     ap places_in (u t ∙ ap (λ b. cond b (Some w) (lookup (same_id t) old)) (nat_list_eq_equiv.symm id t))
     ∙ picked (same_id t id) w (lookup (same_id t) old)
     ∙ as_it_was (same_id t id) w.places.items (places_kept old t) (λ s. empty ∙ sym (kept_same old t id s ∙ ap places_in none))
 
-dropped : (b : Bool) (o : Option (Opened)) → places_in (cond b None o) ≡ cond b [] (places_in o)
+dropped : (b : Bool) (o : Option (LiveId)) → places_in (cond b None o) ≡ cond b [] (places_in o)
 dropped true o = refl
 dropped false o = refl
 
@@ -74,7 +74,7 @@ pub opened_ended : {V : Type 0} (old new : List (TransactionId × V)) (id : Tran
 opened_ended old new id u t =
     sym (among new t) ∙ ap is_some (u t) ∙ found_unless (same_id id t) (lookup (same_id t) old) ∙ ap (cond (same_id id t) false) (among old t)
 
--- ---- the links of the opened ids
+-- ---- the links of the live ids
 
 pub keys-homes : (index : Index) → keys_of (homes_in index) ≡ keys_of index
 keys-homes [] = refl
@@ -84,15 +84,15 @@ pub length-homes : (index : Index) → length (homes_in index) ≡ length index
 length-homes [] = refl
 length-homes (e ∷ es) = ap suc (length-homes es)
 
-pub lookup-homes : (test : TransactionId → Bool) (index : Index) → lookup test (homes_in index) ≡ option_map (λ (one : Opened). one.home) (lookup test index)
+pub lookup-homes : (test : TransactionId → Bool) (index : Index) → lookup test (homes_in index) ≡ option_map (λ (one : LiveId). one.home) (lookup test index)
 lookup-homes test [] = refl
 lookup-homes test (e ∷ es) = either (test e.0) e.1 (lookup test es) (lookup test (homes_in es)) (lookup-homes test es)
   where
-    either : (b : Bool) (x : Opened) (o : Option Opened) (h : Option (Option ℕ)) → h ≡ option_map (λ (one : Opened). one.home) o → cond b (Some x.home) h ≡ option_map (λ (one : Opened). one.home) (cond b (Some x) o)
+    either : (b : Bool) (x : LiveId) (o : Option LiveId) (h : Option (Option ℕ)) → h ≡ option_map (λ (one : LiveId). one.home) o → cond b (Some x.home) h ≡ option_map (λ (one : LiveId). one.home) (cond b (Some x) o)
     either true x o h e = refl
     either false x o h e = e
 
-pub homes-append : (index : Index) (id : TransactionId) (one : Opened) → homes_in (index ++ (id, one) ∷ []) ≡ homes_in index ++ (id, one.home) ∷ []
+pub homes-append : (index : Index) (id : TransactionId) (one : LiveId) → homes_in (index ++ (id, one) ∷ []) ≡ homes_in index ++ (id, one.home) ∷ []
 homes-append [] id one = refl
 homes-append (e ∷ es) id one = ap (λ hs. (e.0, e.1.home) ∷ hs) (homes-append es id one)
 
@@ -105,30 +105,30 @@ opened_more (Ok x) old new id home e = ap keys_of e ∙ keys-append old id home
 opened_more (Err x) old new id home e = tt
 
 -- an entry was written over by one with the same link
-pub homes-written : (test : TransactionId → Bool) (index : Index) (found w : Opened) → Some found ≡ lookup test index → w.home ≡ found.home → homes_in (set_value test index w) ≡ homes_in index
+pub homes-written : (test : TransactionId → Bool) (index : Index) (found w : LiveId) → Some found ≡ lookup test index → w.home ≡ found.home → homes_in (set_value test index w) ≡ homes_in index
 homes-written test [] found w at same = refl
 homes-written test (e ∷ es) found w at same = by_case (test e.0) at (homes-written test es found w)
   where
     by_case : (b : Bool) → Some found ≡ cond b (Some e.1) (lookup test es) → (Some found ≡ lookup test es → w.home ≡ found.home → homes_in (set_value test es w) ≡ homes_in es) → homes_in (cond b ((e.0, w) ∷ es) (e ∷ set_value test es w)) ≡ (e.0, e.1.home) ∷ homes_in es
-    by_case true f more = let is : found ≡ e.1 = cc in ap (λ h. (e.0, h) ∷ homes_in es) (same ∙ ap (λ (one : Opened). one.home) is)
+    by_case true f more = let is : found ≡ e.1 = cc in ap (λ h. (e.0, h) ∷ homes_in es) (same ∙ ap (λ (one : LiveId). one.home) is)
     by_case false f more = ap (λ hs. (e.0, e.1.home) ∷ hs) (more f same)
 
-ended_home : (b : Bool) (o : Option Opened) → option_map (λ (one : Opened). one.home) (cond b None o) ≡ cond b None (option_map (λ (one : Opened). one.home) o)
+ended_home : (b : Bool) (o : Option LiveId) → option_map (λ (one : LiveId). one.home) (cond b None o) ≡ cond b None (option_map (λ (one : LiveId). one.home) o)
 ended_home true o = refl
 ended_home false o = refl
 
 pub homes_ended : (old new : Index) (id : TransactionId) → ((t : TransactionId) → lookup (same_id t) new ≡ cond (same_id id t) None (lookup (same_id t) old)) → (t : TransactionId) → lookup (same_id t) (homes_in new) ≡ cond (same_id id t) None (lookup (same_id t) (homes_in old))
 homes_ended old new id u t =
-    lookup-homes (same_id t) new ∙ ap (option_map (λ (one : Opened). one.home)) (u t)
+    lookup-homes (same_id t) new ∙ ap (option_map (λ (one : LiveId). one.home)) (u t)
     ∙ ended_home (same_id id t) (lookup (same_id t) old) ∙ ap (cond (same_id id t) None) (sym (lookup-homes (same_id t) old))
 
-opened_home : (b : Bool) (w : Opened) (o : Option Opened) → option_map (λ (one : Opened). one.home) (cond b (Some w) o) ≡ cond b (Some w.home) (option_map (λ (one : Opened). one.home) o)
+opened_home : (b : Bool) (w : LiveId) (o : Option LiveId) → option_map (λ (one : LiveId). one.home) (cond b (Some w) o) ≡ cond b (Some w.home) (option_map (λ (one : LiveId). one.home) o)
 opened_home true w o = refl
 opened_home false w o = refl
 
-pub homes_opened : (old new : Index) (id : TransactionId) (w : Opened) → ((t : TransactionId) → lookup (same_id t) new ≡ cond (same_id id t) (Some w) (lookup (same_id t) old)) → (t : TransactionId) → lookup (same_id t) (homes_in new) ≡ cond (same_id id t) (Some w.home) (lookup (same_id t) (homes_in old))
+pub homes_opened : (old new : Index) (id : TransactionId) (w : LiveId) → ((t : TransactionId) → lookup (same_id t) new ≡ cond (same_id id t) (Some w) (lookup (same_id t) old)) → (t : TransactionId) → lookup (same_id t) (homes_in new) ≡ cond (same_id id t) (Some w.home) (lookup (same_id t) (homes_in old))
 homes_opened old new id w u t =
-    lookup-homes (same_id t) new ∙ ap (option_map (λ (one : Opened). one.home)) (u t)
+    lookup-homes (same_id t) new ∙ ap (option_map (λ (one : LiveId). one.home)) (u t)
     ∙ opened_home (same_id id t) w (lookup (same_id t) old) ∙ ap (cond (same_id id t) (Some w.home)) (sym (lookup-homes (same_id t) old))
 
 pub length-keys : (homes : List (TransactionId × Option ℕ)) → length (keys_of homes) ≡ length homes
@@ -143,17 +143,17 @@ opened_here index t = among index t ∙ ap (list_any (same_id t)) (sym (keys-hom
 
 -- ---- the index written
 
-pub written : (f : List ℕ → List ℕ) (old new : Index) (id : TransactionId) (found w : Opened) → Some found ≡ lookup (same_id id) old → new ≡ set_value (same_id id) old w → ((t : TransactionId) → lookup (same_id t) new ≡ cond (same_id id t) (Some w) (lookup (same_id t) old)) → w.home ≡ found.home → w.places.items ≡ f found.places.items → Written f id old new
+pub written : (f : List ℕ → List ℕ) (old new : Index) (id : TransactionId) (found w : LiveId) → Some found ≡ lookup (same_id id) old → new ≡ set_value (same_id id) old w → ((t : TransactionId) → lookup (same_id t) new ≡ cond (same_id id t) (Some w) (lookup (same_id t) old)) → w.home ≡ found.home → w.places.items ≡ f found.places.items → Written f id old new
 written f old new id found w at is u same made = record {
   places = kept_written f old new id found w at u made;
   homes = ap homes_in is ∙ homes-written (same_id id) old found w at same;
 }
 
-some_home : (o : Option Opened) → is_some o ≡ is_some (option_map (λ (one : Opened). one.home) o)
+some_home : (o : Option LiveId) → is_some o ≡ is_some (option_map (λ (one : LiveId). one.home) o)
 some_home None = refl
 some_home (Some one) = refl
 
-pub taken_out : (id : TransactionId) (old new : Index) (value : Option Opened) → ((t : TransactionId) → lookup (same_id t) new ≡ cond (same_id id t) None (lookup (same_id t) old)) → IsDistinct same_id (keys_of new) → value ≡ lookup (same_id id) old → length new + (if is_some value then 1 else 0) ≡ length old → Without id old new
+pub taken_out : (id : TransactionId) (old new : Index) (value : Option LiveId) → ((t : TransactionId) → lookup (same_id t) new ≡ cond (same_id id t) None (lookup (same_id t) old)) → IsDistinct same_id (keys_of new) → value ≡ lookup (same_id id) old → length new + (if is_some value then 1 else 0) ≡ length old → Without id old new
 taken_out id old new value u unique at len = record {
   places = kept_gone old new id u;
   homes = homes_ended old new id u;

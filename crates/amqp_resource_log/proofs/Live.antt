@@ -139,8 +139,8 @@ kept_ended id old new ends t =
 
 -- ---- the log closed up
 
-pub agrees_settled : (homes : Homes) (old new : Log) → ((t : TransactionId) → frames_of new t ≡ frames_of old t) → Agrees homes old → Agrees homes new
-agrees_settled homes old new frames agrees = record {
+pub agrees_compacted : (homes : Homes) (old new : Log) → ((t : TransactionId) → frames_of new t ≡ frames_of old t) → Agrees homes old → Agrees homes new
+agrees_compacted homes old new frames agrees = record {
   none = λ t gone. frames t ∙ agrees.none t gone;
   distinct = agrees.distinct;
 }

@@ -1,9 +1,9 @@
 -- The words of the specs and of other crates that the proofs use.
-pub use Rattle.amqp_resource_log.specs.Cells.{EndsId, Log, arrived, closed_up, dead_count, emptied, frame_under, frames_in, frames_of, id_of, is_dead_cell, is_live_cell, is_opened, is_under, live_count, places, places_from, with_arrival, work_at, work_in}
+pub use Rattle.amqp_resource_log.specs.Cells.{EndsId, Log, arrived, closed_up, dead_count, emptied, frame_under, frames_in, frames_of, id_of, is_dead_cell, is_live_cell, is_live, is_under, live_count, live_ids, places, places_from, with_arrival, work_at, work_in}
 pub use Rattle.amqp_resource_log.specs.Index.{Index, Indexed, Without, Written, homes_in, moved_to, places_added, places_in, places_kept, without_place}
-pub use Rattle.amqp_resource_log.specs.Live.{Agrees, Homes, Keeps, Kept, LetsGo, Live, frame_count, frames_kept, home_of, kept, live_ids, with_frame}
+pub use Rattle.amqp_resource_log.specs.Live.{Agrees, Homes, Keeps, Kept, LetsGo, Live, frame_count, frames_kept, home_of, kept, with_frame}
 pub use Rattle.amqp_resource_log.specs.declared.cell.Cell.{Cell}
-pub use Rattle.amqp_resource_log.specs.declared.opened.Opened.{Opened}
+pub use Rattle.amqp_resource_log.specs.declared.live_id.LiveId.{LiveId}
 pub use Rattle.amqp_txn_types.specs.Frames.{stripped}
 pub use Rattle.amqp_txn_types.specs.Ids.{same_id}
 pub use Rattle.amqp_txn_types.specs.Works.{frame_of_work}

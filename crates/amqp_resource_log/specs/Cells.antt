@@ -11,8 +11,8 @@ use Rattle.amqp_txn_types.specs.Works.{frame_of_work}
 use Rattle.amqp_resource_log.specs.declared.cell.Cell.{Cell}
 use Rattle.amqp_resource_log.specs.declared.cell.Cell.TheVariants as cells
 
--- the log: its cells, in the order in which they came, the opened ids, each with the link that it
--- was declared on, if it was on one, and how many more can be opened without taking memory
+-- the log: its cells, in the order in which they came, the live ids, each with the link that it
+-- was declared on, if it was on one, and how many more can be added without taking memory
 pub record Log : Type 0 where
   pub cells : List Cell
   pub homes : List (TransactionId × Option ℕ)
@@ -82,13 +82,13 @@ frames_in cs t = filter_map (frame_under t) cs
 abbrev pub frames_of : Log → TransactionId → List Frame
 frames_of log t = frames_in log.cells t
 
--- the opened ids
-abbrev pub opened : Log → List TransactionId
-opened log = keys_of log.homes
+-- the live ids
+abbrev pub live_ids : Log → List TransactionId
+live_ids log = keys_of log.homes
 
--- the id is opened
-abbrev pub is_opened : Log → TransactionId → Bool
-is_opened log t = list_any (same_id t) (opened log)
+-- the id is live
+abbrev pub is_live : Log → TransactionId → Bool
+is_live log t = list_any (same_id t) (live_ids log)
 
 -- ---- the log
 
@@ -99,7 +99,7 @@ live_count log = count_by is_live_cell log.cells
 abbrev pub dead_count : Log → ℕ
 dead_count log = count_by is_dead_cell log.cells
 
--- the cells and the opened ids are as they were
+-- the cells and the live ids are as they were
 pub record SameLog (old new : Log) : Type 0 where
   pub cells : new.cells ≡ old.cells
   pub homes : new.homes ≡ old.homes
@@ -108,7 +108,7 @@ pub record SameLog (old new : Log) : Type 0 where
 abbrev pub with_arrival : Log → TransactionId → TxnWorkFrame → Log
 with_arrival log t work = record log { cells = log.cells ++ cells.Live t work ∷ [] }
 
--- the log once work came, by whether its id is opened and memory was there
+-- the log once work came, by whether its id is live and memory was there
 abbrev pub arrived : Result Bool NoMemory → Log → TransactionId → TxnWorkFrame → Log
 arrived (Ok true) log t work = with_arrival log t work
 arrived _ log t work = log
@@ -122,8 +122,8 @@ abbrev pub closed_up : Log → Log
 closed_up log = record log { cells = filter is_live_cell log.cells }
 
 -- the log, without its dead cells where they are more than the live ones
-abbrev pub settled : Log → Log
-settled log = cond (nat_lt (live_count log) (dead_count log)) (closed_up log) log
+abbrev pub compacted : Log → Log
+compacted log = cond (nat_lt (live_count log) (dead_count log)) (closed_up log) log
 
 -- ---- work taken out of the log
 

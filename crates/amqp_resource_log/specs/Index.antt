@@ -1,4 +1,4 @@
--- The index of the log: for each opened id, the places of its live cells.
+-- The index of the log: for each live id, the places of its live cells.
 use Rattle.std.specs.Prelude.{ℕ, ◌≡◌, ◌==◌, Bool, true, cond, Option, Some, None, Result, Ok, List, [], ◌∷◌, ◌++◌, ◌+◌, count_by, if◌then◌else◌, is_some, length}
 use Rattle.std.specs.List.{IsDistinct}
 use Rattle.std.specs.Map.{keys_of, lookup}
@@ -6,15 +6,15 @@ use Rattle.amqp_txn_types.specs.declared.items.NoMemory.{NoMemory}
 use Rattle.amqp_txn_types.specs.declared.id.TransactionId.{TransactionId}
 use Rattle.amqp_txn_types.specs.Ids.{same_id}
 use Rattle.amqp_resource_log.specs.declared.cell.Cell.{Cell}
-use Rattle.amqp_resource_log.specs.declared.opened.Opened.{Opened}
+use Rattle.amqp_resource_log.specs.declared.live_id.LiveId.{LiveId}
 use Rattle.amqp_resource_log.specs.Cells.{is_dead_cell, places_from}
 
--- the opened ids, each with its link and its places
+-- the live ids, each with its link and its places
 abbrev pub Index : Type 0
-Index = List (TransactionId × Opened)
+Index = List (TransactionId × LiveId)
 
 -- the places that a look-up found
-abbrev pub places_in : Option Opened → List ℕ
+abbrev pub places_in : Option LiveId → List ℕ
 places_in None = []
 places_in (Some found) = found.places.items
 
@@ -22,7 +22,7 @@ places_in (Some found) = found.places.items
 abbrev pub places_kept : Index → TransactionId → List ℕ
 places_kept index t = places_in (lookup (same_id t) index)
 
--- the opened ids, each with its link
+-- the live ids, each with its link
 abbrev pub homes_in : Index → List (TransactionId × Option ℕ)
 homes_in [] = []
 homes_in (e ∷ es) = (e.0, e.1.home) ∷ homes_in es
@@ -57,7 +57,7 @@ pub record Without (id : TransactionId) (old new : Index) : Type 0 where
   pub len : length (homes_in new) + (if is_some (lookup (same_id id) (homes_in old)) then 1 else 0)
       ≡ length (homes_in old)
 
--- the index gives, for each opened id, the places of its live cells, and no cell is live with
+-- the index gives, for each live id, the places of its live cells, and no cell is live with
 -- another id; so many cells are dead
 pub record Indexed (cs : List Cell) (index : Index) (dead : ℕ) : Type 0 where
   pub places : (t : TransactionId) → places_kept index t ≡ places_from 0 t cs

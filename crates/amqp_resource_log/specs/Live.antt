@@ -7,13 +7,13 @@ use Rattle.amqp_txn_types.specs.declared.id.TransactionId.{TransactionId}
 use Rattle.amqp_txn_types.specs.declared.items.NoMemory.{NoMemory}
 use Rattle.amqp_txn_types.specs.declared.performatives.Frame.{Frame}
 use Rattle.amqp_txn_types.specs.Ids.{same_id}
-use Rattle.amqp_resource_log.specs.Cells.{Log, dead_count, frames_of}
+use Rattle.amqp_resource_log.specs.Cells.{Log, dead_count, frames_of, live_ids}
 
 -- the live ids, each with the link that it was declared on
 abbrev pub Homes : Type 0
 Homes = List (TransactionId × Option ℕ)
 
--- the live ids with their work: a log, whose opened ids they are
+-- the live ids with their work: a log, whose live ids they are
 abbrev pub Live : Type 0
 Live = Log
 
@@ -42,10 +42,6 @@ with_frame None frame = None
 with_frame (Some one) frame = Some (one.0, one.1 ++ frame ∷ [])
 
 -- ---- all ids
-
--- the live ids
-abbrev pub live_ids : Live → List TransactionId
-live_ids live = keys_of live.homes
 
 -- how many frames are kept for the live ids, all together
 abbrev pub frame_count : Live → ℕ

@@ -1,4 +1,4 @@
-//! The index of the log: the opened ids, each with its link and the places of its live cells.
+//! The index of the log: the live ids, each with its link and the places of its live cells.
 
 ghost use Rattle.std.specs.Prelude.{◌≡◌, ◌==◌, ◌≤◌, IfOk, length, position, slice_get, is_some};
 ghost use Rattle.std.specs.Map.{lookup};
@@ -6,21 +6,21 @@ ghost use Rattle.std.specs.HashMap.{spare};
 ghost use Rattle.amqp_txn_types.specs.Ids.{same_id};
 ghost use Rattle.amqp_resource_log.specs.Index.{Without, Written, homes_in, moved_to, places_added, places_kept, without_place};
 
-use crate::opened::Opened;
+use crate::live_id::LiveId;
 use amqp_txn_types::{NoMemory, TransactionId};
 use indexmap::IndexMap;
 use std::alloc::Global;
 use std::collections::VecDeque;
 
-/// The opened ids, each with its link and the places of its live cells.
-pub type Index = IndexMap<TransactionId, Opened>;
+/// The live ids, each with its link and the places of its live cells.
+pub type Index = IndexMap<TransactionId, LiveId>;
 
-/// The link of an opened id, if it was declared on one; `None` where it isn't opened.
+/// The link of a live id, if it was declared on one; `None` where it isn't live.
 pub fn home_of(index: &Index, id: TransactionId) -> Option<Option<u64>>
     ensures { result ≡ lookup (same_id id) (homes_in index.now.entries) }
 {
     match index.get(&id) {
-        Some(opened) => Some(opened.home),
+        Some(live) => Some(live.home),
         None => None,
     }
 }
@@ -37,23 +37,23 @@ pub fn place_count(index: &Index, id: TransactionId) -> usize
     ensures { result ≡ length (places_kept index.now.entries id) }
 {
     match index.get(&id) {
-        Some(opened) => opened.places.len(),
+        Some(live) => live.places.len(),
         None => 0,
     }
 }
 
-/// Adds a place to those of an id, and says whether the id is opened: for one that isn't, and where
+/// Adds a place to those of an id, and says whether the id is live: for one that isn't, and where
 /// memory runs out, all places stay as they were.
 #[inline(always)]
 pub fn add_place(index: &mut Index, id: TransactionId, place: usize) -> Result<bool, NoMemory>
-    ensures ok { IfOk result (λ opened. opened ≡ is_some (lookup (same_id id) index.old.entries)) }
+    ensures ok { IfOk result (λ live. live ≡ is_some (lookup (same_id id) index.old.entries)) }
     ensures written { Written (places_added result place) id index.old.entries index.new.entries }
     ensures spare { spare index.new ≡ spare index.old }
 {
-    let Some(opened) = index.get_mut(&id) else {
+    let Some(live) = index.get_mut(&id) else {
         return Ok(false);
     };
-    match opened.places.push_back(place) {
+    match live.places.push_back(place) {
         Ok(()) => Ok(true),
         Err(_) => Err(NoMemory),
     }
@@ -86,8 +86,8 @@ pub fn drop_place(index: &mut Index, id: TransactionId, place: usize)
     ensures written { Written (without_place place) id index.old.entries index.new.entries }
     ensures spare { spare index.new ≡ spare index.old }
 {
-    if let Some(opened) = index.get_mut(&id) {
-        drop_from(&mut opened.places, place);
+    if let Some(live) = index.get_mut(&id) {
+        drop_from(&mut live.places, place);
     }
 }
 
@@ -107,19 +107,19 @@ pub fn move_place(index: &mut Index, id: TransactionId, to: usize)
     ensures written { Written (moved_to to) id index.old.entries index.new.entries }
     ensures spare { spare index.new ≡ spare index.old }
 {
-    if let Some(opened) = index.get_mut(&id) {
-        move_in(&mut opened.places, to);
+    if let Some(live) = index.get_mut(&id) {
+        move_in(&mut live.places, to);
     }
 }
 
-/// Takes an id out of the index, and gives its places: none where it isn't opened.
+/// Takes an id out of the index, and gives its places: none where it isn't live.
 pub fn take_id(index: &mut Index, id: &TransactionId, alloc: Global) -> VecDeque<usize>
     ensures places { result.items ≡ places_kept index.old.entries id.now }
     ensures without { Without id.now index.old.entries index.new.entries }
     ensures room { spare index.old ≤ spare index.new }
 {
     match index.swap_remove(id) {
-        Some(opened) => opened.places,
+        Some(live) => live.places,
         None => VecDeque::new(alloc),
     }
 }

@@ -6,7 +6,8 @@ ghost use Rattle.amqp_txn_types.specs.declared.id.TransactionId.{TransactionId a
 ghost use Rattle.amqp_txn_types.specs.Frames.{stripped};
 ghost use Rattle.amqp_txn_types.specs.Ids.{same_id};
 ghost use Rattle.amqp_txn_types.specs.Works.{frame_of_work};
-ghost use Rattle.amqp_resource_log.specs.Live.{HasPlace, Keeps, KeepsPlaces, LetsGo, SameKept, UsesPlace, frame_count, frames_kept, home_of, kept, live_ids, owed};
+ghost use Rattle.amqp_resource_log.specs.Cells.{live_ids};
+ghost use Rattle.amqp_resource_log.specs.Live.{HasPlace, Keeps, KeepsPlaces, LetsGo, SameKept, UsesPlace, frame_count, frames_kept, home_of, kept, owed};
 
 use crate::log::ArrivalLog;
 use crate::looks::Looks;
@@ -78,7 +79,7 @@ impl LiveWork {
     pub fn is_live(&self, txn_id: &TransactionId) -> bool
         ensures { result ≡ is_some (kept self.now txn_id.now) }
     {
-        self.log.is_opened(txn_id)
+        self.log.is_live(txn_id)
     }
 
     /// The link that a live id was declared on, if it was on one; `None` where it isn't live.
@@ -171,13 +172,13 @@ impl LiveWork {
     /// Takes the dead cells out where they are more than the frames that are kept: one look for
     /// each of these. It takes no memory.
     #[inline(always)]
-    pub fn settle<L: Ledger>(&mut self, looks: &mut Looks<L>)
+    pub fn compact<L: Ledger>(&mut self, looks: &mut Looks<L>)
         ensures same { SameKept self.old self.new }
         ensures ids { live_ids self.new ≡ live_ids self.old }
         ensures room { KeepsPlaces self.old self.new }
         ensures few { owed self.new ≤ frame_count self.new }
         ensures looks { looks.new + owed self.new ≤ looks.old + owed self.old }
     {
-        self.log.settle(looks);
+        self.log.compact(looks);
     }
 }

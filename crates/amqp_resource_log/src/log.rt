@@ -7,15 +7,15 @@ ghost use Rattle.std.specs.Map.{keys_of, lookup};
 ghost use Rattle.amqp_txn_types.specs.declared.id.TransactionId.{TransactionId as Id};
 ghost use Rattle.amqp_txn_types.specs.Frames.{stripped};
 ghost use Rattle.amqp_txn_types.specs.Ids.{same_id};
-ghost use Rattle.amqp_resource_log.specs.Cells.{EndsId, SameLog, arrived, closed_up, dead_count, frames_of, is_live_cell, is_opened, live_count, opened, places, places_from, settled, with_arrival, without_work, work_at};
+ghost use Rattle.amqp_resource_log.specs.Cells.{EndsId, SameLog, arrived, closed_up, dead_count, frames_of, is_live_cell, is_live, live_count, live_ids, places, places_from, compacted, with_arrival, without_work, work_at};
 ghost use Rattle.amqp_resource_log.specs.Index.{homes_in, places_kept};
 
 use crate::cell_list::CellList;
 use crate::index::{
     Index, add_place, drop_place, first_place, home_of, move_place, place_count, take_id,
 };
+use crate::live_id::LiveId;
 use crate::looks::Looks;
-use crate::opened::Opened;
 use crate::taking::{drop_places, strip_places};
 use amqp_txn_types::{Frame, NoMemory, TransactionId, TxnWorkFrame};
 use indexmap::IndexMap;
@@ -45,7 +45,7 @@ fn move_live<L: Ledger>(cells: &mut CellList, index: &mut Index, looks: &mut Loo
     kept
 }
 
-/// The work under live transactions, in the order in which it came, and for each opened id where
+/// The work under live transactions, in the order in which it came, and for each live id where
 /// its work stands.
 #[derive(Drop)]
 pub struct ArrivalLog {
@@ -72,7 +72,7 @@ impl Model for ArrivalLog {
 }
 
 impl ArrivalLog {
-    /// A log without cells, of which no id is opened. It takes no memory; later growth takes it
+    /// A log without cells, of which no id is live. It takes no memory; later growth takes it
     /// from `alloc`.
     pub fn new(alloc: Global) -> Self
         ensures cells { result.cells ≡ [] }
@@ -100,28 +100,28 @@ impl ArrivalLog {
         self.cells.len() - self.dead
     }
 
-    /// Whether the id is opened.
-    pub fn is_opened(&self, txn_id: &TransactionId) -> bool
-        ensures { result ≡ is_opened self.now txn_id.now }
+    /// Whether the id is live.
+    pub fn is_live(&self, txn_id: &TransactionId) -> bool
+        ensures { result ≡ is_live self.now txn_id.now }
     {
         self.index.contains_key(txn_id)
     }
 
-    /// How many ids are opened.
+    /// How many ids are live.
     pub fn len(&self) -> usize
         ensures { result ≡ length self.now.homes }
     {
         self.index.len()
     }
 
-    /// Whether no id is opened.
+    /// Whether no id is live.
     pub fn is_empty(&self) -> bool
         ensures { IsTrue result ↔ (length self.now.homes ≡ 0) }
     {
         self.index.is_empty()
     }
 
-    /// The link of an opened id, if it was declared on one; `None` where the id isn't opened.
+    /// The link of a live id, if it was declared on one; `None` where the id isn't live.
     pub fn home(&self, txn_id: &TransactionId) -> Option<Option<u64>>
         ensures { result ≡ lookup (same_id txn_id.now) self.now.homes }
     {
@@ -143,7 +143,7 @@ impl ArrivalLog {
         place_count(&self.index, *txn_id)
     }
 
-    /// Makes room for one more opened id. The only error is out of memory.
+    /// Makes room for one more live id. The only error is out of memory.
     pub fn make_room(&mut self) -> Result<(), NoMemory>
         ensures same { SameLog self.old self.new }
         ensures room { OnOk result (0 < self.new.room) }
@@ -159,12 +159,12 @@ impl ArrivalLog {
     ///
     /// # Requires
     ///
-    /// The id isn't opened.
+    /// The id isn't live.
     pub fn open_id(&mut self, txn_id: TransactionId) -> Result<(), NoMemory>
-        requires { is_opened self.old txn_id ≡ false }
+        requires { is_live self.old txn_id ≡ false }
         ensures fresh { frames_of self.new txn_id ≡ [] }
         ensures cells { self.new.cells ≡ self.old.cells }
-        ensures ok { OnOk result (opened self.new ≡ opened self.old ++ txn_id ∷ []) }
+        ensures ok { OnOk result (live_ids self.new ≡ live_ids self.old ++ txn_id ∷ []) }
         ensures homes { OnOk result (self.new.homes ≡ self.old.homes ++ (txn_id, None) ∷ []) }
         ensures err { OnErr result (self.new.homes ≡ self.old.homes) }
         ensures room { self.old.room ≤ self.new.room + 1 }
@@ -178,9 +178,9 @@ impl ArrivalLog {
     ///
     /// # Requires
     ///
-    /// The id isn't opened.
+    /// The id isn't live.
     pub fn open_on(&mut self, txn_id: TransactionId, home: Option<u64>) -> Result<(), NoMemory>
-        requires { is_opened self.old txn_id ≡ false }
+        requires { is_live self.old txn_id ≡ false }
         ensures fresh { frames_of self.new txn_id ≡ [] }
         ensures cells { self.new.cells ≡ self.old.cells }
         ensures homes { OnOk result (self.new.homes ≡ self.old.homes ++ (txn_id, home) ∷ []) }
@@ -191,17 +191,17 @@ impl ArrivalLog {
         ensures room { self.old.room ≤ self.new.room + 1 }
         ensures succeeds { 0 < self.old.room → IsOk result }
     {
-        let opened = Opened {
+        let live = LiveId {
             home,
             places: VecDeque::new(self.alloc),
         };
-        match self.index.insert(txn_id, opened) {
+        match self.index.insert(txn_id, live) {
             Ok(_) => Ok(()),
             Err(_) => Err(NoMemory),
         }
     }
 
-    /// Ends an id that has no live cell; nothing changes where it isn't opened. It takes no memory.
+    /// Ends an id that has no live cell; nothing changes where it isn't live. It takes no memory.
     ///
     /// # Requires
     ///
@@ -214,18 +214,18 @@ impl ArrivalLog {
         let _places = take_id(&mut self.index, txn_id, self.alloc);
     }
 
-    /// Adds work under an opened id, as the last of the log. Where memory runs out, the only error,
+    /// Adds work under a live id, as the last of the log. Where memory runs out, the only error,
     /// nothing changes and the work comes back.
     ///
     /// # Requires
     ///
-    /// The id is opened.
+    /// The id is live.
     pub fn append(
         &mut self,
         txn_id: &TransactionId,
         work: TxnWorkFrame,
     ) -> Result<(), (TxnWorkFrame, NoMemory)>
-        requires { is_opened self.old txn_id.now ≡ true }
+        requires { is_live self.old txn_id.now ≡ true }
         ensures ok { OnOk result (self.new ≡ with_arrival self.old txn_id.now work) }
         ensures err { IfErr result (λ unkept. (unkept.0 ≡ work) × (self.new ≡ self.old)) }
     {
@@ -239,11 +239,11 @@ impl ArrivalLog {
         Ok(())
     }
 
-    /// Adds work under an id, as the last of the log, and says whether the id is opened: for one
+    /// Adds work under an id, as the last of the log, and says whether the id is live: for one
     /// that isn't, and where memory runs out, nothing changes and the work is let go.
     #[inline(always)]
     pub fn keep(&mut self, txn_id: &TransactionId, work: TxnWorkFrame) -> Result<bool, NoMemory>
-        ensures opened { IfOk result (λ opened. opened ≡ is_opened self.old txn_id.now) }
+        ensures live { IfOk result (λ live. live ≡ is_live self.old txn_id.now) }
         ensures log { self.new ≡ arrived result self.old txn_id.now work }
     {
         let Ok(()) = self.cells.reserve() else {
@@ -284,7 +284,7 @@ impl ArrivalLog {
     }
 
     /// Ends an id and takes all its work out, in order, each without its transactional state, into
-    /// a list that has room for it: one look for each. Where the id isn't opened nothing changes.
+    /// a list that has room for it: one look for each. Where the id isn't live nothing changes.
     /// It takes no memory.
     ///
     /// # Requires
@@ -313,7 +313,7 @@ impl ArrivalLog {
         )
     }
 
-    /// Ends an id and lets all its work go: one look for each. Where the id isn't opened nothing
+    /// Ends an id and lets all its work go: one look for each. Where the id isn't live nothing
     /// changes. It takes no memory.
     pub fn drop_all<L: Ledger>(&mut self, txn_id: &TransactionId, looks: &mut Looks<L>)
         ensures ended { EndsId txn_id.now self.old self.new }
@@ -336,8 +336,8 @@ impl ArrivalLog {
 
     /// Closes the log up where more cells are dead than live. It takes no memory.
     #[inline(always)]
-    pub fn settle<L: Ledger>(&mut self, looks: &mut Looks<L>)
-        ensures log { self.new ≡ settled self.old }
+    pub fn compact<L: Ledger>(&mut self, looks: &mut Looks<L>)
+        ensures log { self.new ≡ compacted self.old }
         ensures frames { (t : Id) → frames_of self.new t ≡ frames_of self.old t }
         ensures homes { self.new.homes ≡ self.old.homes }
         ensures room { self.new.room ≡ self.old.room }

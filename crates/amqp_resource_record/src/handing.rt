@@ -90,7 +90,7 @@ fn handed_at_once(alloc: Global, frame: &Frame) -> Result<Frames, NoMemory>
 {
     let mut handed = Frames::new(alloc);
     if is_plain(frame) {
-        add(&mut handed, frame.try_clone()?)?;
+        handed.append(frame.try_clone()?)?;
     }
     Ok(handed)
 }
@@ -117,7 +117,7 @@ fn add_if_under(handed: &mut Frames, step: &Step, txn_id: &TransactionId) -> Res
         Step::Frame(frame) => match txn_of(frame) {
             Some(under) => {
                 if *txn_id == under {
-                    add(handed, strip_frame(frame.try_clone()?))
+                    handed.append(strip_frame(frame.try_clone()?))
                 } else {
                     Ok(())
                 }
@@ -126,16 +126,6 @@ fn add_if_under(handed: &mut Frames, step: &Step, txn_id: &TransactionId) -> Res
         },
         _ => Ok(()),
     }
-}
-
-pub(crate) fn add(frames: &mut Frames, frame: Frame) -> Result<(), NoMemory>
-    ensures { OnOk result (frames.new ≡ frames.old ++ frame ∷ []) }
-{
-    match frames.push(frame) {
-        Ok(()) => {}
-        Err((_, error)) => return Err(error),
-    }
-    Ok(())
 }
 
 /// Whether the frame is under this id.

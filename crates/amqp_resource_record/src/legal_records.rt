@@ -7,7 +7,7 @@ ghost use Rattle.amqp_resource_record.specs.Work.{work};
 
 use crate::answering::is_answer;
 use crate::entry::Entry;
-use crate::handing::{add, handed_by};
+use crate::handing::handed_by;
 use amqp_below_ids::Drawn;
 use amqp_txn_types::{Frames, NoMemory, TransactionId};
 use std::alloc::Global;
@@ -71,7 +71,7 @@ fn add_all(frames: &mut Frames, more: Frames) -> Result<(), NoMemory>
     ensures { OnOk result (frames.new ≡ frames.old ++ more) }
 {
     for frame in more.into_vec() {
-        add(frames, frame)?;
+        frames.append(frame)?;
     }
     Ok(())
 }

@@ -1,7 +1,7 @@
 -- What the transactional calls leave of what a session tells.
 use Rattle.std.proofs.Common.{◌≡◌, ℕ, ◌≤◌, None, Err, refl, arith}
-use Rattle.amqp_resource_session.specs.Words.{Fixed, Steady, Told, one_more}
-use Rattle.amqp_below_layer.specs.Told.{Checks}
+use Rattle.amqp_below_layer.specs.Told.{Fixed, Steady, Told, Checks}
+use Rattle.amqp_txn_types.specs.Counts.{one_more}
 
 -- what is told by a session that tells no list
 abbrev pub listless : ℕ → ℕ → Fixed → Told

@@ -2,18 +2,35 @@
 use Rattle.std.proofs.Common.{◌≡◌, ℕ, ◌+◌, Bool, true, false, Option, Some, None, Result, Ok, Err, List, [], ◌∷◌, length, refl, sym, ◌∙◌, ap, arith}
 use Rattle.std.specs.Prelude.{MatchBool, IfOk}
 use Rattle.std.specs.List.{list_all}
-use Rattle.amqp_resource_session.specs.Words.{Answer, AnswerControl, AnswerDeclare, AnswerDischarge, AnswerFrame, AnswerLinkEnd, AreNext, ControlMessageBody, Discharge, DrawnIds, Drew, Entry, Frame, Held, Reply, Rose, Step, StepError, Told, TransactionId, Valid, hands, is_held_on, is_live, is_open, message_of, txn}
+use Rattle.amqp_resource_record.specs.Answers.{Answer, AnswerControl, AnswerDeclare, AnswerDischarge, AnswerFrame, AnswerLinkEnd, AnswerMessage}
+use Rattle.amqp_below_ids.specs.Ids.{AreNext, Drew}
+use Rattle.amqp_txn_codec.specs.declared.message.ControlMessageBody.{ControlMessageBody}
+use Rattle.amqp_txn_codec.specs.declared.message.Discharge.{Discharge}
+use Rattle.amqp_below_ids.specs.Drawn.{DrawnIds}
+use Rattle.amqp_resource_record.specs.declared.entry.Entry.{Entry}
+use Rattle.amqp_txn_types.specs.declared.performatives.Frame.{Frame}
+use Rattle.amqp_resource_held.specs.declared.held.Held.{Held}
+use Rattle.amqp_resource_record.specs.declared.reply.Reply.{Reply}
+use Rattle.amqp_txn_types.specs.Counts.{Rose}
+use Rattle.amqp_resource_record.specs.declared.step.Step.{Step}
+use Rattle.amqp_resource_record.specs.declared.stop.StepError.{StepError}
+use Rattle.amqp_below_layer.specs.Told.{Told}
+use Rattle.amqp_txn_types.specs.declared.id.TransactionId.{TransactionId}
+use Rattle.amqp_resource_record.specs.Valid.{Valid, ValidFrame, ValidDeclare, ValidMessage}
+use Rattle.amqp_resource_record.specs.Hands.{hands}
+use Rattle.amqp_resource_record.specs.Live.{is_held_on, is_live}
+use Rattle.amqp_resource_record.specs.Links.{is_open}
+use Rattle.amqp_txn_codec.specs.Reading.{message_of}
+use Rattle.amqp_txn_types.specs.Frames.{txn}
 use Rattle.amqp_txn_types.specs.declared.small.TransactionError.TheVariants as transaction_errors
 use Rattle.amqp_txn_codec.specs.declared.message.ControlMessageBody.TheVariants as messages
 use Rattle.amqp_resource_record.specs.declared.step.Step.TheVariants as steps
 use Rattle.amqp_resource_record.specs.declared.reply.Reply.TheVariants as replies
 use Rattle.amqp_resource_record.specs.declared.reply.RejectText.TheVariants as texts
 use Rattle.amqp_resource_record.specs.declared.stop.StepError.TheVariants as errors
-use Rattle.amqp_resource_record.specs.Answers.{AnswerMessage}
-use Rattle.amqp_resource_record.specs.Valid.{ValidFrame, ValidDeclare, ValidMessage}
 use Rattle.amqp_resource_session.specs.Steps.{IfAttachRefused, IfVeto, IsDead, Refused, StepCause, UnderDead, is_unknown}
-use Rattle.amqp_resource_session.specs.Views.{view_of_record}
-use Rattle.amqp_resource_session.proofs.Views.{live-record}
+use Rattle.amqp_resource_held.specs.Views.{view_of_record}
+use Rattle.amqp_resource_held.proofs.Views.{live-record}
 use Rattle.amqp_resource_session.proofs.Recorded.{StepGave}
 use Rattle.amqp_resource_session.specs.Complete.{DoesIt, Completed, InOrder}
 

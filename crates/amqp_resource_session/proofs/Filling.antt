@@ -3,7 +3,9 @@
 use Rattle.std.proofs.Common.{◌≡◌, ℕ, zero, suc, ◌+◌, ◌<◌, ◌≤◌, List, [], ◌∷◌, ◌++◌, length, take, drop, map, get_or, set, refl, sym, ◌∙◌, ap, add-one, arith, take-append-drop}
 use Rattle.std.proofs.Math.Seq.{drop-cons, take-suc-set}
 use Rattle.std.proofs.lemmas.List.{map-append}
-use Rattle.amqp_resource_session.specs.Words.{Entry, Step, steps_of}
+use Rattle.amqp_resource_record.specs.declared.entry.Entry.{Entry}
+use Rattle.amqp_resource_record.specs.declared.step.Step.{Step}
+use Rattle.amqp_resource_record.specs.Entries.{steps_of}
 use Rattle.amqp_resource_record.specs.Waiting.{awaiting}
 use Rattle.amqp_resource_session.specs.Drive.{Left}
 

@@ -5,15 +5,30 @@ use Rattle.std.specs.List.{cons_option, list_all, zip}
 use Rattle.std.specs.Map.{lookup}
 use Rattle.std.specs.Option.{option_map}
 use Rattle.std.proofs.lemmas.List.{length-append, length-map, map-append}
-use Rattle.amqp_resource_session.specs.Words.{AllWindowsFit, Answers, CommitFault, DeliveryState, Frame, Held, Live, NoMemory, Refusal, Reviews, SessionInnerError, Told, TookFrames, TransactionError, TransactionId, frame_of_work, frames_kept, grown, is_bare, is_no_memory, is_under_txn, kept, refusal_of, same_id, stripped, taken_frames}
+use Rattle.amqp_below_layer.specs.Windows.{AllWindowsFit, WindowFits}
+use Rattle.amqp_below_layer.specs.declared.answers.Answers.{Answers}
+use Rattle.amqp_below_sessions.specs.declared.transacting.CommitFault.{CommitFault}
+use Rattle.amqp_txn_types.specs.declared.delivery.DeliveryState.{DeliveryState}
+use Rattle.amqp_txn_types.specs.declared.performatives.Frame.{Frame}
+use Rattle.amqp_resource_held.specs.declared.held.Held.{Held}
+use Rattle.amqp_resource_log.specs.Live.{Live, frames_kept, kept}
+use Rattle.amqp_txn_types.specs.declared.items.NoMemory.{NoMemory}
+use Rattle.amqp_below_layer.specs.declared.refusal.Refusal.{Refusal}
+use Rattle.amqp_below_layer.specs.Told.{Reviews, Told, refusal_of, refused_after}
+use Rattle.amqp_below_layer.specs.declared.inner_error.SessionInnerError.{SessionInnerError}
+use Rattle.amqp_below_layer.specs.Taking.{TookFrames, taken_frames}
+use Rattle.amqp_txn_types.specs.declared.small.TransactionError.{TransactionError}
+use Rattle.amqp_txn_types.specs.declared.id.TransactionId.{TransactionId}
+use Rattle.amqp_txn_types.specs.Works.{frame_of_work}
+use Rattle.amqp_txn_types.specs.Growing.{grown}
+use Rattle.amqp_below_layer.specs.Reviewing.{is_bare}
+use Rattle.amqp_below_layer.specs.Faults.{is_no_memory}
+use Rattle.amqp_txn_types.specs.Frames.{is_under_txn, stripped, is_transfer, state_of_outcomes, stripped_state}
+use Rattle.amqp_txn_types.specs.Ids.{same_id}
 use Rattle.amqp_txn_types.specs.declared.performatives.Frame.TheVariants as frames
-use Rattle.amqp_txn_types.specs.Frames.{is_transfer}
-use Rattle.amqp_below_layer.specs.Told.{refused_after}
 use Rattle.amqp_txn_types.proofs.Growing.{grown-grown, grown-nil}
-use Rattle.amqp_below_layer.specs.Windows.{WindowFits}
 use Rattle.amqp_resource_record.proofs.Whole.{zip-append, length-AllWindowsFit}
 use Rattle.amqp_txn_types.specs.declared.small.TransactionError.TheVariants as transaction_errors
-use Rattle.amqp_txn_types.specs.Frames.{state_of_outcomes, stripped_state}
 use Rattle.amqp_txn_types.specs.declared.frames.TxnWorkFrame.{TxnWorkFrame}
 use Rattle.amqp_txn_types.specs.declared.frames.TxnWorkFrame.TheVariants as works
 use Rattle.amqp_txn_types.specs.declared.delivery.DeliveryState.TheVariants as states
@@ -25,8 +40,9 @@ use Rattle.amqp_below_sessions.specs.declared.transacting.CommitFault.TheVariant
 use Rattle.amqp_resource_log.specs.declared.cell.Cell.{Cell}
 use Rattle.amqp_resource_log.specs.declared.cell.Cell.TheVariants as cells
 use Rattle.amqp_resource_log.specs.Cells.{frame_under, frames_in, frames_of}
-use Rattle.amqp_resource_session.specs.Draws.{is_kept}
-use Rattle.amqp_resource_session.specs.Transacting.{CommittedIn, CommittedWith, Ended}
+use Rattle.amqp_resource_held.specs.Draws.{is_kept}
+use Rattle.amqp_resource_session.specs.Transacting.{CommittedIn, CommittedWith}
+use Rattle.amqp_resource_held.specs.Changes.{Ended}
 use Rattle.amqp_resource_session.specs.Committing.{HandCause, HandedAll, HandedSome, HandedPart, HandsAll, OnNoEchoes, OnVetoed, given_of, vetoed_of}
 
 -- an Err of a call below adds its refusal

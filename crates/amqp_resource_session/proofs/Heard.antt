@@ -1,13 +1,21 @@
 -- What a session hears: its frames and control links, by their kind.
 use Rattle.std.proofs.Common.{◌≡◌, ℕ, ◌≤◌, Bool, true, false, cond, Option, Some, None, Result, Ok, Err, List, refl, sym, ◌∙◌, ap, subst, arith, rules}
-use Rattle.amqp_resource_session.specs.Words.{Attach, Fixed, Frame, Opens, SessionInnerError, StopCode, Told, TransactionId, TxnSession, attaches_coordinator, is_no_memory, one_more, txn}
+use Rattle.amqp_txn_types.specs.declared.performatives.Attach.{Attach}
+use Rattle.amqp_below_layer.specs.Told.{Fixed, Opens, Told, Takes}
+use Rattle.amqp_txn_types.specs.declared.performatives.Frame.{Frame}
+use Rattle.amqp_below_layer.specs.declared.inner_error.SessionInnerError.{SessionInnerError}
+use Rattle.amqp_resource_record.specs.declared.stop.StopCode.{StopCode}
+use Rattle.amqp_txn_types.specs.declared.id.TransactionId.{TransactionId}
+use Rattle.amqp_resource_session.specs.declared.session.TxnSession.{TxnSession}
+use Rattle.amqp_txn_types.specs.Frames.{attaches_coordinator, txn}
+use Rattle.amqp_below_layer.specs.Faults.{is_no_memory}
+use Rattle.amqp_txn_types.specs.Counts.{one_more}
 use Rattle.amqp_txn_types.specs.declared.performatives.Frame.TheVariants as frames
 use Rattle.amqp_below_layer.specs.declared.inner_error.SessionInnerError.TheVariants as faults
-use Rattle.amqp_below_layer.specs.Told.{Takes}
 use Rattle.amqp_resource_session.specs.Calls.{by_stop}
 use Rattle.amqp_resource_session.specs.Hearing.{Hears, HearsAttach, HearsKind, HearsUnbound, HearsUnder, RefusesWith}
 use Rattle.amqp_resource_session.specs.Opening.{frames_of}
-use Rattle.amqp_resource_session.specs.Passing.{counted}
+use Rattle.amqp_txn_types.specs.Counts.{counted}
 use Rattle.amqp_resource_session.specs.Session.{is_live_on, stop_of}
 use Rattle.amqp_resource_session.proofs.Calling.{listless}
 use Rattle.amqp_resource_session.proofs.Keeping.{coord-attach, txn-attach}

@@ -2,9 +2,34 @@
 use Rattle.std.proofs.Common.{◌≡◌, ℕ, zero, suc, ◌+◌, ◌≤◌, Bool, true, false, cond, not, ◌&&◌, Option, Some, None, Result, Ok, Err, List, [], ◌∷◌, length, map, take, refl, sym, ◌∙◌, ap, arith, subst, inl, inr}
 use Rattle.std.specs.Prelude.{◌==◌, is_some, MatchBool}
 use Rattle.std.proofs.lemmas.Bool.{eqb-true}
-use Rattle.amqp_resource_session.specs.Words.{Answers, Attach, CommitFault, ControlMessageBody, Discharge, DrawnIds, Frame, Held, NoMemory, Opens, Reply, SessionInnerError, SessionStopReason, Steady, Step, StepError, TakesFrame, Told, TookFrames, TransactionId, Verdict, answered_under, attaches_coordinator, frames_kept, is_coordinator_attach, is_link, is_plain_by, is_plain_frame, is_rollback, kept, message_of, refusal_of, same_id, stripped, taken_frames, txn, with_frame}
+use Rattle.amqp_below_layer.specs.declared.answers.Answers.{Answers}
+use Rattle.amqp_txn_types.specs.declared.performatives.Attach.{Attach}
+use Rattle.amqp_below_sessions.specs.declared.transacting.CommitFault.{CommitFault}
+use Rattle.amqp_txn_codec.specs.declared.message.ControlMessageBody.{ControlMessageBody}
+use Rattle.amqp_txn_codec.specs.declared.message.Discharge.{Discharge}
+use Rattle.amqp_below_ids.specs.Drawn.{DrawnIds}
+use Rattle.amqp_txn_types.specs.declared.performatives.Frame.{Frame}
+use Rattle.amqp_resource_held.specs.declared.held.Held.{Held}
+use Rattle.amqp_txn_types.specs.declared.items.NoMemory.{NoMemory}
+use Rattle.amqp_below_layer.specs.Told.{Opens, Steady, Told, refusal_of}
+use Rattle.amqp_resource_record.specs.declared.reply.Reply.{Reply}
+use Rattle.amqp_below_layer.specs.declared.inner_error.SessionInnerError.{SessionInnerError}
+use Rattle.amqp_txn_types.specs.declared.delivery.SessionStopReason.{SessionStopReason}
+use Rattle.amqp_resource_record.specs.declared.step.Step.{Step}
+use Rattle.amqp_resource_record.specs.declared.stop.StepError.{StepError}
+use Rattle.amqp_below_layer.specs.Taking.{TakesFrame, TookFrames, taken_frames}
+use Rattle.amqp_txn_types.specs.declared.id.TransactionId.{TransactionId}
+use Rattle.amqp_below_layer.specs.declared.verdict.Verdict.{Verdict}
+use Rattle.amqp_txn_types.specs.Presumptive.{answered_under}
+use Rattle.amqp_txn_types.specs.Frames.{attaches_coordinator, is_coordinator_attach, is_plain_by, is_plain_frame, stripped, txn}
+use Rattle.amqp_resource_log.specs.Live.{frames_kept, kept, with_frame, Kept}
+use Rattle.amqp_resource_record.specs.Live.{is_link}
+use Rattle.amqp_txn_codec.specs.Discharges.{is_rollback}
+use Rattle.amqp_txn_codec.specs.Reading.{message_of}
+use Rattle.amqp_txn_types.specs.Ids.{same_id}
 use Rattle.amqp_txn_types.specs.declared.small.TransactionError.TheVariants as transaction_errors
 use Rattle.amqp_txn_types.specs.declared.small.AmqpError.TheVariants as amqp_errors
+use Rattle.amqp_txn_types.specs.declared.performatives.Disposition.{Disposition}
 use Rattle.amqp_txn_types.specs.declared.performatives.Frame.TheVariants as frames
 use Rattle.amqp_txn_codec.specs.declared.message.ControlMessageBody.TheVariants as messages
 use Rattle.amqp_below_layer.specs.declared.inner_error.SessionInnerError.TheVariants as faults
@@ -15,20 +40,21 @@ use Rattle.amqp_resource_record.specs.declared.reply.RejectText.TheVariants as t
 use Rattle.amqp_resource_record.specs.declared.stop.StepError.TheVariants as errors
 use Rattle.amqp_resource_record.proofs.Whole.{plain_none}
 use Rattle.amqp_below_layer.specs.declared.taking.TakeError.{TakeError}
-use Rattle.amqp_resource_log.specs.Live.{Kept}
-use Rattle.amqp_resource_session.specs.Held.{SameHeld, Tied, ids_on, is_in, is_kept_on, unless_on}
-use Rattle.amqp_resource_session.specs.Draws.{DrewLive, DrewUnused, is_kept}
+use Rattle.amqp_resource_held.specs.Held.{SameHeld, Tied, ids_on, is_in, is_kept_on, unless_on}
+use Rattle.amqp_resource_held.specs.Draws.{DrewLive, DrewUnused, is_kept}
 use Rattle.amqp_resource_session.specs.Committing.{HandsAll, HandsSurely}
-use Rattle.amqp_resource_session.specs.Transacting.{CommittedWith, Ended, step_error_of}
-use Rattle.amqp_resource_session.specs.Steps.{StepCause, AddsRefusal, AnswersEnd, EndGave, FrameMayFault, IsDead, IsPost, IsUnder, Refused, UnderDead, ended_by, fault_of, has_error, is_live_under, is_unknown, message_hands, message_takes_memory, nothing_drawn, step_hands, takes_memory}
-use Rattle.amqp_resource_session.specs.Views.{View, view_of_held}
+use Rattle.amqp_resource_session.specs.Transacting.{CommittedWith, step_error_of}
+use Rattle.amqp_resource_held.specs.Changes.{Arrives, Ended, Ends, Fits}
+use Rattle.amqp_resource_session.specs.Steps.{RepliesToNoFrame, StepCause, AddsRefusal, AnswersEnd, EndGave, FrameMayFault, IsDead, IsPost, IsUnder, Refused, UnderDead, ended_by, fault_of, has_error, is_live_under, is_unknown, message_hands, message_takes_memory, nothing_drawn, step_hands, takes_memory}
+use Rattle.amqp_resource_held.specs.Views.{View, view_of_held}
 use Rattle.amqp_resource_session.specs.Leaving.{LeavesHere, StepLeaves}
-use Rattle.amqp_resource_session.specs.Keeping.{ControlKeeps, DischargeHands, EndKeeps, Ends, Fits, FrameKeeps, Keeps, NothingChanges, PlainKeeps, StepKeeps}
-use Rattle.amqp_resource_session.proofs.Kept.{in_updated}
+use Rattle.amqp_resource_session.specs.Keeping.{CommitEnds, ControlKeeps, DischargeHands, EndKeeps, ErrorKeeps, FrameKeeps, Keeps, NothingChanges, PlainKeeps, RefusedFrameKeeps, StepKeeps}
+use Rattle.amqp_resource_held.proofs.Kept.{in_updated}
 use Rattle.amqp_resource_session.proofs.Handing.{refused_after-err}
 use Rattle.amqp_txn_types.proofs.Growing.{grown-nil}
-use Rattle.amqp_resource_session.proofs.Views.{commit_hands, same-view, view-moved}
-use Rattle.amqp_resource_session.proofs.Fitting.{fits-attached, fits-closed, fits-declared, fits-ended, fits-posted, fits-same}
+use Rattle.amqp_resource_session.proofs.Handed.{commit_hands}
+use Rattle.amqp_resource_held.proofs.Views.{same-view, view-moved}
+use Rattle.amqp_resource_held.proofs.Fitting.{fits-attached, fits-closed, fits-declared, fits-ended, fits-posted, fits-same}
 use Rattle.amqp_resource_session.proofs.Leaving.{surely_commit}
 
 -- ---- what stays
@@ -56,12 +82,12 @@ fault_answers v told now s hands error own handed known e x =
 -- ---- no call below
 
 -- a reply
-answered-here : (h g : Held) (s : Step) (d : DrawnIds) (reply : Reply) → ((told : Told) → StepCause told told s (Ok (d, reply))) → AnswersEnd (ended_by s) (Ok (d, reply)) → (Fits h → Fits g) → ((told : Told) → Fits h → StepKeeps (view_of_held h) (view_of_held g) told told s d.ids reply) → LeavesHere h g s (Ok (d, reply))
-answered-here h g s d reply cause ended fits answer = record { keeps = λ told f. record { fits = fits f; answer = answer told f }; cause = cause; ended = ended; same = tt }
+answered-here : (h g : Held) (s : Step) (d : DrawnIds) (reply : Reply) → ((told : Told) → StepCause told told s (Ok (d, reply))) → AnswersEnd (ended_by s) (Ok (d, reply)) → RepliesToNoFrame (Ok (d, reply)) s → (Fits h → Fits g) → ((told : Told) → Fits h → StepKeeps (view_of_held h) (view_of_held g) told told s d.ids reply) → LeavesHere h g s (Ok (d, reply))
+answered-here h g s d reply cause ended unanswered fits answer = record { keeps = λ told f. record { fits = fits f; answer = answer told f }; left = tt; unanswered = unanswered; cause = cause; ended = ended; same = tt }
 
 -- out of memory
 wanting-here : (h g : Held) (s : Step) → SameHeld h g → takes_memory (view_of_held h) s ≡ true → AnswersEnd (ended_by s) (Err errors.NoMemory) → LeavesHere h g s (Err errors.NoMemory)
-wanting-here h g s same takes ended = record { keeps = λ told f. record { fits = fits-same h g same f; answer = takes }; cause = λ told. tt; ended = ended; same = same }
+wanting-here h g s same takes ended = record { keeps = λ told f. record { fits = fits-same h g same f; answer = takes }; left = view-moved h g same; unanswered = tt; cause = λ told. tt; ended = ended; same = same }
 
 -- a reply to a control message
 control_answers : (v w : View) (told now : Told) (k : ℕ) (payload : List ℕ) (b : Bool) (m : Option ControlMessageBody) (drawn : List TransactionId) (reply : Reply) → message_of payload ≡ m → v.links k ≡ b → ControlKeeps k v w told now b m drawn reply → StepKeeps v w told now (steps.Control k payload) drawn reply
@@ -70,7 +96,7 @@ control_answers v w told now k payload b m drawn reply e o x =
     (subst (λ (c : Bool). ControlKeeps k v w told now c m drawn reply) (sym o) x)
 
 control-here : (h g : Held) (k : ℕ) (payload : List ℕ) (d : DrawnIds) (b : Bool) (m : Option ControlMessageBody) (reply : Reply) → message_of payload ≡ m → is_in h.links.entries k ≡ b → ((told : Told) → StepCause told told (steps.Control k payload) (Ok (d, reply))) → (Fits h → Fits g) → ((told : Told) → Fits h → ControlKeeps k (view_of_held h) (view_of_held g) told told b m d.ids reply) → LeavesHere h g (steps.Control k payload) (Ok (d, reply))
-control-here h g k payload d b m reply e o cause fits answer = answered-here h g (steps.Control k payload) d reply cause tt fits (λ told f. control_answers (view_of_held h) (view_of_held g) told told k payload b m d.ids reply e o (answer told f))
+control-here h g k payload d b m reply e o cause fits answer = answered-here h g (steps.Control k payload) d reply cause tt tt fits (λ told f. control_answers (view_of_held h) (view_of_held g) told told k payload b m d.ids reply e o (answer told f))
 
 -- ---- plain frames
 
@@ -122,6 +148,11 @@ keeps-plain_refused h told now frame e error handed p known same n t f = record 
 pub here-plain_wanting : (h : Held) (frame : Frame) → is_plain_frame frame ≡ true → LeavesHere h h (steps.Frame frame) (Err errors.NoMemory)
 here-plain_wanting h frame p = wanting-here h h (steps.Frame frame) (same_held h) (ap (is_live_under (view_of_held h)) (plain_none frame p)) tt
 
+-- a plain frame that was refused changes nothing
+pub left-plain : (h : Held) (frame : Frame) (error : SessionInnerError) (handed : ℕ) → is_plain_frame frame ≡ true → is_unknown error ≡ false → ErrorKeeps (view_of_held h) (view_of_held h) (steps.Frame frame) (Err (errors.Fault error handed))
+left-plain h frame error handed p known =
+    when_known (is_unknown error) _ _ known (subst (RefusedFrameKeeps (view_of_held h) (view_of_held h) frame) (sym (plain_none frame p)) (same-view (view_of_held h)))
+
 -- ---- frames under an id
 
 abbrev pub post_reply : TransactionId → Frame → Reply
@@ -133,9 +164,7 @@ keeps-post h g told now frame u d n e at lg kg og same f = record {
   answer = (
     none_drawn d n,
     subst (λ (o : Option TransactionId). FrameKeeps (view_of_held h) (view_of_held g) told now frame o (post_reply u frame)) (sym e) (record {
-      was_live = at;
-      live = lg;
-      links = record { links = λ j. ap is_some (kg j); opened = og };
+      arrives = record { was_live = at; live = lg; links = record { links = λ j. ap is_some (kg j); opened = og } };
       below = same;
       answered = refl;
     }),
@@ -156,9 +185,15 @@ keeps-post_refused h g told now frame u error own e at some known same steady f 
       });
     }
 
+-- work whose answer was refused is kept
+pub left-post : (h g : Held) (frame : Frame) (u : TransactionId) (error : SessionInnerError) (handed : ℕ) → txn frame ≡ Some u → is_unknown error ≡ false → Arrives (view_of_held h) (view_of_held g) frame u → ErrorKeeps (view_of_held h) (view_of_held g) (steps.Frame frame) (Err (errors.Fault error handed))
+left-post h g frame u error handed e known x = when_known (is_unknown error) _ _ known (subst (RefusedFrameKeeps (view_of_held h) (view_of_held g) frame) (sym e) x)
+
 pub here-dead : (h g : Held) (frame : Frame) (u : TransactionId) → txn frame ≡ Some u → is_kept h.work u ≡ false → SameHeld h g → LeavesHere h g (steps.Frame frame) (Err (errors.Fault faults.UnknownTxnId 0))
 here-dead h g frame u e n same = record {
   keeps = λ told f. record { fits = fits-same h g same f; answer = (subst (IsDead (view_of_held h)) (sym e) n, refl) };
+  left = view-moved h g same;
+  unanswered = tt;
   cause = λ told. (subst IsUnder (sym e) tt, refl);
   ended = tt;
   same = tt;
@@ -214,12 +249,12 @@ here-attach_wanting h g attach same = wanting-here h g (steps.Frame (frames.Atta
 
 pub here-link_end : (h g : Held) (k : ℕ) (d : DrawnIds) → d ≡ nothing_drawn → is_in h.links.entries k ≡ true → (Tied h → (t : TransactionId) → kept g.work t ≡ unless_on k (kept h.work t)) → ((j : ℕ) → is_in g.links.entries j ≡ cond (k == j) false (is_in h.links.entries j)) → (Tied h → Tied g) → g.opened ≡ h.opened → LeavesHere h g (steps.LinkEnd k) (Ok (d, replies.LinkEnded))
 here-link_end h g k d n o lg kg tied og =
-    answered-here h g (steps.LinkEnd k) d replies.LinkEnded (λ told. (tt, tt)) tt (fits-closed h g k tied kg og)
-    (λ told f. (none_drawn d n, subst (λ (b : Bool). EndKeeps k (view_of_held h) (view_of_held g) told told b replies.LinkEnded) (sym o) (record { live = lg f.tied; links = kg; opened = og; below = refl })))
+    answered-here h g (steps.LinkEnd k) d replies.LinkEnded (λ told. (tt, tt)) tt tt (fits-closed h g k tied kg og)
+    (λ told f. (none_drawn d n, subst (λ (b : Bool). EndKeeps k (view_of_held h) (view_of_held g) told told b replies.LinkEnded) (sym o) (record { live = lg f.tied; links = kg; opened = og }, refl)))
 
 pub here-no_end : (h : Held) (k : ℕ) (d : DrawnIds) → d ≡ nothing_drawn → is_in h.links.entries k ≡ false → LeavesHere h h (steps.LinkEnd k) (Ok (d, replies.NoLink))
 here-no_end h k d n o =
-    answered-here h h (steps.LinkEnd k) d replies.NoLink (λ told. (tt, tt)) tt (λ f. f)
+    answered-here h h (steps.LinkEnd k) d replies.NoLink (λ told. (tt, tt)) tt tt (λ f. f)
     (λ told f. (none_drawn d n, subst (λ (b : Bool). EndKeeps k (view_of_held h) (view_of_held h) told told b replies.NoLink) (sym o) (unchanged h told)))
 
 -- ---- control messages
@@ -232,7 +267,7 @@ here-no_link h k payload d n o =
 pub here-closed : (h g : Held) (k : ℕ) (payload : List ℕ) (d : DrawnIds) → d ≡ nothing_drawn → message_of payload ≡ None → is_in h.links.entries k ≡ true → (Tied h → (t : TransactionId) → kept g.work t ≡ unless_on k (kept h.work t)) → ((j : ℕ) → is_in g.links.entries j ≡ cond (k == j) false (is_in h.links.entries j)) → (Tied h → Tied g) → g.opened ≡ h.opened → LeavesHere h g (steps.Control k payload) (Ok (d, replies.LinkClosed amqp_errors.NotAllowed))
 here-closed h g k payload d n e o lg kg tied og =
     control-here h g k payload d true None (replies.LinkClosed amqp_errors.NotAllowed) e o (λ told. (tt, tt)) (fits-closed h g k tied kg og)
-    (λ told f. (none_drawn d n, record { live = lg f.tied; links = kg; opened = og; below = refl }))
+    (λ told f. (none_drawn d n, record { live = lg f.tied; links = kg; opened = og }, refl))
 
 -- ---- declares
 
@@ -266,12 +301,14 @@ here-repeat h g k payload d e o same drew =
 pub here-declared : (h roomy g : Held) (k : ℕ) (payload : List ℕ) (d : DrawnIds) (id : TransactionId) → message_of payload ≡ declare_of None → is_in h.links.entries k ≡ true → SameHeld h roomy → DrewUnused (kept roomy.work) d.ids id → ((t : TransactionId) → kept g.work t ≡ cond (same_id t id) (Some (Some k, [])) (kept roomy.work t)) → ((j : ℕ) → is_in g.links.entries j ≡ is_in roomy.links.entries j) → (Tied roomy → Tied g) → g.opened ≡ roomy.opened → LeavesHere h g (steps.Control k payload) (Ok (d, replies.Declared id))
 here-declared h roomy g k payload d id e o same drew lg kg tied og =
     control-here h g k payload d true (declare_of None) (replies.Declared id) e o (λ told. (tt, tt)) (λ f. fits-declared roomy g tied kg og (fits-same h roomy same f))
-    (λ told f. record {
-      unused = drew-unused h roomy d.ids id same drew;
-      live = λ t. lg t ∙ ap (cond (same_id t id) (Some (Some k, []))) (same.live t);
-      links = record { links = λ j. kg j ∙ ap is_some (same.links j); opened = og ∙ same.opened };
-      below = refl;
-    })
+    (λ told f. (
+      record {
+        unused = drew-unused h roomy d.ids id same drew;
+        live = λ t. lg t ∙ ap (cond (same_id t id) (Some (Some k, []))) (same.live t);
+        links = record { links = λ j. kg j ∙ ap is_some (same.links j); opened = og ∙ same.opened };
+      },
+      refl,
+    ))
 
 pub here-declare_wanting : (h g : Held) (k : ℕ) (payload : List ℕ) → message_of payload ≡ declare_of None → is_in h.links.entries k ≡ true → SameHeld h g → LeavesHere h g (steps.Control k payload) (Err errors.NoMemory)
 here-declare_wanting h g k payload e o same = wanting-here h g (steps.Control k payload) same (wants (view_of_held h) k payload (declare_of None) e o refl) tt
@@ -371,9 +408,11 @@ keeps-fault h g told now k payload discharge U (commit_faults.Refused error hand
       answer = subst (λ (fs : List Frame). MatchBool (is_unknown error) (UnderDead v (steps.Control k payload) × (handed ≡ 0)) (Refused v told now (steps.Control k payload) fs error handed)) (commit-hands h k payload discharge e rb o on) (commit_stopped v told now k payload _ error handed x.1);
     }
 
-pub leaves-fault : {S : Type 0} (tells : S → Told) (sure : Bool) (reviews : S → S → List Frame → Result Verdict NoMemory → Type 0) (h g : Held) (below now : S) (k : ℕ) (payload : List ℕ) (discharge : Discharge) (fault : CommitFault) → message_of payload ≡ discharge_of discharge → is_rollback discharge.fail ≡ false → is_in h.links.entries k ≡ true → is_kept_on k (kept h.work discharge.txn_id) ≡ true → CommittedWith h g (tells below) (tells now) discharge.txn_id (frames_kept (kept h.work discharge.txn_id)) (now ≡ below) (Err fault) → HandsSurely sure (Err fault) → (tells now).fixed ≡ (tells below).fixed → (tells below).refusals ≤ (tells now).refusals → (tells below).reviews.vetoes ≤ (tells now).reviews.vetoes → StepLeaves tells sure reviews h g below now (steps.Control k payload) (Err (step_error_of fault))
-leaves-fault tells sure reviews h g below now k payload discharge commit_faults.NoMemory e rb o on x surely fixed later counted = record {
+pub leaves-fault : {S : Type 0} (tells : S → Told) (sure : Bool) (reviews : S → S → List Frame → Result Verdict NoMemory → Type 0) (checks : S → S → Disposition → Result Unit SessionInnerError → Type 0) (h g : Held) (below now : S) (k : ℕ) (payload : List ℕ) (discharge : Discharge) (fault : CommitFault) → message_of payload ≡ discharge_of discharge → is_rollback discharge.fail ≡ false → is_in h.links.entries k ≡ true → is_kept_on k (kept h.work discharge.txn_id) ≡ true → CommittedWith h g (tells below) (tells now) discharge.txn_id (frames_kept (kept h.work discharge.txn_id)) (now ≡ below) (Err fault) → HandsSurely sure (Err fault) → (tells now).fixed ≡ (tells below).fixed → (tells below).refusals ≤ (tells now).refusals → (tells below).reviews.vetoes ≤ (tells now).reviews.vetoes → StepLeaves tells sure reviews checks h g below now (steps.Control k payload) (Err (step_error_of fault))
+leaves-fault tells sure reviews checks h g below now k payload discharge commit_faults.NoMemory e rb o on x surely fixed later counted = record {
   keeps = keeps-fault h g (tells below) (tells now) k payload discharge (now ≡ below) commit_faults.NoMemory e rb o on x;
+  left = view-moved h g x.0;
+  checked = tt;
   cause = tt;
   surely = tt;
   ended = tt;
@@ -384,10 +423,12 @@ leaves-fault tells sure reviews h g below now k payload discharge commit_faults.
   later = later;
   counted = counted;
 }
-leaves-fault tells sure reviews h g below now k payload discharge (commit_faults.Refused error handed) e rb o on x surely fixed later counted =
+leaves-fault tells sure reviews checks h g below now k payload discharge (commit_faults.Refused error handed) e rb o on x surely fixed later counted =
     let is : error ≡ faults.NoMemory = x.1.handed.0 in
     record {
       keeps = keeps-fault h g (tells below) (tells now) k payload discharge (now ≡ below) (commit_faults.Refused error handed) e rb o on x;
+      left = when_known (is_unknown error) _ _ (ap is_unknown is) (subst (CommitEnds k (view_of_held h) (view_of_held g)) (sym e) (ends h g k discharge.txn_id on x.0));
+      checked = tt;
       cause = when_known (is_unknown error) _ _ (ap is_unknown is) x.1.cause;
       surely = surely_commit sure k payload (commit_faults.Refused error handed) surely;
       ended = tt;
@@ -405,6 +446,8 @@ pub here-end : (h : Held) (s : Step) (own : SessionStopReason) (takes : Bool) (e
 here-end h s own takes (errors.Fault error handed) x e has w = absurd x
 here-end h s own takes (errors.Ended got) x e has w = record {
   keeps = λ told f. record { fits = f; answer = e ∙ ap Some (sym x) };
+  left = same-view (view_of_held h);
+  unanswered = tt;
   cause = λ told. e ∙ ap Some (sym x);
   ended = subst (λ (o : Option SessionStopReason). AnswersEnd o (Err (errors.Ended got))) (sym e) x;
   same = tt;

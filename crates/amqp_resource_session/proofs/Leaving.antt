@@ -1,28 +1,48 @@
 -- What a step leaves, by whether it makes a call below.
 use Rattle.std.proofs.Common.{◌≡◌, ◌≤◌, ℕ, Bool, true, false, Option, Some, None, Result, Ok, Err, List, [], ◌∷◌, refl, sym, ◌∙◌, ap, arith, subst}
 use Rattle.std.specs.Prelude.{⊤, is_some, MatchBool, IfOk}
-use Rattle.amqp_resource_session.specs.Words.{Answers, CommitFault, Discharge, DrawnIds, Drew, Error, Frame, Held, NoMemory, Reply, Rose, SessionInnerError, Step, StepError, Told, TransactionId, Verdict, is_plain_frame, is_rollback, message_of, txn}
+use Rattle.amqp_below_layer.specs.declared.answers.Answers.{Answers}
+use Rattle.amqp_below_sessions.specs.declared.transacting.CommitFault.{CommitFault}
+use Rattle.amqp_txn_codec.specs.declared.message.Discharge.{Discharge}
+use Rattle.amqp_below_ids.specs.Drawn.{DrawnIds}
+use Rattle.amqp_below_ids.specs.Ids.{Drew}
+use Rattle.amqp_txn_types.specs.declared.delivery.Error.{Error}
+use Rattle.amqp_txn_types.specs.declared.performatives.Frame.{Frame}
+use Rattle.amqp_resource_held.specs.declared.held.Held.{Held}
+use Rattle.amqp_txn_types.specs.declared.items.NoMemory.{NoMemory}
+use Rattle.amqp_resource_record.specs.declared.reply.Reply.{Reply}
+use Rattle.amqp_txn_types.specs.Counts.{Rose}
+use Rattle.amqp_below_layer.specs.declared.inner_error.SessionInnerError.{SessionInnerError}
+use Rattle.amqp_resource_record.specs.declared.step.Step.{Step}
+use Rattle.amqp_resource_record.specs.declared.stop.StepError.{StepError}
+use Rattle.amqp_below_layer.specs.Told.{Told, open_told}
+use Rattle.amqp_txn_types.specs.declared.id.TransactionId.{TransactionId}
+use Rattle.amqp_below_layer.specs.declared.verdict.Verdict.{Verdict}
+use Rattle.amqp_txn_types.specs.Frames.{is_plain_frame, txn}
+use Rattle.amqp_txn_codec.specs.Discharges.{is_rollback}
+use Rattle.amqp_txn_codec.specs.Reading.{message_of}
 use Rattle.amqp_txn_types.specs.declared.small.TransactionError.TheVariants as transaction_errors
 use Rattle.amqp_txn_codec.specs.declared.message.ControlMessageBody.TheVariants as messages
 use Rattle.amqp_below_layer.specs.declared.verdict.Verdict.TheVariants as verdicts
 use Rattle.amqp_txn_types.specs.declared.performatives.Disposition.{Disposition}
 use Rattle.amqp_txn_types.specs.declared.performatives.Flow.{Flow}
-use Rattle.amqp_below_layer.specs.Taking.{ChecksAll}
-use Rattle.amqp_below_layer.specs.Told.{open_told}
+use Rattle.amqp_below_layer.specs.Taking.{ChecksAll, ChecksGiven}
+use Rattle.amqp_txn_types.specs.Presumptive.{answered_under}
 use Rattle.amqp_resource_record.proofs.Whole.{plain_none}
 use Rattle.amqp_below_ids.proofs.Draws.{Drew-none}
 use Rattle.amqp_resource_record.specs.declared.step.Step.TheVariants as steps
 use Rattle.amqp_resource_record.specs.declared.reply.Reply.TheVariants as replies
 use Rattle.amqp_resource_record.specs.declared.stop.StepError.TheVariants as errors
 use Rattle.amqp_below_sessions.specs.declared.transacting.CommitFault.TheVariants as commit_faults
-use Rattle.amqp_resource_session.specs.Held.{SameHeld}
+use Rattle.amqp_resource_held.specs.Held.{SameHeld}
 use Rattle.amqp_resource_session.specs.Committing.{HandsSurely, OnNoEchoes}
 use Rattle.amqp_resource_session.specs.Transacting.{step_error_of}
-use Rattle.amqp_resource_session.specs.Keeping.{Fits, Keeps}
+use Rattle.amqp_resource_held.specs.Changes.{Fits}
+use Rattle.amqp_resource_session.specs.Keeping.{ErrorKeeps, Keeps}
 use Rattle.amqp_resource_session.specs.Leaving.{LeavesHere, StepDraws, StepLeaves}
-use Rattle.amqp_resource_session.specs.Steps.{IfRefused, IfVeto, IsPost, OnNoCall, OnNoMemory, OnVeto, StepCause, StopsSurely, calls_nothing, has_error, is_unanswered, is_unknown, local_end, nothing_drawn, remote_end, rolls_back_by, step_hands}
-use Rattle.amqp_resource_session.specs.Views.{view_of_held}
-use Rattle.amqp_resource_session.proofs.Moved.{keeps_moved, same_moved}
+use Rattle.amqp_resource_session.specs.Steps.{ChecksAnswer, ChecksUnder, ChecksWork, IfRefused, IfVeto, IsPost, OnNoCall, OnNoMemory, OnVeto, RepliesToNoFrame, StepCause, StopsSurely, calls_nothing, fault_of, has_error, is_unanswered, is_unknown, local_end, nothing_drawn, remote_end, rolls_back_by, step_hands}
+use Rattle.amqp_resource_held.specs.Views.{view_of_held}
+use Rattle.amqp_resource_session.proofs.Moved.{keeps_moved, left_moved, same_moved}
 use Rattle.amqp_resource_session.proofs.Parts.{on_false}
 
 -- ---- calls
@@ -125,25 +145,59 @@ surely_commit sure k payload (commit_faults.Refused error handed) f = by_known (
 
 -- ---- all clauses
 
+-- no call was made below, so no work was answered
+checks-answer_here : {S : Type 0} (checks : S → S → Disposition → Result Unit SessionInnerError → Type 0) (below : S) (frame : Frame) (given : List Frame) (result : Result (DrawnIds × Reply) StepError) → RepliesToNoFrame result (steps.Frame frame) → IfRefused result (λ error handed. ⊥) → ChecksAnswer checks below below given result
+checks-answer_here checks below frame given (Ok out) none refused = absurd none
+checks-answer_here checks below frame given (Err (errors.Fault error handed)) unanswered refused =
+    let none : ⊥ → ((own : SessionInnerError) × (error ≡ fault_of own) × ChecksGiven checks below below given (Err own)) = λ x. absurd x in
+    on_false ⊤ (is_unknown error) none refused
+checks-answer_here checks below frame given (Err (errors.Ended reason)) none refused = tt
+checks-answer_here checks below frame given (Err (errors.Stopped code)) none refused = tt
+checks-answer_here checks below frame given (Err errors.NoMemory) none refused = tt
+
+checks-under_here : {S : Type 0} (checks : S → S → Disposition → Result Unit SessionInnerError → Type 0) (below : S) (frame : Frame) (o : Option TransactionId) (result : Result (DrawnIds × Reply) StepError) → RepliesToNoFrame result (steps.Frame frame) → IfRefused result (λ error handed. ⊥) → ChecksUnder checks below below frame o result
+checks-under_here checks below frame None result none refused = tt
+checks-under_here checks below frame (Some id) result none refused = checks-answer_here checks below frame (answered_under id frame) result none refused
+
+checks-here : {S : Type 0} (checks : S → S → Disposition → Result Unit SessionInnerError → Type 0) (below : S) (s : Step) (result : Result (DrawnIds × Reply) StepError) → RepliesToNoFrame result s → IfRefused result (λ error handed. ⊥) → ChecksWork checks below below s result
+checks-here checks below (steps.Frame frame) result none refused = checks-under_here checks below frame (txn frame) result none refused
+checks-here checks below (steps.Control k payload) result none refused = tt
+checks-here checks below (steps.LinkEnd k) result none refused = tt
+checks-here checks below (steps.LocalEnd error) result none refused = tt
+checks-here checks below (steps.RemoteEnd error) result none refused = tt
+checks-here checks below (steps.ConnectionStop reason) result none refused = tt
+
+-- a frame under no id has nothing checked
+pub checks-none : {S : Type 0} (checks : S → S → Disposition → Result Unit SessionInnerError → Type 0) (below now : S) (frame : Frame) (result : Result (DrawnIds × Reply) StepError) → txn frame ≡ None → ChecksWork checks below now (steps.Frame frame) result
+checks-none checks below now frame result e = subst (λ (o : Option TransactionId). ChecksUnder checks below now frame o result) (sym e) tt
+
+-- a frame under an id
+pub checks-post : {S : Type 0} (checks : S → S → Disposition → Result Unit SessionInnerError → Type 0) (below now : S) (frame : Frame) (id : TransactionId) (result : Result (DrawnIds × Reply) StepError) → txn frame ≡ Some id → ChecksAnswer checks below now (answered_under id frame) result → ChecksWork checks below now (steps.Frame frame) result
+checks-post checks below now frame id result e x = subst (λ (o : Option TransactionId). ChecksUnder checks below now frame o result) (sym e) x
+
 -- no call was made below
-pub leaves-here : {S : Type 0} (tells : S → Told) (sure : Bool) (reviews : S → S → List Frame → Result Verdict NoMemory → Type 0) (h g : Held) (below : S) (s : Step) (result : Result (DrawnIds × Reply) StepError) → LeavesHere h g s result → StepLeaves tells sure reviews h g below below s result
-leaves-here tells sure reviews h g below s result x = record {
+pub leaves-here : {S : Type 0} (tells : S → Told) (sure : Bool) (reviews : S → S → List Frame → Result Verdict NoMemory → Type 0) (checks : S → S → Disposition → Result Unit SessionInnerError → Type 0) (h g : Held) (below : S) (s : Step) (result : Result (DrawnIds × Reply) StepError) → LeavesHere h g s result → StepLeaves tells sure reviews checks h g below below s result
+leaves-here tells sure reviews checks h g below s result x = record {
   keeps = λ f. x.keeps (tells below) f;
+  left = x.left;
   cause = x.cause (tells below);
   surely = surely_here sure s result x.cause;
   ended = x.ended;
   same = x.same;
   untouched = no_call_holds s result (below ≡ below) refl;
   reviewed = no_veto s result _ (x.cause open_told);
+  checked = checks-here checks below s result x.unanswered (no_refusal s result (x.cause open_told));
   fixed = refl;
   later = omega arith;
   counted = omega arith;
 }
 
 -- a frame for which calls were made below
-pub leaves-frame : {S : Type 0} (tells : S → Told) (sure : Bool) (reviews : S → S → List Frame → Result Verdict NoMemory → Type 0) (h g : Held) (below now : S) (frame : Frame) (result : Result (DrawnIds × Reply) StepError) → (Fits h → Keeps h g (tells below) (tells now) (steps.Frame frame) result) → StepCause (tells below) (tells now) (steps.Frame frame) result → OnNoMemory result (SameHeld h g) → OnNoCall (steps.Frame frame) result (now ≡ below) → OnVeto result (reviews below now (step_hands (view_of_held h) (steps.Frame frame)) (Ok verdicts.Veto)) → (tells now).fixed ≡ (tells below).fixed → (tells below).refusals ≤ (tells now).refusals → (tells now).reviews ≡ (tells below).reviews → StepLeaves tells sure reviews h g below now (steps.Frame frame) result
-leaves-frame tells sure reviews h g below now frame result keeps cause same untouched reviewed fixed later unreviewed = record {
+pub leaves-frame : {S : Type 0} (tells : S → Told) (sure : Bool) (reviews : S → S → List Frame → Result Verdict NoMemory → Type 0) (checks : S → S → Disposition → Result Unit SessionInnerError → Type 0) (h g : Held) (below now : S) (frame : Frame) (result : Result (DrawnIds × Reply) StepError) → (Fits h → Keeps h g (tells below) (tells now) (steps.Frame frame) result) → StepCause (tells below) (tells now) (steps.Frame frame) result → OnNoMemory result (SameHeld h g) → OnNoCall (steps.Frame frame) result (now ≡ below) → OnVeto result (reviews below now (step_hands (view_of_held h) (steps.Frame frame)) (Ok verdicts.Veto)) → ChecksWork checks below now (steps.Frame frame) result → ErrorKeeps (view_of_held h) (view_of_held g) (steps.Frame frame) result → (tells now).fixed ≡ (tells below).fixed → (tells below).refusals ≤ (tells now).refusals → (tells now).reviews ≡ (tells below).reviews → StepLeaves tells sure reviews checks h g below now (steps.Frame frame) result
+leaves-frame tells sure reviews checks h g below now frame result keeps cause same untouched reviewed checked left fixed later unreviewed = record {
   keeps = keeps;
+  left = left;
+  checked = checked;
   cause = cause;
   surely = surely_other result;
   ended = tt;
@@ -156,9 +210,11 @@ leaves-frame tells sure reviews h g below now frame result keeps cause same unto
 }
 
 -- what is kept may stand in other memory
-pub leaves-moved : {S : Type 0} (tells : S → Told) (sure : Bool) (reviews : S → S → List Frame → Result Verdict NoMemory → Type 0) (h m g : Held) (below now : S) (s : Step) (result : Result (DrawnIds × Reply) StepError) → SameHeld m g → StepLeaves tells sure reviews h m below now s result → StepLeaves tells sure reviews h g below now s result
-leaves-moved tells sure reviews h m g below now s result same x = record {
+pub leaves-moved : {S : Type 0} (tells : S → Told) (sure : Bool) (reviews : S → S → List Frame → Result Verdict NoMemory → Type 0) (checks : S → S → Disposition → Result Unit SessionInnerError → Type 0) (h m g : Held) (below now : S) (s : Step) (result : Result (DrawnIds × Reply) StepError) → SameHeld m g → StepLeaves tells sure reviews checks h m below now s result → StepLeaves tells sure reviews checks h g below now s result
+leaves-moved tells sure reviews checks h m g below now s result same x = record {
   keeps = λ f. keeps_moved h m g (tells below) (tells now) s result same (x.keeps f);
+  left = left_moved h m g s result same x.left;
+  checked = x.checked;
   cause = x.cause;
   surely = x.surely;
   ended = x.ended;

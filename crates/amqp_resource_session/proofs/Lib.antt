@@ -1,6 +1,4 @@
-pub mod Kept
-pub mod Views
-pub mod Standing
+pub mod Handed
 pub mod Handing
 pub mod Recorded
 pub mod Parts

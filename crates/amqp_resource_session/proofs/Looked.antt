@@ -1,67 +1,9 @@
--- The looks that a change makes.
-use Rattle.std.proofs.Common.{◌≡◌, ◌≤◌, ◌<◌, ◌+◌, ℕ, Bool, true, false, cond, Option, Some, None, List, [], ◌∷◌, ◌++◌, length, take, arith, sym, ap, ◌∙◌, add-zero}
-use Rattle.std.specs.Prelude.{get_or, is_some}
-use Rattle.std.specs.List.{sum_by}
-use Rattle.std.proofs.lemmas.List.{take_more}
+-- How many frames of transactional work there are among the entries.
+use Rattle.std.proofs.Common.{◌≡◌, ◌+◌, List, [], ◌∷◌, ◌++◌, ap, ◌∙◌, add-zero}
 use Rattle.std.proofs.lemmas.List.Sums.{sum_by-append, sum_by-cons}
-use Rattle.amqp_resource_session.specs.Words.{Discharge, Entry, Frame, Held, Live, Step, TransactionId, frame_count, frames_kept, kept, message_of, owed, txn}
-use Rattle.amqp_txn_codec.specs.declared.message.ControlMessageBody.TheVariants as messages
-use Rattle.amqp_resource_log.specs.Live.{Kept}
-use Rattle.amqp_resource_record.specs.declared.step.Step.TheVariants as steps
-use Rattle.amqp_resource_session.specs.Held.{is_in, is_kept_on}
+use Rattle.amqp_resource_record.specs.declared.entry.Entry.{Entry}
 use Rattle.amqp_resource_session.specs.Drive.{work_count}
-use Rattle.amqp_resource_session.specs.Looking.{Adds, Pays, dues, frames_added, frames_ended, frames_on, message_ends}
-
--- what makes no look pays for anything
-pub pays_none : (work : Live) (looks ended added : ℕ) → Pays work work looks looks ended added
-pays_none work looks ended added = record { ended = omega arith; all = omega arith }
-
-pub pays_adds : (old new : Live) (looks ended added : ℕ) → Adds old new added → Pays old new looks looks ended added
-pays_adds old new looks ended added x = record { ended = omega (arith, x.owed); all = omega (arith, x.owed, x.frames) }
-
--- frames taken out, so many of an id
-pub pays_taken : (old new : Live) (looks now n : ℕ) → now ≡ looks + n → owed new ≡ owed old + n → frame_count new + n ≡ frame_count old → Pays old new looks now n 0
-pays_taken old new looks now n l o f = record { ended = omega (arith, l, o); all = omega (arith, l, o, f) }
-
--- the log closed up after
-pub pays_settled : (old mid new : Live) (looks then now ended added : ℕ) → Pays old mid looks then ended added → frame_count new ≡ frame_count mid → now + owed new ≤ then + owed mid → Pays old new looks now ended added
-pays_settled old mid new looks then now ended added x f l = record { ended = omega (arith, x.ended, l); all = omega (arith, x.all, l, f) }
-
-pub adds_weaker : (old new : Live) (more : ℕ) → Adds old new 0 → Adds old new more
-adds_weaker old new more x = record { owed = x.owed; frames = omega (arith, x.frames) }
-
--- ---- the ids of a link
-
-pub fewer : (b : Bool) (o : Option Kept) → length (frames_kept (cond b None o)) ≤ length (frames_kept o)
-fewer true o = omega arith
-fewer false o = omega arith
-
-pub summed_more : (f : TransactionId → ℕ) (ids : List TransactionId) (i : ℕ) (id : TransactionId) → i < length ids → id ≡ get_or ids i id → sum_by f (take (i + 1) ids) ≡ sum_by f (take i ids) + f id
-summed_more f ids i id l e =
-    ap (sum_by f) (take_more ids i id l) ∙ sum_by-append f (take i ids) (get_or ids i id ∷ [])
-    ∙ ap (λ n. sum_by f (take i ids) + n) (sum_by-cons f (get_or ids i id) [] ∙ add-zero (f (get_or ids i id)) ∙ ap f (sym e))
-
--- ---- what a step ends
-
-pub ends_discharged : (h : Held) (k : ℕ) (payload : List ℕ) (discharge : Discharge) → message_of payload ≡ Some (messages.Discharge discharge) → is_in h.links.entries k ≡ true → is_kept_on k (kept h.work discharge.txn_id) ≡ true → length (frames_kept (kept h.work discharge.txn_id)) ≡ frames_ended h (steps.Control k payload)
-ends_discharged h k payload discharge m o on =
-    sym (ap (λ b. cond b (message_ends h k (message_of payload)) 0) o ∙ ap (message_ends h k) m
-    ∙ ap (λ b. cond b (length (frames_kept (kept h.work discharge.txn_id))) 0) on)
-
-pub ends_closed : (h : Held) (k : ℕ) (payload : List ℕ) → message_of payload ≡ None → is_in h.links.entries k ≡ true → frames_on h k ≡ frames_ended h (steps.Control k payload)
-ends_closed h k payload m o = sym (ap (λ b. cond b (message_ends h k (message_of payload)) 0) o ∙ ap (message_ends h k) m)
-
-pub adds_post : (frame : Frame) (id : TransactionId) → txn frame ≡ Some id → 1 ≡ frames_added (steps.Frame frame)
-adds_post frame id e = sym (ap (λ o. cond (is_some o) 1 0) e)
-
--- a step, whether or not its frame is among the entries: a frame ends none, and any other adds none
-pub step_spends : (h : Held) (s : Step) (old new : Live) (looks now : ℕ) → Pays old new looks now (frames_ended h s) (frames_added s) → now ≤ looks + dues old
-step_spends h (steps.Frame frame) old new looks now x = omega (arith, x.ended)
-step_spends h (steps.Control k payload) old new looks now x = omega (arith, x.all)
-step_spends h (steps.LinkEnd k) old new looks now x = omega (arith, x.all)
-step_spends h (steps.LocalEnd error) old new looks now x = omega (arith, x.all)
-step_spends h (steps.RemoteEnd error) old new looks now x = omega (arith, x.all)
-step_spends h (steps.ConnectionStop reason) old new looks now x = omega (arith, x.all)
+use Rattle.amqp_resource_held.specs.Looks.{frames_added}
 
 pub work_more : (r : List Entry) (e : Entry) → work_count (r ++ e ∷ []) ≡ work_count r + frames_added e.step
 work_more r e =

@@ -1,18 +1,30 @@
 -- What a step leaves, where what is kept of it then stands in other memory.
 use Rattle.std.proofs.Common.{Result, Ok, Err, List, ◌∙◌, ap, subst, sym}
 use Rattle.std.specs.Prelude.{is_some}
-use Rattle.amqp_resource_session.specs.Words.{Accepted, Answers, CommitFault, DrawnIds, Frame, Held, Reply, Step, StepError, Told, TransactionError, TransactionId}
+use Rattle.amqp_txn_types.specs.declared.small.Accepted.{Accepted}
+use Rattle.amqp_below_layer.specs.declared.answers.Answers.{Answers}
+use Rattle.amqp_below_sessions.specs.declared.transacting.CommitFault.{CommitFault}
+use Rattle.amqp_below_ids.specs.Drawn.{DrawnIds}
+use Rattle.amqp_txn_types.specs.declared.performatives.Frame.{Frame}
+use Rattle.amqp_resource_held.specs.declared.held.Held.{Held}
+use Rattle.amqp_resource_record.specs.declared.reply.Reply.{Reply}
+use Rattle.amqp_resource_record.specs.declared.step.Step.{Step}
+use Rattle.amqp_resource_record.specs.declared.stop.StepError.{StepError}
+use Rattle.amqp_below_layer.specs.Told.{Told}
+use Rattle.amqp_txn_types.specs.declared.small.TransactionError.{TransactionError}
+use Rattle.amqp_txn_types.specs.declared.id.TransactionId.{TransactionId}
 use Rattle.amqp_txn_types.specs.declared.small.TransactionError.TheVariants as transaction_errors
 use Rattle.amqp_below_sessions.specs.declared.transacting.CommitFault.TheVariants as commit_faults
 use Rattle.amqp_resource_record.specs.declared.stop.StepError.TheVariants as errors
-use Rattle.amqp_resource_session.specs.Held.{SameHeld}
+use Rattle.amqp_resource_held.specs.Held.{SameHeld}
 use Rattle.amqp_resource_session.specs.Steps.{OnNoMemory}
-use Rattle.amqp_resource_session.specs.Keeping.{AnswerKeeps, Keeps}
-use Rattle.amqp_resource_session.specs.Views.{View, view_of_held}
-use Rattle.amqp_resource_session.proofs.Views.{one-view, view-moved}
-use Rattle.amqp_resource_session.specs.Transacting.{CommittedIn, CommittedWith, Ended, RolledBackIn}
-use Rattle.amqp_resource_session.proofs.Fitting.{fits-same}
-use Rattle.amqp_resource_session.proofs.Kept.{tied_same}
+use Rattle.amqp_resource_session.specs.Keeping.{AnswerKeeps, ErrorKeeps, Keeps}
+use Rattle.amqp_resource_held.specs.Views.{View, view_of_held}
+use Rattle.amqp_resource_held.proofs.Views.{one-view, view-moved}
+use Rattle.amqp_resource_session.specs.Transacting.{CommittedIn, CommittedWith, RolledBackIn}
+use Rattle.amqp_resource_held.specs.Changes.{Ended}
+use Rattle.amqp_resource_held.proofs.Fitting.{fits-same}
+use Rattle.amqp_resource_held.proofs.Kept.{tied_same}
 
 -- ---- a step
 
@@ -21,6 +33,9 @@ keeps_moved h m g told now s result same x = record {
   fits = fits-same m g same x.fits;
   answer = subst (λ (w : View). AnswerKeeps (view_of_held h) w told now s result) (sym (one-view (view_of_held m) (view_of_held g) (view-moved m g same))) x.answer;
 }
+
+pub left_moved : (h m g : Held) (s : Step) (result : Result (DrawnIds × Reply) StepError) → SameHeld m g → ErrorKeeps (view_of_held h) (view_of_held m) s result → ErrorKeeps (view_of_held h) (view_of_held g) s result
+left_moved h m g s result same x = subst (λ (w : View). ErrorKeeps (view_of_held h) w s result) (sym (one-view (view_of_held m) (view_of_held g) (view-moved m g same))) x
 
 same_then : (h m g : Held) → SameHeld h m → SameHeld m g → SameHeld h g
 same_then h m g x same = record { live = λ t. same.live t ∙ x.live t; links = λ k. same.links k ∙ x.links k; opened = same.opened ∙ x.opened }

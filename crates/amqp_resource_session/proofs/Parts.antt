@@ -1,17 +1,35 @@
 -- The parts of what a step leaves, as its public clauses say them.
 use Rattle.std.proofs.Common.{◌≡◌, ℕ, Bool, true, false, Option, Some, None, Result, Ok, Err, List, refl, sym, ◌∙◌, ap, inl, inr}
 use Rattle.std.specs.Prelude.{◌⊎◌, ⊤, MatchBool, IfOk, IfErr, OnErr}
-use Rattle.amqp_resource_session.specs.Words.{Answer, AnswerControl, AnswerDeclare, AnswerFrame, AnswerLinkEnd, ControlMessageBody, DrawnIds, Entry, Frame, Held, Reply, Rose, SessionInnerError, SessionStopReason, Step, StepError, Told, TransactionId, TxnSession, hands, is_open, message_of, txn}
+use Rattle.amqp_resource_record.specs.Answers.{Answer, AnswerControl, AnswerDeclare, AnswerFrame, AnswerLinkEnd}
+use Rattle.amqp_txn_codec.specs.declared.message.ControlMessageBody.{ControlMessageBody}
+use Rattle.amqp_below_ids.specs.Drawn.{DrawnIds}
+use Rattle.amqp_resource_record.specs.declared.entry.Entry.{Entry}
+use Rattle.amqp_txn_types.specs.declared.performatives.Frame.{Frame}
+use Rattle.amqp_resource_held.specs.declared.held.Held.{Held}
+use Rattle.amqp_resource_record.specs.declared.reply.Reply.{Reply}
+use Rattle.amqp_txn_types.specs.Counts.{Rose}
+use Rattle.amqp_below_layer.specs.declared.inner_error.SessionInnerError.{SessionInnerError}
+use Rattle.amqp_txn_types.specs.declared.delivery.SessionStopReason.{SessionStopReason}
+use Rattle.amqp_resource_record.specs.declared.step.Step.{Step}
+use Rattle.amqp_resource_record.specs.declared.stop.StepError.{StepError}
+use Rattle.amqp_below_layer.specs.Told.{Told}
+use Rattle.amqp_txn_types.specs.declared.id.TransactionId.{TransactionId}
+use Rattle.amqp_resource_session.specs.declared.session.TxnSession.{TxnSession}
+use Rattle.amqp_resource_record.specs.Hands.{hands}
+use Rattle.amqp_resource_record.specs.Links.{is_open}
+use Rattle.amqp_txn_codec.specs.Reading.{message_of}
+use Rattle.amqp_txn_types.specs.Frames.{txn}
 use Rattle.amqp_txn_codec.specs.declared.message.ControlMessageBody.TheVariants as messages
 use Rattle.amqp_below_layer.specs.declared.inner_error.SessionInnerError.TheVariants as faults
 use Rattle.amqp_resource_record.specs.declared.step.Step.TheVariants as steps
 use Rattle.amqp_resource_record.specs.declared.reply.Reply.TheVariants as replies
 use Rattle.amqp_resource_record.specs.declared.stop.StepError.TheVariants as errors
-use Rattle.amqp_resource_session.specs.Held.{SameHeld, Stands}
+use Rattle.amqp_resource_held.specs.Held.{SameHeld, Stands}
 use Rattle.amqp_resource_session.specs.Session.{SameSession, StopAfter, below_of, held_of, stop_of}
 use Rattle.amqp_resource_session.specs.Steps.{AnswersEnd, FrameMayFault, IfAttachRefused, IfEnded, IfRefused, IfUnknown, IsControlAttach, IsDead, IsFirstStop, MayFault, OnAttachRefused, OnNoMemory, OnNoCall, OnVeto, Refused, StepCause, UnderDead, calls_nothing, ended_by, is_live_under, is_unknown, step_hands, takes_memory}
 use Rattle.amqp_resource_session.specs.Keeping.{AnswerKeeps, FrameKeeps, StepKeeps}
-use Rattle.amqp_resource_session.specs.Views.{View, view_of_record}
+use Rattle.amqp_resource_held.specs.Views.{View, view_of_record}
 use Rattle.amqp_resource_session.proofs.Recorded.{StepAnswered, StepGave}
 
 -- ---- choices
@@ -65,7 +83,7 @@ dead_unanswered v w old new (steps.Frame frame) d reply u x = by_id (txn frame) 
   where
     by_id : (o : Option TransactionId) (reply : Reply) → IsDead v o → FrameKeeps v w old new frame o reply → ⊥
     by_id None reply u x = u
-    by_id (Some t) (replies.Frames a) u x = let l = x.was_live in cc (l, u)
+    by_id (Some t) (replies.Frames a) u x = let l = x.arrives.was_live in cc (l, u)
     by_id (Some t) _ u x = x
 dead_unanswered v w old new _ d reply u x = u
 

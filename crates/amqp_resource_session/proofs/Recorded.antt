@@ -4,7 +4,31 @@ use Rattle.std.specs.Prelude.{is_some, MatchBool}
 use Rattle.std.specs.List.{zip}
 use Rattle.std.proofs.lemmas.List.{length-map}
 use Rattle.std.proofs.lemmas.Bool.{and_parts}
-use Rattle.amqp_resource_session.specs.Words.{AllWindowsFit, Answer, AnswerControl, AnswerDeclare, AnswerDischarge, AnswerFrame, AnswerLinkEnd, Answers, ControlMessageBody, Discharge, DrawnIds, Entry, Frame, Held, IsLegal, Reply, Step, StepError, Told, TransactionId, declares, discharges, given_by, grown, hands, home, is_coordinator_attach, is_link, is_live, is_open, is_plain_by, is_plain_frame, is_rollback, is_under, is_veto, message_of, opened_by, refused_by, stripped, txn}
+use Rattle.amqp_below_layer.specs.Windows.{AllWindowsFit}
+use Rattle.amqp_resource_record.specs.Answers.{Answer, AnswerControl, AnswerDeclare, AnswerDischarge, AnswerFrame, AnswerLinkEnd, Echoed}
+use Rattle.amqp_below_layer.specs.declared.answers.Answers.{Answers}
+use Rattle.amqp_txn_codec.specs.declared.message.ControlMessageBody.{ControlMessageBody}
+use Rattle.amqp_txn_codec.specs.declared.message.Discharge.{Discharge}
+use Rattle.amqp_below_ids.specs.Drawn.{DrawnIds}
+use Rattle.amqp_resource_record.specs.declared.entry.Entry.{Entry}
+use Rattle.amqp_txn_types.specs.declared.performatives.Frame.{Frame}
+use Rattle.amqp_resource_held.specs.declared.held.Held.{Held}
+use Rattle.amqp_resource_record.specs.Legal.{IsLegal}
+use Rattle.amqp_resource_record.specs.declared.reply.Reply.{Reply}
+use Rattle.amqp_resource_record.specs.declared.step.Step.{Step}
+use Rattle.amqp_resource_record.specs.declared.stop.StepError.{StepError}
+use Rattle.amqp_below_layer.specs.Told.{Told}
+use Rattle.amqp_txn_types.specs.declared.id.TransactionId.{TransactionId}
+use Rattle.amqp_resource_record.specs.Entries.{declares, discharges, is_under, is_veto, message_discharges}
+use Rattle.amqp_resource_record.specs.Work.{given_by, is_rejected}
+use Rattle.amqp_txn_types.specs.Growing.{grown}
+use Rattle.amqp_resource_record.specs.Hands.{hands, frames_of}
+use Rattle.amqp_resource_record.specs.Live.{home, is_link, is_live}
+use Rattle.amqp_txn_types.specs.Frames.{is_coordinator_attach, is_plain_by, is_plain_frame, stripped, txn}
+use Rattle.amqp_resource_record.specs.Links.{is_open}
+use Rattle.amqp_txn_codec.specs.Discharges.{is_rollback}
+use Rattle.amqp_txn_codec.specs.Reading.{message_of}
+use Rattle.amqp_resource_record.specs.Opened.{opened_by, refused_by}
 use Rattle.amqp_txn_types.specs.declared.small.AmqpError.TheVariants as amqp_errors
 use Rattle.amqp_txn_types.specs.declared.small.TransactionError.TheVariants as transaction_errors
 use Rattle.amqp_txn_types.specs.Ids.{is_some_id}
@@ -14,18 +38,16 @@ use Rattle.amqp_resource_record.specs.declared.step.Step.TheVariants as steps
 use Rattle.amqp_resource_record.specs.declared.reply.Reply.TheVariants as replies
 use Rattle.amqp_resource_record.specs.declared.reply.RejectText.TheVariants as texts
 use Rattle.amqp_resource_record.specs.declared.stop.StepError.TheVariants as errors
-use Rattle.amqp_resource_record.specs.Entries.{message_discharges}
-use Rattle.amqp_resource_record.specs.Hands.{frames_of}
-use Rattle.amqp_resource_record.specs.Work.{is_rejected}
-use Rattle.amqp_resource_record.specs.Answers.{Echoed}
 use Rattle.amqp_resource_record.proofs.Whole.{IsLegal-snoc}
-use Rattle.amqp_resource_session.specs.Held.{SameHeld, Stands}
-use Rattle.amqp_resource_session.specs.Views.{SameView, View, frames_in, is_held_in, view_of_held, view_of_record}
-use Rattle.amqp_resource_session.specs.Keeping.{AnswerKeeps, ControlKeeps, DeclareKeeps, DischargeHands, DischargeKeeps, EndKeeps, Ends, Fits, FrameKeeps, Keeps, NothingChanges, PlainKeeps, StepKeeps}
+use Rattle.amqp_resource_held.specs.Held.{SameHeld, Stands}
+use Rattle.amqp_resource_held.specs.Views.{SameView, View, frames_in, is_held_in, view_of_held, view_of_record}
+use Rattle.amqp_resource_session.specs.Keeping.{AnswerKeeps, ControlKeeps, DeclareKeeps, DischargeHands, DischargeKeeps, EndKeeps, FrameKeeps, Keeps, NothingChanges, PlainKeeps, StepKeeps}
+use Rattle.amqp_resource_held.specs.Changes.{Ends, Fits}
 use Rattle.amqp_resource_session.specs.Steps.{OnNoMemory, OpenedBy, Refused, RefusedBy, TookHands, UnderDead, VetoedBy, ended_by, entry_of, is_unknown, message_hands, step_hands, takes_memory}
 use Rattle.amqp_resource_session.proofs.Handing.{windows-stripped}
-use Rattle.amqp_resource_session.proofs.Standing.{LeavesLinks, stands-moved, view-attached, view-closed, view-declared, view-ended, view-post, view-quiet}
-use Rattle.amqp_resource_session.proofs.Views.{all-record, commit_hands, frames-record, hands-record, held-record, live-record, stands-view, view-stands}
+use Rattle.amqp_resource_held.proofs.Standing.{LeavesLinks, stands-moved, view-attached, view-closed, view-declared, view-ended, view-post, view-quiet}
+use Rattle.amqp_resource_held.proofs.Views.{all-record, frames-record, held-record, live-record, stands-view, view-stands}
+use Rattle.amqp_resource_session.proofs.Handed.{commit_hands, hands-record}
 
 -- ---- what was done below
 
@@ -116,9 +138,9 @@ module _ (r : List Entry) (legal : IsLegal r) (w : View) (told now : Told) where
   framed frame d (Some u) (replies.Frames a) e x =
       let t = x.below in
       let other : is_plain_frame frame ≡ false = ap (λ o. is_plain_by o (is_coordinator_attach frame)) e in (
-        (sym (live-record r u) ∙ x.was_live, x.answered),
+        (sym (live-record r u) ∙ x.arrives.was_live, x.answered),
         (
-          view-post r (entry_of (steps.Frame frame) d (replies.Frames a)) w frame u (record { attaches = λ k. refl; closes = λ k. refl; attached = refl }) (λ y. refl) (λ y. refl) refl (λ y. ap (is_some_id y) e) x.live x.links,
+          view-post r (entry_of (steps.Frame frame) d (replies.Frames a)) w frame u (record { attaches = λ k. refl; closes = λ k. refl; attached = refl }) (λ y. refl) (λ y. refl) refl (λ y. ap (is_some_id y) e) x.arrives,
           called-none told now (steps.Frame frame) _ (replies.Frames a) (ap (λ b. cond b (a.given ∷ []) []) other) refl t.taken
               (adds_nothing told.opened now.opened [] refl t.opened) (adds_nothing told.refused now.refused [] refl t.refused) (ap (λ y. y.vetoed) t.reviews),
         ),
@@ -128,11 +150,11 @@ module _ (r : List Entry) (legal : IsLegal r) (w : View) (told now : Told) where
   declared : (k : ℕ) (payload : List ℕ) (d : DrawnIds) (global : Option TransactionId) (reply : Reply) → is_open r k ≡ true → DeclareKeeps k (view_of_record r) w told now global d.ids reply → AnswerDeclare r global d.ids reply × Follows (steps.Control k payload) d reply []
   declared k payload d (Some global) (replies.Rejected transaction_errors.UnknownId texts.GlobalId) o x = (x.0, nothing (steps.Control k payload) d (replies.Rejected transaction_errors.UnknownId texts.GlobalId) [] (record { attaches = λ j. refl; closes = λ j. refl; attached = refl }) (λ t. refl) (λ t. refl) (λ t. refl) refl refl refl refl x.1)
   declared k payload d None (replies.Declared id) o x =
-      let u = x.unused in (
+      let u = x.0.unused in (
         (u.parts.0, u.parts.1, u.count, sym (all-record r u.parts.0) ∙ u.parts.2, sym (live-record r id) ∙ ap is_some u.unused),
         (
-          view-declared r (entry_of (steps.Control k payload) d (replies.Declared id)) w told now k id (record { attaches = λ j. refl; closes = λ j. refl; attached = refl }) refl o (λ t. refl) (λ t. refl) (λ t. refl) x,
-          called-same told now (steps.Control k payload) [] (replies.Declared id) refl refl refl refl x.below,
+          view-declared r (entry_of (steps.Control k payload) d (replies.Declared id)) w k id (record { attaches = λ j. refl; closes = λ j. refl; attached = refl }) refl o (λ t. refl) (λ t. refl) (λ t. refl) x.0,
+          called-same told now (steps.Control k payload) [] (replies.Declared id) refl refl refl refl x.1,
         ),
       )
   declared k payload d None (replies.Rejected transaction_errors.UnknownId texts.IdsRepeat) o x =
@@ -152,7 +174,7 @@ module _ (r : List Entry) (legal : IsLegal r) (w : View) (told now : Told) where
       }
 
   ended : (k : ℕ) (payload : List ℕ) (d : DrawnIds) (discharge : Discharge) (reply : Reply) → message_of payload ≡ Some (messages.Discharge discharge) → ((t : TransactionId) → discharges t (entry_of (steps.Control k payload) d reply) ≡ message_discharges t (message_of payload)) → LeavesLinks (entry_of (steps.Control k payload) d reply) → ((t : TransactionId) → declares t (entry_of (steps.Control k payload) d reply) ≡ false) → Ends k (view_of_record r) w discharge.txn_id → SameView (view_of_record (r ++ entry_of (steps.Control k payload) d reply ∷ [])) w
-  ended k payload d discharge reply m di q de x = view-ended r (entry_of (steps.Control k payload) d reply) w discharge.txn_id q de (λ t. di t ∙ ap (message_discharges t) m) (λ t. refl) x.live x.links
+  ended k payload d discharge reply m di q de x = view-ended r (entry_of (steps.Control k payload) d reply) w k discharge.txn_id q de (λ t. di t ∙ ap (message_discharges t) m) (λ t. refl) x
 
   discharged : (k : ℕ) (payload : List ℕ) (d : DrawnIds) (discharge : Discharge) (reply : Reply) → message_of payload ≡ Some (messages.Discharge discharge) → DischargeKeeps k (view_of_record r) w told now discharge.txn_id (is_rollback discharge.fail) d.ids reply → AnswerDischarge r k discharge.txn_id discharge.fail d.ids reply × Follows (steps.Control k payload) d reply (message_hands (view_of_record r) k (Some (messages.Discharge discharge)))
   discharged k payload d discharge (replies.Rejected transaction_errors.UnknownId texts.Absent) m x = ((sym (held-record r k discharge.txn_id) ∙ x.0, x.1), nothing (steps.Control k payload) d (replies.Rejected transaction_errors.UnknownId texts.Absent) _ (record { attaches = λ j. refl; closes = λ j. refl; attached = refl }) (λ t. refl) (λ t. refl) (λ t. refl) refl refl refl refl x.2)
@@ -192,8 +214,8 @@ module _ (r : List Entry) (legal : IsLegal r) (w : View) (told now : Told) where
       let closes = x.1 in (
         x.0,
         (
-          view-closed r (entry_of (steps.Control k payload) d (replies.LinkClosed amqp_errors.NotAllowed)) w told now k (λ t. refl) (λ t. refl) (λ t. refl) (λ j. refl) (λ j. refl) refl closes,
-          called-same told now (steps.Control k payload) [] (replies.LinkClosed amqp_errors.NotAllowed) refl refl refl refl closes.below,
+          view-closed r (entry_of (steps.Control k payload) d (replies.LinkClosed amqp_errors.NotAllowed)) w k (λ t. refl) (λ t. refl) (λ t. refl) (λ j. refl) (λ j. refl) refl closes,
+          called-same told now (steps.Control k payload) [] (replies.LinkClosed amqp_errors.NotAllowed) refl refl refl refl x.2,
         ),
       )
   controlled k payload d true None _ o e x = absurd x
@@ -204,8 +226,8 @@ module _ (r : List Entry) (legal : IsLegal r) (w : View) (told now : Told) where
   link_ended k d true replies.LinkEnded x = (
     tt,
     (
-      view-closed r (entry_of (steps.LinkEnd k) d replies.LinkEnded) w told now k (λ t. refl) (λ t. refl) (λ t. refl) (λ j. refl) (λ j. refl) refl x,
-      called-same told now (steps.LinkEnd k) [] replies.LinkEnded refl refl refl refl x.below,
+      view-closed r (entry_of (steps.LinkEnd k) d replies.LinkEnded) w k (λ t. refl) (λ t. refl) (λ t. refl) (λ j. refl) (λ j. refl) refl x.0,
+      called-same told now (steps.LinkEnd k) [] replies.LinkEnded refl refl refl refl x.1,
     ),
   )
   link_ended k d false replies.NoLink x = (tt, nothing (steps.LinkEnd k) d replies.NoLink [] (record { attaches = λ j. refl; closes = λ j. refl; attached = refl }) (λ t. refl) (λ t. refl) (λ t. refl) refl refl refl refl x)

@@ -1,43 +1,46 @@
--- A run, step by step, and its end.
-use Rattle.std.proofs.Common.{◌≡◌, ℕ, ◌+◌, ◌-◌, ◌^◌, ◌≤◌, min, Bool, true, false, not, cond, Option, Some, Result, Ok, Err, List, [], ◌∷◌, ◌++◌, length, take, refl, sym, ◌∙◌, ap, arith, subst, append-nil, append_assoc, zero-add, inl, inr}
+-- Lemmas of a run, step by step, and of its end.
+use Rattle.std.proofs.Common.{◌≡◌, ℕ, ◌+◌, ◌-◌, ◌^◌, ◌≤◌, min, Bool, true, false, not, cond, Option, Some, Err, List, [], ◌∷◌, ◌++◌, length, take, refl, sym, ◌∙◌, ap, arith, subst, append-nil, append_assoc, zero-add, inl, inr}
 use Rattle.std.specs.Prelude.{◌⊎◌, ◌↔◌, ⊤, MatchBool}
 use Rattle.std.specs.List.{zip, flat_map}
 use Rattle.std.proofs.lemmas.List.{map-append, length-append, length-map}
 use Rattle.std.proofs.lemmas.List.Concat.{flat_map-append}
 use Rattle.std.proofs.lemmas.List.Sums.{sum_by-append}
-use Rattle.amqp_resource_session.specs.Words.{DrawnIds, Drew, Entry, Frame, Held, Reply, Rose, SessionStopReason, Step, StepError, Stop, StopCode, Told, TookFrames, TransactionId, TxnSession, attach_refused_count, drawn_of, given_by, grown, handed_by, hands, is_veto, opened_by, opens, pairs, refused_by, refuses, steps_of, veto_count, vetoed_by, vetoes}
+use Rattle.amqp_below_ids.specs.Drawn.{DrawnIds}
+use Rattle.amqp_below_ids.specs.Ids.{Drew}
+use Rattle.amqp_resource_record.specs.declared.entry.Entry.{Entry}
+use Rattle.amqp_txn_types.specs.declared.performatives.Frame.{Frame}
+use Rattle.amqp_resource_held.specs.declared.held.Held.{Held}
+use Rattle.amqp_resource_record.specs.declared.reply.Reply.{Reply}
+use Rattle.amqp_txn_types.specs.Counts.{Rose}
+use Rattle.amqp_txn_types.specs.declared.delivery.SessionStopReason.{SessionStopReason}
+use Rattle.amqp_resource_record.specs.declared.step.Step.{Step}
+use Rattle.amqp_resource_record.specs.declared.stop.StepError.{StepError}
+use Rattle.amqp_resource_record.specs.declared.stop.Stop.{Stop}
+use Rattle.amqp_resource_record.specs.declared.stop.StopCode.{StopCode}
+use Rattle.amqp_below_layer.specs.Told.{Told}
+use Rattle.amqp_below_layer.specs.Taking.{TookFrames}
+use Rattle.amqp_txn_types.specs.declared.id.TransactionId.{TransactionId}
+use Rattle.amqp_resource_session.specs.declared.session.TxnSession.{TxnSession}
+use Rattle.amqp_resource_record.specs.Opened.{attach_refused_count, opened_by, refused_by, refuses, is_attach_refused}
+use Rattle.amqp_resource_record.specs.Entries.{drawn_of, is_veto, steps_of}
+use Rattle.amqp_resource_record.specs.Work.{given_by, handed_by, pairs, work, given_back}
+use Rattle.amqp_txn_types.specs.Growing.{grown}
+use Rattle.amqp_resource_record.specs.Hands.{hands}
+use Rattle.amqp_resource_record.specs.Vetoed.{veto_count, vetoed_by, vetoes}
 use Rattle.amqp_txn_types.specs.declared.small.TransactionError.TheVariants as transaction_errors
 use Rattle.amqp_below_layer.specs.declared.inner_error.SessionInnerError.TheVariants as faults
 use Rattle.amqp_below_ids.proofs.Draws.{Drew-append, Drew-none}
 use Rattle.amqp_resource_record.specs.declared.reply.Reply.TheVariants as replies
 use Rattle.amqp_resource_record.specs.declared.stop.Stop.TheVariants as stops
 use Rattle.amqp_resource_record.specs.declared.stop.StepError.TheVariants as errors
-use Rattle.amqp_resource_record.specs.Work.{work, given_back}
-use Rattle.amqp_resource_record.specs.Opened.{is_attach_refused}
 use Rattle.amqp_resource_record.proofs.Whole.{joined_after-snoc, pairs-snoc}
-use Rattle.amqp_resource_session.specs.Held.{Stands}
-use Rattle.amqp_resource_session.specs.Steps.{IfAttachRefused, IfEnded, IfRefused, IfVeto, IsControlAttach, IsFirstStop, MayFault, OnNoCall, RefusedAdds, StopsSurely, TookFirst, UnderDead, ended_by, entry_of, is_unknown}
-use Rattle.amqp_resource_session.specs.Stepping.{StepRecords}
-use Rattle.amqp_resource_session.specs.Views.{view_of_record}
-use Rattle.amqp_resource_session.specs.Session.{StopAfter, held_of, stop_of}
+use Rattle.amqp_resource_held.specs.Held.{Stands}
+use Rattle.amqp_resource_session.specs.Steps.{IfAttachRefused, IfVeto, IsControlAttach, MayFault, RefusedAdds, StopsSurely, TookFirst, UnderDead, ended_by, entry_of, is_unknown}
+use Rattle.amqp_resource_held.specs.Views.{view_of_record}
+use Rattle.amqp_resource_session.specs.Session.{held_of, stop_of}
 use Rattle.amqp_resource_session.specs.Drive.{Left, NextStep, RunLeaves, RunRefused, RunRose, RunStopsSurely, RunTook, StopCause, StopsBy, StopsWith}
+use Rattle.amqp_resource_session.specs.Ran.{Broke, Ran, Stepped, failed, handed_of, stop_by}
 use Rattle.amqp_txn_types.proofs.Growing.{grown-grown, grown-nil}
-
--- ---- the record that a run has made so far
-
--- below took its pairs, opened and refused what it says, and the source gave its ids
-pub record Ran (old new : Told) (before after : ℕ → TransactionId) (h : Held) (r : List Entry) : Type 0 where
-  pub stands : Stands h r
-  pub taken : new.taken ≡ grown old.taken (pairs r)
-  pub opened : new.opened ≡ grown old.opened (opens r)
-  pub refused : new.refused ≡ grown old.refused (refuses r)
-  pub vetoed : new.reviews.vetoed ≡ grown old.reviews.vetoed (vetoes r)
-  pub rose : min (old.refusals + attach_refused_count r) (2 ^ 64 - 1) ≤ new.refusals
-  pub vetoes_rose : min (old.reviews.vetoes + veto_count r) (2 ^ 64 - 1) ≤ new.reviews.vetoes
-  pub later : old.refusals ≤ new.refusals
-  pub counted : old.reviews.vetoes ≤ new.reviews.vetoes
-  pub fixed : new.fixed ≡ old.fixed
-  pub drew : Drew before after (drawn_of r)
 
 pairs-nil : pairs [] ≡ []
 unfolding pairs work given_back
@@ -79,17 +82,6 @@ veto_count-snoc r e = sum_by-append (λ (x : Entry). cond (is_veto x.reply) 1 0)
 vetoed-more : (before mid now count : ℕ) (reply : Reply) → min (before + count) (2 ^ 64 - 1) ≤ mid → mid ≤ now → IfVeto reply (Rose mid now) → min (before + (count + cond (is_veto reply) 1 0)) (2 ^ 64 - 1) ≤ now
 vetoed-more before mid now count (replies.Rejected transaction_errors.Rollback text) a l c = omega (arith, c)
 vetoed-more before mid now count _ a l c = omega arith
-
-abbrev answered : DrawnIds → Reply → Result (DrawnIds × Reply) StepError
-answered d reply = Ok (d, reply)
-
--- what a step that was answered leaves
-pub record Stepped (ids : ℕ → TransactionId) (g : Held) (old new : Told) (r : List Entry) (s : Step) (d : DrawnIds) (reply : Reply) : Type 0 where
-  pub by : StepRecords old new ids g r s (answered d reply)
-  pub veto : IfVeto reply (Rose old.reviews.vetoes new.reviews.vetoes)
-  pub later : old.refusals ≤ new.refusals
-  pub counted : old.reviews.vetoes ≤ new.reviews.vetoes
-  pub fixed : new.fixed ≡ old.fixed
 
 joined-more : {A : Type 0} (old mid new : Option (List A)) (f : Entry → List A) (r : List Entry) (e : Entry) → mid ≡ grown old (flat_map f r) → new ≡ grown mid (f e) → new ≡ grown old (flat_map f (r ++ e ∷ []))
 joined-more old mid new f r e a b =
@@ -153,39 +145,11 @@ same_next (x ∷ xs) ys zs s t h = same_next xs ys zs s t (let e : xs ++ s ∷ y
 
 -- ---- a step that stopped the run
 
--- the stop and the number handed by its error
-abbrev pub stop_by : StepError → Stop
-stop_by (errors.Fault error handed) = stops.Fault error
-stop_by (errors.Ended reason) = stops.Ended reason
-stop_by (errors.Stopped code) = stops.Done
-stop_by errors.NoMemory = stops.NoMemory
-
-abbrev pub handed_of : StepError → ℕ
-handed_of (errors.Fault error handed) = handed
-handed_of _ = 0
-
 pub stops_by : (error : StepError) (stop : Stop) (handed : ℕ) → StopsBy error stop handed → (stop ≡ stop_by error) × (handed ≡ handed_of error)
 stops_by (errors.Fault error n) stop handed h = h
 stops_by (errors.Ended reason) stop handed h = h
 stops_by (errors.Stopped code) stop handed h = absurd h
 stops_by errors.NoMemory stop handed h = h
-
-abbrev pub failed : StepError → Result (DrawnIds × Reply) StepError
-failed error = Err error
-
--- what the step leaves
-pub record Broke (ids : ℕ → TransactionId) (sure : Bool) (g : Held) (old new : Told) (r : List Entry) (s : Step) (error : StepError) (kept : Option StopCode) : Type 0 where
-  pub by : StepRecords old new ids g r s (failed error)
-  pub first : IsFirstStop error
-  pub surely : IfRefused (failed error) (λ e n. StopsSurely sure s n)
-  pub counted : old.reviews.vetoes ≤ new.reviews.vetoes
-  pub rose : IfRefused (failed error) (λ e n. Rose old.refusals new.refusals)
-  pub ended : (reason : SessionStopReason) → ended_by s ≡ Some reason → (failed error ≡ Err (errors.Ended reason)) ⊎ (failed error ≡ Err errors.NoMemory)
-  pub ended_only : IfEnded (failed error) (λ reason. ended_by s ≡ Some reason)
-  pub own : OnNoCall s (failed error) (new ≡ old)
-  pub later : old.refusals ≤ new.refusals
-  pub fixed : new.fixed ≡ old.fixed
-  pub stops : StopAfter (failed error) kept
 
 pick : {P Q X Y : Type 0} (b : Bool) → (Y → P) → (X → Q) → MatchBool b Y ⊤ → MatchBool b ⊤ X → MatchBool b P Q
 pick true f h y x = f y

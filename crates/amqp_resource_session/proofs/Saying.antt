@@ -1,19 +1,32 @@
 -- What a step says by a record that the session stood for.
 use Rattle.std.proofs.Common.{◌≡◌, ℕ, Bool, Result, List, ap}
 use Rattle.std.specs.Prelude.{IfOk}
-use Rattle.amqp_resource_session.specs.Words.{AreNext, DrawnIds, Entry, Frame, Held, NoMemory, Reply, Step, StepError, Told, TransactionId, Verdict}
-use Rattle.amqp_resource_session.specs.Held.{Stands}
+use Rattle.amqp_below_ids.specs.Ids.{AreNext}
+use Rattle.amqp_below_ids.specs.Drawn.{DrawnIds}
+use Rattle.amqp_resource_record.specs.declared.entry.Entry.{Entry}
+use Rattle.amqp_txn_types.specs.declared.performatives.Frame.{Frame}
+use Rattle.amqp_resource_held.specs.declared.held.Held.{Held}
+use Rattle.amqp_txn_types.specs.declared.items.NoMemory.{NoMemory}
+use Rattle.amqp_resource_record.specs.declared.reply.Reply.{Reply}
+use Rattle.amqp_resource_record.specs.declared.step.Step.{Step}
+use Rattle.amqp_resource_record.specs.declared.stop.StepError.{StepError}
+use Rattle.amqp_below_layer.specs.Told.{Told}
+use Rattle.amqp_txn_types.specs.declared.id.TransactionId.{TransactionId}
+use Rattle.amqp_below_layer.specs.declared.verdict.Verdict.{Verdict}
+use Rattle.amqp_resource_held.specs.Held.{Stands}
+use Rattle.amqp_txn_types.specs.declared.performatives.Disposition.{Disposition}
+use Rattle.amqp_below_layer.specs.declared.inner_error.SessionInnerError.{SessionInnerError}
 use Rattle.amqp_resource_session.specs.Leaving.{StepLeaves}
 use Rattle.amqp_resource_session.specs.Stepping.{StepRecords}
 use Rattle.amqp_resource_session.specs.Steps.{OnNoCall}
-use Rattle.amqp_resource_session.specs.Views.{view_of_held, view_of_record}
+use Rattle.amqp_resource_held.specs.Views.{view_of_held, view_of_record}
 use Rattle.amqp_resource_session.proofs.Complete.{complete}
-use Rattle.amqp_resource_session.proofs.Fitting.{fits-stands}
+use Rattle.amqp_resource_held.proofs.Fitting.{fits-stands}
 use Rattle.amqp_resource_session.proofs.Parts.{no_call_weaker, on_answered, on_error, on_refused, step_attach, step_memory, step_unknown, step_unknown_only}
 use Rattle.amqp_resource_session.proofs.Recorded.{StepGave, gave, keeps-record}
 
-pub step_records : {S : Type 0} (tells : S → Told) (sure : Bool) (reviews : S → S → List Frame → Result Verdict NoMemory → Type 0) (h g : Held) (below now : S) (r : List Entry) (s : Step) (ids : ℕ → TransactionId) (result : Result (DrawnIds × Reply) StepError) → Stands h r → StepLeaves tells sure reviews h g below now s result → IfOk result (λ out. AreNext ids 0 out.0.ids) → StepRecords (tells below) (tells now) ids g r s result
-step_records tells sure reviews h g below now r s ids result st x drawn =
+pub step_records : {S : Type 0} (tells : S → Told) (sure : Bool) (reviews : S → S → List Frame → Result Verdict NoMemory → Type 0) (checks : S → S → Disposition → Result Unit SessionInnerError → Type 0) (h g : Held) (below now : S) (r : List Entry) (s : Step) (ids : ℕ → TransactionId) (result : Result (DrawnIds × Reply) StepError) → Stands h r → StepLeaves tells sure reviews checks h g below now s result → IfOk result (λ out. AreNext ids 0 out.0.ids) → StepRecords (tells below) (tells now) ids g r s result
+step_records tells sure reviews checks h g below now r s ids result st x drawn =
     let old = tells below in
     let new = tells now in
     let kept = x.keeps (fits-stands h r st) in

@@ -1,15 +1,30 @@
 -- What the transactional calls give on a session, by whether it has stopped.
 use Rattle.std.specs.Prelude.{ℕ, ◌≡◌, ◌≤◌, Bool, Option, Some, None, Result, Ok, Err, List, map}
-use Rattle.amqp_resource_session.specs.Words.{Accepted, AllocTxnIdError, Answers, CommitFault, DrawnIds, Frame, NoMemory, StopCode, Told, TransactionError, TransactionId, TxnSession, Verdict, fault_code, one_more, stripped}
+use Rattle.amqp_txn_types.specs.declared.small.Accepted.{Accepted}
+use Rattle.amqp_below_sessions.specs.declared.transacting.AllocTxnIdError.{AllocTxnIdError}
+use Rattle.amqp_below_layer.specs.declared.answers.Answers.{Answers}
+use Rattle.amqp_below_sessions.specs.declared.transacting.CommitFault.{CommitFault}
+use Rattle.amqp_below_ids.specs.Drawn.{DrawnIds}
+use Rattle.amqp_txn_types.specs.declared.performatives.Frame.{Frame}
+use Rattle.amqp_txn_types.specs.declared.items.NoMemory.{NoMemory}
+use Rattle.amqp_resource_record.specs.declared.stop.StopCode.{StopCode}
+use Rattle.amqp_below_layer.specs.Told.{Told}
+use Rattle.amqp_txn_types.specs.declared.small.TransactionError.{TransactionError}
+use Rattle.amqp_txn_types.specs.declared.id.TransactionId.{TransactionId}
+use Rattle.amqp_resource_session.specs.declared.session.TxnSession.{TxnSession}
+use Rattle.amqp_below_layer.specs.declared.verdict.Verdict.{Verdict}
+use Rattle.amqp_resource_record.specs.Stops.{fault_code}
+use Rattle.amqp_txn_types.specs.Counts.{one_more}
+use Rattle.amqp_txn_types.specs.Frames.{stripped}
 use Rattle.amqp_txn_types.specs.declared.small.TransactionError.TheVariants as transaction_errors
 use Rattle.amqp_below_layer.specs.declared.verdict.Verdict.TheVariants as verdicts
 use Rattle.amqp_below_sessions.specs.declared.transacting.AllocTxnIdError.TheVariants as allocations
 use Rattle.amqp_below_sessions.specs.declared.transacting.CommitFault.TheVariants as commit_faults
 use Rattle.amqp_resource_session.specs.Session.{FitsTogether, SameSession, below_of, frame_count_of, held_of, owed_of, refusals_of, stop_of, told_of, view_of}
 use Rattle.amqp_resource_session.specs.Committing.{HandsSurely, OnNoEchoes, OnVetoed}
-use Rattle.amqp_resource_session.specs.Passing.{counted}
+use Rattle.amqp_txn_types.specs.Counts.{counted}
 use Rattle.amqp_resource_session.specs.Transacting.{AllocatedIn, CommittedIn, RolledBackIn}
-use Rattle.amqp_resource_session.specs.Views.{frames_in}
+use Rattle.amqp_resource_held.specs.Views.{frames_in}
 
 -- one fact where the session had stopped, another where it runs
 abbrev pub by_stop : Option StopCode → Type 0 → Type 0 → Type 0

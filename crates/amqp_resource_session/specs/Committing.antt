@@ -2,7 +2,15 @@
 -- handed one after another.
 use Rattle.std.specs.Prelude.{ℕ, ◌≡◌, ◌≤◌, ⊤, Bool, true, Result, Ok, Err, List, [], ◌∷◌, length, take, map}
 use Rattle.std.specs.List.{zip}
-use Rattle.amqp_resource_session.specs.Words.{AllWindowsFit, Answers, CommitFault, Frame, Rose, Told, TookFrames, TransactionError, grown}
+use Rattle.amqp_below_layer.specs.Windows.{AllWindowsFit}
+use Rattle.amqp_below_layer.specs.declared.answers.Answers.{Answers}
+use Rattle.amqp_below_sessions.specs.declared.transacting.CommitFault.{CommitFault}
+use Rattle.amqp_txn_types.specs.declared.performatives.Frame.{Frame}
+use Rattle.amqp_txn_types.specs.Counts.{Rose}
+use Rattle.amqp_below_layer.specs.Told.{Told}
+use Rattle.amqp_below_layer.specs.Taking.{TookFrames}
+use Rattle.amqp_txn_types.specs.declared.small.TransactionError.{TransactionError}
+use Rattle.amqp_txn_types.specs.Growing.{grown}
 use Rattle.amqp_txn_types.specs.declared.small.TransactionError.TheVariants as transaction_errors
 use Rattle.amqp_below_layer.specs.declared.inner_error.SessionInnerError.TheVariants as faults
 use Rattle.amqp_below_sessions.specs.declared.transacting.CommitFault.TheVariants as commit_faults

@@ -1,6 +1,15 @@
 -- When a step is answered well.
 use Rattle.std.specs.Prelude.{ℕ, ◌≡◌, Result, Ok, Err, List, length}
-use Rattle.amqp_resource_session.specs.Words.{AreNext, DrawnIds, Entry, Reply, Rose, Step, StepError, Told, TransactionId, Valid}
+use Rattle.amqp_below_ids.specs.Ids.{AreNext}
+use Rattle.amqp_below_ids.specs.Drawn.{DrawnIds}
+use Rattle.amqp_resource_record.specs.declared.entry.Entry.{Entry}
+use Rattle.amqp_resource_record.specs.declared.reply.Reply.{Reply}
+use Rattle.amqp_txn_types.specs.Counts.{Rose}
+use Rattle.amqp_resource_record.specs.declared.step.Step.{Step}
+use Rattle.amqp_resource_record.specs.declared.stop.StepError.{StepError}
+use Rattle.amqp_below_layer.specs.Told.{Told}
+use Rattle.amqp_txn_types.specs.declared.id.TransactionId.{TransactionId}
+use Rattle.amqp_resource_record.specs.Valid.{Valid}
 use Rattle.amqp_resource_record.specs.declared.reply.Reply.TheVariants as replies
 use Rattle.amqp_resource_record.specs.declared.stop.StepError.TheVariants as errors
 

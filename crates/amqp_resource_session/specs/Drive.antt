@@ -1,13 +1,27 @@
 -- What driving a list of steps leaves.
 use Rattle.std.specs.Prelude.{ℕ, ◌≡◌, ◌≤◌, ◌+◌, ◌-◌, ◌^◌, ◌⊎◌, Bool, true, false, not, min, Option, Some, None, List, ◌∷◌, ◌++◌, length, take, MatchBool, if◌then◌else◌}
 use Rattle.std.specs.List.{sum_by}
-use Rattle.amqp_resource_session.specs.Words.{Entry, Frame, Refusal, SessionInnerError, Step, StepError, Stop, TookFrames, TxnSession, attach_refused_count, grown, hands, pairs, refuses, steps_of, veto_count}
+use Rattle.amqp_resource_record.specs.declared.entry.Entry.{Entry}
+use Rattle.amqp_txn_types.specs.declared.performatives.Frame.{Frame}
+use Rattle.amqp_below_layer.specs.declared.refusal.Refusal.{Refusal}
+use Rattle.amqp_below_layer.specs.declared.inner_error.SessionInnerError.{SessionInnerError}
+use Rattle.amqp_resource_record.specs.declared.step.Step.{Step}
+use Rattle.amqp_resource_record.specs.declared.stop.StepError.{StepError}
+use Rattle.amqp_resource_record.specs.declared.stop.Stop.{Stop}
+use Rattle.amqp_below_layer.specs.Taking.{TookFrames}
+use Rattle.amqp_resource_session.specs.declared.session.TxnSession.{TxnSession}
+use Rattle.amqp_resource_record.specs.Opened.{attach_refused_count, refuses}
+use Rattle.amqp_txn_types.specs.Growing.{grown}
+use Rattle.amqp_resource_record.specs.Hands.{hands}
+use Rattle.amqp_resource_record.specs.Work.{pairs}
+use Rattle.amqp_resource_record.specs.Entries.{steps_of}
+use Rattle.amqp_resource_record.specs.Vetoed.{veto_count}
 use Rattle.amqp_resource_record.specs.declared.stop.Stop.TheVariants as stops
 use Rattle.amqp_resource_record.specs.declared.stop.StepError.TheVariants as errors
 use Rattle.amqp_resource_record.specs.Stops.{code_of}
 use Rattle.amqp_resource_session.specs.Steps.{is_unknown, ended_by, takes_memory, StopsSurely, UnderDead, MayFault, AddsRefusal}
-use Rattle.amqp_resource_session.specs.Views.{view_of_record}
-use Rattle.amqp_resource_session.specs.Looking.{frames_added}
+use Rattle.amqp_resource_held.specs.Views.{view_of_record}
+use Rattle.amqp_resource_held.specs.Looks.{frames_added}
 use Rattle.amqp_resource_session.specs.Session.{StandsFor, stop_of}
 
 -- the steps are those of the entries, and then these

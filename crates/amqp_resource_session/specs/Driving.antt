@@ -1,12 +1,22 @@
 -- What driving a list of steps gives.
 use Rattle.std.specs.Prelude.{ℕ, ◌≡◌, ◌≤◌, ◌↔◌, Bool, Option, Some, List, length, take}
-use Rattle.amqp_resource_session.specs.Words.{Drew, IsLegal, SessionStopReason, Step, Told, TransactionId, TxnSession, drawn_of, grown, opens, steps_of, vetoes}
+use Rattle.amqp_below_ids.specs.Ids.{Drew}
+use Rattle.amqp_resource_record.specs.Legal.{IsLegal}
+use Rattle.amqp_txn_types.specs.declared.delivery.SessionStopReason.{SessionStopReason}
+use Rattle.amqp_resource_record.specs.declared.step.Step.{Step}
+use Rattle.amqp_below_layer.specs.Told.{Told}
+use Rattle.amqp_txn_types.specs.declared.id.TransactionId.{TransactionId}
+use Rattle.amqp_resource_session.specs.declared.session.TxnSession.{TxnSession}
+use Rattle.amqp_resource_record.specs.Entries.{drawn_of, steps_of}
+use Rattle.amqp_txn_types.specs.Growing.{grown}
+use Rattle.amqp_resource_record.specs.Opened.{opens}
+use Rattle.amqp_resource_record.specs.Vetoed.{vetoes}
 use Rattle.amqp_below_layer.specs.declared.inner_error.SessionInnerError.TheVariants as faults
 use Rattle.amqp_resource_record.specs.declared.stop.Driven.{Driven}
 use Rattle.amqp_resource_record.specs.declared.stop.Stop.TheVariants as stops
 use Rattle.amqp_resource_session.specs.Drive.{NextStep, RunLeaves, RunRefused, RunRose, RunStopsSurely, RunTook, RunVetoed, StopCause, StopsWith}
 use Rattle.amqp_resource_session.specs.Steps.{UnderDead, ended_by}
-use Rattle.amqp_resource_session.specs.Views.{view_of_record}
+use Rattle.amqp_resource_held.specs.Views.{view_of_record}
 use Rattle.amqp_resource_session.specs.Session.{FitsTogether, told_of}
 
 -- the clauses of a run of these steps, each by its name

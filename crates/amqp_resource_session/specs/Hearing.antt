@@ -1,15 +1,23 @@
 -- What a session does with the frames and the control links that come by its calls.
 use Rattle.std.specs.Prelude.{ℕ, ◌≡◌, ◌⊎◌, ◌&&◌, ◌==◌, ◌-◌, ◌^◌, Bool, true, false, not, is_none, MatchBool, Option, Some, None, Result, Ok, Err, List}
-use Rattle.amqp_resource_session.specs.Words.{Attach, Frame, SessionInnerError, StopCode, Told, TransactionId, TxnSession, fault_code, is_coordinator_attach, txn}
+use Rattle.amqp_txn_types.specs.declared.performatives.Attach.{Attach}
+use Rattle.amqp_txn_types.specs.declared.performatives.Frame.{Frame}
+use Rattle.amqp_below_layer.specs.declared.inner_error.SessionInnerError.{SessionInnerError}
+use Rattle.amqp_resource_record.specs.declared.stop.StopCode.{StopCode}
+use Rattle.amqp_below_layer.specs.Told.{Told}
+use Rattle.amqp_txn_types.specs.declared.id.TransactionId.{TransactionId}
+use Rattle.amqp_resource_session.specs.declared.session.TxnSession.{TxnSession}
+use Rattle.amqp_resource_record.specs.Stops.{fault_code}
+use Rattle.amqp_txn_types.specs.Frames.{is_coordinator_attach, txn}
 use Rattle.amqp_txn_types.specs.declared.performatives.Frame.TheVariants as frames
 use Rattle.amqp_below_layer.specs.declared.inner_error.SessionInnerError.TheVariants as faults
 use Rattle.amqp_below_layer.specs.Inner.{Took}
 use Rattle.amqp_resource_session.specs.Calls.{GoesOn, by_stop}
-use Rattle.amqp_resource_session.specs.Held.{SameHeld}
-use Rattle.amqp_resource_session.specs.Views.{SameLinks}
+use Rattle.amqp_resource_held.specs.Held.{SameHeld}
 use Rattle.amqp_resource_session.specs.Opening.{OpensLink, frames_of}
-use Rattle.amqp_resource_session.specs.Passing.{counted}
-use Rattle.amqp_resource_session.specs.Posting.{Posted}
+use Rattle.amqp_txn_types.specs.Counts.{counted}
+use Rattle.amqp_txn_types.specs.Presumptive.{answered_under}
+use Rattle.amqp_resource_held.specs.Changes.{Arrives}
 use Rattle.amqp_resource_session.specs.Session.{FitsTogether, SameSession, below_of, held_of, is_live_on, opened_of, refusals_of, stop_of, view_of}
 
 -- the session refuses by itself, and all but its count is as it was
@@ -56,8 +64,8 @@ pub record HearsControl {S : Type 0} (told : S → Told)
 abbrev pub HearsLive : {S : Type 0} → TxnSession S → TxnSession S → Frame → TransactionId
     → Result (List Frame) SessionInnerError → Type 0
 HearsLive old new frame id (Ok given) =
-    Posted (held_of old).work (held_of new).work frame id (Ok given)
-    × SameLinks (view_of old) (view_of new) × GoesOn old new
+    (given ≡ answered_under id frame) × Arrives (view_of old) (view_of new) frame id
+    × GoesOn old new
 HearsLive old new frame id (Err error) = (error ≡ faults.NoMemory) × SameSession old new
 
 -- a frame under an id that isn't live stops the session, and nothing else changes

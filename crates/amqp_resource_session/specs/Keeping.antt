@@ -1,8 +1,22 @@
 -- What a step answers and leaves, by the view before it and the view after it. Clauses take the
 -- views of a session that hasn't stopped, whether it stands for a record or not; proofs also that
 -- of a record.
-use Rattle.std.specs.Prelude.{ℕ, Bool, true, false, ◌==◌, ◌≡◌, ◌≤◌, ◌+◌, cond, Option, Some, None, Result, Ok, Err, List, [], map, MatchBool}
-use Rattle.amqp_resource_session.specs.Words.{Answers, ControlMessageBody, DrawnIds, Frame, Held, Reply, Steady, Step, StepError, TakesFrame, Told, TransactionId, answered_under, is_coordinator_attach, is_rollback, message_of, same_id, stripped, txn, with_frame}
+use Rattle.std.specs.Prelude.{ℕ, Bool, true, false, ◌≡◌, Option, Some, None, Result, Ok, Err, List, [], map, MatchBool}
+use Rattle.amqp_below_layer.specs.declared.answers.Answers.{Answers}
+use Rattle.amqp_txn_codec.specs.declared.message.ControlMessageBody.{ControlMessageBody}
+use Rattle.amqp_below_ids.specs.Drawn.{DrawnIds}
+use Rattle.amqp_txn_types.specs.declared.performatives.Frame.{Frame}
+use Rattle.amqp_resource_held.specs.declared.held.Held.{Held}
+use Rattle.amqp_resource_record.specs.declared.reply.Reply.{Reply}
+use Rattle.amqp_below_layer.specs.Told.{Steady, Told}
+use Rattle.amqp_resource_record.specs.declared.step.Step.{Step}
+use Rattle.amqp_resource_record.specs.declared.stop.StepError.{StepError}
+use Rattle.amqp_below_layer.specs.Taking.{TakesFrame}
+use Rattle.amqp_txn_types.specs.declared.id.TransactionId.{TransactionId}
+use Rattle.amqp_txn_types.specs.Presumptive.{answered_under}
+use Rattle.amqp_txn_types.specs.Frames.{is_coordinator_attach, stripped, txn}
+use Rattle.amqp_txn_codec.specs.Discharges.{is_rollback}
+use Rattle.amqp_txn_codec.specs.Reading.{message_of}
 use Rattle.amqp_txn_types.specs.declared.small.AmqpError.TheVariants as amqp_errors
 use Rattle.amqp_txn_types.specs.declared.small.TransactionError.TheVariants as transaction_errors
 use Rattle.amqp_txn_codec.specs.declared.message.ControlMessageBody.TheVariants as messages
@@ -10,17 +24,11 @@ use Rattle.amqp_resource_record.specs.declared.step.Step.TheVariants as steps
 use Rattle.amqp_resource_record.specs.declared.reply.RejectText.TheVariants as texts
 use Rattle.amqp_resource_record.specs.declared.reply.Reply.TheVariants as replies
 use Rattle.amqp_resource_record.specs.declared.stop.StepError.TheVariants as errors
-use Rattle.amqp_resource_session.specs.Held.{Tied, is_in, unless_on}
-use Rattle.amqp_resource_session.specs.Draws.{DrewLive, DrewUnused}
-use Rattle.amqp_resource_session.specs.Views.{SameLinks, SameLive, SameView, View, frames_in, is_held_in, is_live_in, view_of_held}
+use Rattle.amqp_resource_held.specs.Draws.{DrewLive}
+use Rattle.amqp_resource_held.specs.Views.{SameView, View, frames_in, is_held_in, view_of_held}
+use Rattle.amqp_resource_held.specs.Changes.{Arrives, Attaches, Closes, Declares, Ends, Fits}
 use Rattle.amqp_resource_session.specs.Steps.{OpenedBy, Refused, RefusedBy, UnderDead, ended_by, is_unknown, step_hands, takes_memory}
 use Rattle.amqp_resource_session.specs.Committing.{HandsAll}
-
--- what is kept fits together: the ids of each link are the live ids that were declared on it, and
--- no open link has the number of one that is yet to be opened
-pub record Fits (h : Held) : Type 0 where
-  pub tied : Tied h
-  pub links : (k : ℕ) → h.opened ≤ k → is_in h.links.entries k ≡ false
 
 -- nothing changes, and no call was made below
 pub record NothingChanges (old new : View) (told now : Told) : Type 0 where
@@ -33,19 +41,9 @@ pub record NothingChanges (old new : View) (told now : Told) : Type 0 where
 -- taken, opened or refused, and the answer is its presumptive disposition, or no frame
 pub record PostKeeps (old new : View) (told now : Told) (frame : Frame) (id : TransactionId)
     (answers : Answers) : Type 0 where
-  pub live : (t : TransactionId) → new.live t ≡ cond (same_id t id) (with_frame (old.live t) frame)
-      (old.live t)
-  pub was_live : is_live_in old id ≡ true
-  pub links : SameLinks old new
+  pub arrives : Arrives old new frame id
   pub below : Steady told now
   pub answered : answers ≡ record { given = answered_under id frame; window = None }
-
--- a link was opened, with the next number
-pub record Attaches (old new : View) (link : ℕ) : Type 0 where
-  pub number : link ≡ old.opened
-  pub live : SameLive old new
-  pub links : (j : ℕ) → new.links j ≡ cond (old.opened == j) true (old.links j)
-  pub opened : new.opened ≡ old.opened + 1
 
 -- below opened or refused what the reply says, and nothing was taken or vetoed
 pub record AttachCalls (told now : Told) (frame : Frame) (reply : Reply) : Type 0 where
@@ -75,24 +73,6 @@ FrameKeeps old new told now frame (Some id) _ = ⊥
 
 -- ---- control messages and the ends of links
 
--- a link is open no more, the ids that it declared aren't live, and all else stays; no call was
--- made below
-pub record Closes (k : ℕ) (old new : View) (told now : Told) : Type 0 where
-  pub live : (t : TransactionId) → new.live t ≡ unless_on k (old.live t)
-  pub links : (j : ℕ) → new.links j ≡ cond (k == j) false (old.links j)
-  pub opened : new.opened ≡ old.opened
-  pub below : now ≡ told
-
--- an id was declared: it is the last drawn, and the first of them that wasn't live; it has the link
--- and no frames, and all else stays; no call was made below
-pub record Declares (k : ℕ) (old new : View) (told now : Told) (drawn : List TransactionId)
-    (id : TransactionId) : Type 0 where
-  pub unused : DrewUnused old.live drawn id
-  pub live : (t : TransactionId) → new.live t ≡ cond (same_id t id) (Some (Some k, []))
-      (old.live t)
-  pub links : SameLinks old new
-  pub below : now ≡ told
-
 -- a declare, by its global id: with one it is rejected; without one an id is declared, or the
 -- declare is rejected where 16 live ids were drawn
 abbrev pub DeclareKeeps : ℕ → View → View → Told → Told → Option TransactionId
@@ -101,17 +81,11 @@ DeclareKeeps k old new told now (Some global) drawn
     (replies.Rejected transaction_errors.UnknownId texts.GlobalId) =
     (drawn ≡ []) × NothingChanges old new told now
 DeclareKeeps k old new told now None drawn (replies.Declared id) =
-    Declares k old new told now drawn id
+    Declares k old new drawn id × (now ≡ told)
 DeclareKeeps k old new told now None drawn
     (replies.Rejected transaction_errors.UnknownId texts.IdsRepeat) =
     DrewLive old.live drawn × NothingChanges old new told now
 DeclareKeeps k old new told now _ drawn _ = ⊥
-
--- a live id that the link declared is live no more, and all else stays
-pub record Ends (k : ℕ) (old new : View) (id : TransactionId) : Type 0 where
-  pub held : is_held_in old k id ≡ true
-  pub live : (t : TransactionId) → new.live t ≡ cond (same_id t id) None (old.live t)
-  pub links : SameLinks old new
 
 -- a rollback hands nothing, a commit the frames under the id, each stripped
 abbrev pub DischargeHands : Told → Told → Bool → List Frame → List Answers → Type 0
@@ -143,7 +117,7 @@ DischargeKeeps k old new told now id rollback drawn _ = ⊥
 abbrev pub MessageKeeps : ℕ → View → View → Told → Told → Option ControlMessageBody
     → List TransactionId → Reply → Type 0
 MessageKeeps k old new told now None drawn (replies.LinkClosed amqp_errors.NotAllowed) =
-    (drawn ≡ []) × Closes k old new told now
+    (drawn ≡ []) × Closes k old new × (now ≡ told)
 MessageKeeps k old new told now None drawn _ = ⊥
 MessageKeeps k old new told now (Some (messages.Declare declare)) drawn reply =
     DeclareKeeps k old new told now declare.global_id drawn reply
@@ -161,7 +135,7 @@ ControlKeeps k old new told now true message drawn reply =
 
 -- the end of a link, by whether it is open
 abbrev pub EndKeeps : ℕ → View → View → Told → Told → Bool → Reply → Type 0
-EndKeeps k old new told now true replies.LinkEnded = Closes k old new told now
+EndKeeps k old new told now true replies.LinkEnded = Closes k old new × (now ≡ told)
 EndKeeps k old new told now false replies.NoLink = NothingChanges old new told now
 EndKeeps k old new told now _ _ = ⊥
 
@@ -188,6 +162,30 @@ AnswerKeeps old new told now s (Err (errors.Fault error handed)) =
 AnswerKeeps old new told now s (Err (errors.Ended reason)) = ended_by s ≡ Some reason
 AnswerKeeps old new told now s (Err (errors.Stopped code)) = ⊥
 AnswerKeeps old new told now s (Err errors.NoMemory) = takes_memory old s ≡ true
+
+-- a message whose commit was refused below has ended its id
+abbrev pub CommitEnds : ℕ → View → View → Option ControlMessageBody → Type 0
+CommitEnds k old new (Some (messages.Discharge discharge)) = Ends k old new discharge.txn_id
+CommitEnds k old new _ = ⊥
+
+-- work whose presumptive disposition was refused below is kept, and a plain frame changes nothing
+abbrev pub RefusedFrameKeeps : View → View → Frame → Option TransactionId → Type 0
+RefusedFrameKeeps old new frame None = SameView old new
+RefusedFrameKeeps old new frame (Some id) = Arrives old new frame id
+
+-- a step that a refusal below stopped
+abbrev pub RefusedKeeps : View → View → Step → Type 0
+RefusedKeeps old new (steps.Frame frame) = RefusedFrameKeeps old new frame (txn frame)
+RefusedKeeps old new (steps.Control k payload) = CommitEnds k old new (message_of payload)
+RefusedKeeps old new _ = ⊥
+
+-- what is kept after an error: an id that isn't live, an end and out of memory leave all as it was
+abbrev pub ErrorKeeps : View → View → Step → Result (DrawnIds × Reply) StepError → Type 0
+ErrorKeeps old new s (Err (errors.Fault error handed)) =
+    MatchBool (is_unknown error) (SameView old new) (RefusedKeeps old new s)
+ErrorKeeps old new s (Err (errors.Ended reason)) = SameView old new
+ErrorKeeps old new s (Err errors.NoMemory) = SameView old new
+ErrorKeeps old new s _ = Unit {0}
 
 -- what a step leaves: what is kept fits together, and the answer says what became of it
 pub record Keeps (old new : Held) (told now : Told) (s : Step)

@@ -1,9 +1,15 @@
 -- What the attach of a control link does to what a session keeps.
 use Rattle.std.specs.Prelude.{ℕ, ◌≡◌, ◌+◌, ◌==◌, cond, Some, Result, Ok, Err, List, []}
-use Rattle.amqp_resource_session.specs.Words.{Attach, Frame, Held, SessionInnerError, Told}
+use Rattle.amqp_txn_types.specs.declared.performatives.Attach.{Attach}
+use Rattle.amqp_txn_types.specs.declared.performatives.Frame.{Frame}
+use Rattle.amqp_resource_held.specs.declared.held.Held.{Held}
+use Rattle.amqp_below_layer.specs.declared.inner_error.SessionInnerError.{SessionInnerError}
+use Rattle.amqp_below_layer.specs.Told.{Told}
 use Rattle.amqp_below_layer.specs.Inner.{Opened}
-use Rattle.amqp_resource_session.specs.Held.{SameHeld, ids_on}
-use Rattle.amqp_resource_session.specs.Views.{SameLive, view_of_held}
+use Rattle.amqp_resource_session.specs.declared.frame_steps.LinkOpening.{LinkOpening}
+use Rattle.amqp_resource_session.specs.declared.frame_steps.LinkOpening.TheVariants as openings
+use Rattle.amqp_resource_held.specs.Held.{SameHeld, ids_on}
+use Rattle.amqp_resource_held.specs.Views.{SameLive, view_of_held}
 
 -- the frames given back for a link that was opened
 abbrev pub frames_of : {E : Type 0} → Result (ℕ × List Frame) E → Result (List Frame) E
@@ -26,3 +32,14 @@ OpensLink told opens old new below now attach (Ok link) =
     AddsLink old new link.0 × Opened told opens below now attach (Ok link.1)
 OpensLink told opens old new below now attach (Err error) =
     SameHeld old new × Opened told opens below now attach (Err error)
+
+-- the same, or there was no room for the link, and nothing changes
+abbrev pub OpensBy : {S : Type 0} → (S → Told)
+    → (S → S → Attach → Result (List Frame) SessionInnerError → Type 0)
+    → Held → Held → S → S → Attach → LinkOpening → Type 0
+OpensBy told opens old new below now attach (openings.Opened link given) =
+    OpensLink told opens old new below now attach (Ok (link, given))
+OpensBy told opens old new below now attach (openings.Refused error) =
+    OpensLink told opens old new below now attach (Err error)
+OpensBy told opens old new below now attach openings.NoMemory =
+    SameHeld old new × (now ≡ below)

@@ -1,12 +1,8 @@
 -- The calls of a session that the layer below answers.
-use Rattle.std.specs.Prelude.{ℕ, ◌≡◌, Result, Ok, Err}
-use Rattle.amqp_resource_session.specs.Words.{TxnSession, one_more}
+use Rattle.std.specs.Prelude.{◌≡◌, Result}
+use Rattle.amqp_resource_session.specs.declared.session.TxnSession.{TxnSession}
+use Rattle.amqp_txn_types.specs.Counts.{counted}
 use Rattle.amqp_resource_session.specs.Session.{below_of, held_of, refusals_of, stop_of, vetoes_of}
-
--- a count, with one more where the answer is an Err
-abbrev pub counted : {T E : Type 0} → Result T E → ℕ → ℕ
-counted (Ok value) count = count
-counted (Err error) count = one_more count
 
 -- a call that the layer below answers, by what that told and gave: what the session keeps and its
 -- stop are as they were, and an Err is counted

@@ -3,17 +3,28 @@ use Rattle.std.specs.Prelude.{ℕ, ◌≡◌, Bool, true, false, not, Option, So
 use Rattle.std.proofs.Common.{refl, ◌∙◌, subst}
 use Rattle.std.proofs.lemmas.Bool.{and_parts}
 use Rattle.std.specs.List.{list_all}
-use Rattle.amqp_resource_session.specs.Words.{Attach, DeliveryState, Frame, NoMemory, Reviews, SessionInnerError, StopCode, Told, TransactionId, TxnSession, Verdict, is_bare, is_coordinator_attach, is_under_txn, one_more, txn}
+use Rattle.amqp_txn_types.specs.declared.performatives.Attach.{Attach}
+use Rattle.amqp_txn_types.specs.declared.delivery.DeliveryState.{DeliveryState}
+use Rattle.amqp_txn_types.specs.declared.performatives.Frame.{Frame}
+use Rattle.amqp_txn_types.specs.declared.items.NoMemory.{NoMemory}
+use Rattle.amqp_below_layer.specs.Told.{Reviews, Told}
+use Rattle.amqp_below_layer.specs.declared.inner_error.SessionInnerError.{SessionInnerError}
+use Rattle.amqp_resource_record.specs.declared.stop.StopCode.{StopCode}
+use Rattle.amqp_txn_types.specs.declared.id.TransactionId.{TransactionId}
+use Rattle.amqp_resource_session.specs.declared.session.TxnSession.{TxnSession}
+use Rattle.amqp_below_layer.specs.declared.verdict.Verdict.{Verdict}
+use Rattle.amqp_below_layer.specs.Reviewing.{is_bare, GoesOn, Lasts, StaysOn}
+use Rattle.amqp_txn_types.specs.Frames.{is_coordinator_attach, is_under_txn, txn, txn_of_state}
+use Rattle.amqp_txn_types.specs.Counts.{one_more}
 use Rattle.amqp_txn_types.specs.declared.delivery.DeliveryState.TheVariants as states
 use Rattle.amqp_txn_types.specs.declared.performatives.Disposition.{Disposition}
 use Rattle.amqp_txn_types.specs.declared.performatives.Frame.TheVariants as frames
-use Rattle.amqp_txn_types.specs.Frames.{txn_of_state}
 use Rattle.amqp_below_layer.specs.declared.verdict.Verdict.TheVariants as verdicts
-use Rattle.amqp_below_layer.specs.Reviewing.{GoesOn, Lasts, StaysOn}
 use Rattle.amqp_resource_session.specs.Calls.{by_stop}
 use Rattle.amqp_resource_session.specs.Hearing.{HearsFrame, HearsKind, HearsPlain, HearsUnbound, RefusesWith}
 use Rattle.amqp_below_layer.specs.declared.inner_error.SessionInnerError.TheVariants as faults
-use Rattle.amqp_resource_session.specs.Passing.{Passes, PassesOn, counted}
+use Rattle.amqp_resource_session.specs.Passing.{Passes, PassesOn}
+use Rattle.amqp_txn_types.specs.Counts.{counted}
 use Rattle.amqp_resource_session.specs.Session.{below_of, held_of, refusals_of, stop_of, vetoes_of}
 
 -- a count of vetoes, with one more after a Veto

@@ -1,13 +1,22 @@
 -- The parts of a session that clauses speak of.
-use Rattle.std.specs.Prelude.{ℕ, ◌≡◌, Bool, Option, Some, None, Result, Ok, Err, List, []}
-use Rattle.amqp_resource_session.specs.Words.{DrawnIds, Entry, Held, Reply, StepError, StopCode, Told, TransactionId, TxnSession, fault_code, frame_count, owed}
+use Rattle.std.specs.Prelude.{ℕ, ◌≡◌, ◌≤◌, Bool, Option, Some, None, Result, Ok, Err, List, []}
+use Rattle.amqp_below_ids.specs.Drawn.{DrawnIds}
+use Rattle.amqp_resource_record.specs.declared.entry.Entry.{Entry}
+use Rattle.amqp_resource_held.specs.declared.held.Held.{Held}
+use Rattle.amqp_resource_record.specs.declared.reply.Reply.{Reply}
+use Rattle.amqp_resource_record.specs.declared.stop.StepError.{StepError}
+use Rattle.amqp_resource_record.specs.declared.stop.StopCode.{StopCode}
+use Rattle.amqp_below_layer.specs.Told.{Told}
+use Rattle.amqp_txn_types.specs.declared.id.TransactionId.{TransactionId}
+use Rattle.amqp_resource_session.specs.declared.session.TxnSession.{TxnSession}
+use Rattle.amqp_resource_record.specs.Stops.{fault_code, ended_code}
+use Rattle.amqp_resource_log.specs.Live.{frame_count, owed}
 use Rattle.amqp_txn_types.specs.declared.small.SessionState.TheVariants.{Mapped}
 use Rattle.amqp_resource_record.specs.declared.stop.StepError.TheVariants as errors
-use Rattle.amqp_resource_record.specs.Stops.{ended_code}
-use Rattle.amqp_resource_session.specs.Held.{Stands, SameHeld}
-use Rattle.amqp_resource_session.specs.Keeping.{Fits}
-use Rattle.amqp_resource_session.specs.Views.{View, view_of_held}
-use Rattle.amqp_resource_session.specs.Draws.{is_kept}
+use Rattle.amqp_resource_held.specs.Held.{Stands, SameHeld}
+use Rattle.amqp_resource_held.specs.Changes.{Fits}
+use Rattle.amqp_resource_held.specs.Views.{View, view_of_held}
+use Rattle.amqp_resource_held.specs.Draws.{is_kept}
 
 -- what a session keeps
 abbrev pub held_of : {S : Type 0} → TxnSession S → Held
@@ -61,9 +70,10 @@ frame_count_of x = frame_count x.held.work
 abbrev pub opened_of : {S : Type 0} → TxnSession S → ℕ
 opened_of x = x.held.opened
 
--- what the session keeps fits together, as in a new one; each call of its own leaves it so
+-- what the session keeps fits together, and its log owes no more looks than it keeps frames, as in a
+-- new one; each call of its own leaves it so
 abbrev pub FitsTogether : {S : Type 0} → TxnSession S → Type 0
-FitsTogether x = Fits (held_of x)
+FitsTogether x = Fits (held_of x) × (owed_of x ≤ frame_count_of x)
 
 -- the id is live on the session
 abbrev pub is_live_on : {S : Type 0} → TxnSession S → TransactionId → Bool
@@ -81,9 +91,10 @@ pub record SameSession {S : Type 0} (old new : TxnSession S) : Type 0 where
   pub below : below_of new ≡ below_of old
   pub stop : stop_of new ≡ stop_of old
 
--- a fresh session: no live id, no link opened so far, not stopped, and mapped below
+-- a fresh session: no live id, no link opened so far, no look owed, not stopped, and mapped below
 pub record IsFresh {S : Type 0} (told : S → Told) (x : TxnSession S) : Type 0 where
   pub stands : StandsFor x []
+  pub owed : owed_of x ≡ 0
   pub runs : stop_of x ≡ None
   pub mapped : (told (below_of x)).fixed.state ≡ Mapped
 

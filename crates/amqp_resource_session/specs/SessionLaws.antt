@@ -2,12 +2,22 @@
 -- for a session over another.
 use Rattle.std.specs.Prelude.{ℕ, ◌≡◌, Bool, true, false, MatchBool, Option, Some, None, Result, Ok, Err, List}
 use Rattle.std.proofs.Common.{refl, ap, inl, inr, sym, subst}
-use Rattle.amqp_resource_session.specs.Words.{Attach, Frame, Held, NoMemory, SessionInnerError, StopCode, Told, TransactionId, TxnSession, Verdict, is_coordinator_attach, txn}
+use Rattle.amqp_txn_types.specs.declared.performatives.Attach.{Attach}
+use Rattle.amqp_txn_types.specs.declared.performatives.Frame.{Frame}
+use Rattle.amqp_resource_held.specs.declared.held.Held.{Held}
+use Rattle.amqp_txn_types.specs.declared.items.NoMemory.{NoMemory}
+use Rattle.amqp_below_layer.specs.declared.inner_error.SessionInnerError.{SessionInnerError}
+use Rattle.amqp_resource_record.specs.declared.stop.StopCode.{StopCode}
+use Rattle.amqp_below_layer.specs.Told.{Told}
+use Rattle.amqp_txn_types.specs.declared.id.TransactionId.{TransactionId}
+use Rattle.amqp_resource_session.specs.declared.session.TxnSession.{TxnSession}
+use Rattle.amqp_below_layer.specs.declared.verdict.Verdict.{Verdict}
+use Rattle.amqp_txn_types.specs.Frames.{is_coordinator_attach, txn}
 use Rattle.amqp_txn_types.specs.declared.performatives.Frame.TheVariants as frames
 use Rattle.amqp_below_layer.specs.declared.inner_error.SessionInnerError.TheVariants as faults
 use Rattle.amqp_below_layer.specs.declared.verdict.Verdict.TheVariants as verdicts
 use Rattle.amqp_below_sessions.specs.Names.{FrameLeaves, Names, OpensLink as OpensName, SameNames, left-map, opens-leaves}
-use Rattle.amqp_below_sessions.specs.Sessions.{Kept, Leaves, LeavesFrame, LeavesOpening}
+use Rattle.amqp_below_sessions.specs.Sessions.{Kept, Leaves, LeavesFrame, LeavesOpening, kept-same}
 use Rattle.amqp_resource_session.specs.Calls.{by_stop}
 use Rattle.amqp_resource_session.specs.Hearing.{HearsAttach, HearsFrame, HearsKind, HearsUnbound, HearsUnder, OpensBelow, RefusesWith, can_open}
 use Rattle.amqp_resource_session.specs.Reviewing.{AsksBelow, TxnReviews}
@@ -44,19 +54,19 @@ module _ {S : Type 0} (told : S → Told) (kept : S → Kept) (names : S → Nam
         → FrameLeaves at_once (names (below_of old)) (names (below_of new)) frame)
         → HearsUnder old new frame id live result → Left old new frame result
     under-leaves old new frame id true (Ok given) leaves hears = record {
-      kept = ap kept hears.2.below;
+      kept = kept-same _ _ _ _ (ap kept hears.2.below);
       names = leaves (names-same (below_of old) (below_of new) hears.2.below);
     }
     under-leaves old new frame id true (Err error) leaves hears =
         let Answered : SessionInnerError → Type 0 = λ e. Left old new frame (Err e) in
         subst Answered (sym hears.0) (record {
-          kept = ap kept hears.1.below;
+          kept = kept-same _ _ _ _ (ap kept hears.1.below);
           names = inr (names-same (below_of old) (below_of new) hears.1.below);
         })
     under-leaves old new frame id false result leaves hears =
         let Answered : Result (List Frame) SessionInnerError → Type 0 = Left old new frame in
         subst Answered (sym hears.answered) (record {
-          kept = ap kept hears.below;
+          kept = kept-same _ _ _ _ (ap kept hears.below);
           names = names-same (below_of old) (below_of new) hears.below;
         })
 
@@ -67,7 +77,7 @@ module _ {S : Type 0} (told : S → Told) (kept : S → Kept) (names : S → Nam
     stopped-leaves old new frame result hears =
         let Answered : Result (List Frame) SessionInnerError → Type 0 = Left old new frame in
         subst Answered (sym hears.0) (record {
-          kept = ap kept hears.1.below;
+          kept = kept-same _ _ _ _ (ap kept hears.1.below);
           names = names-same (below_of old) (below_of new) hears.1.below;
         })
 
@@ -148,7 +158,7 @@ module _ {S : Type 0} (told : S → Told) (kept : S → Kept) (names : S → Nam
           Left old new (frames.Attach attach) in
           let left = control-leaves old new attach (can_open old) hears.0 hears.1 in
           subst Answered (sym hears.2) (record {
-            kept = left.kept;
+            kept = kept-same _ _ _ _ left.kept;
             names = left-map
                 (OpensName (names (below_of old)) (names (below_of new)) attach.name)
                 (FrameLeaves at_once (names (below_of old)) (names (below_of new))

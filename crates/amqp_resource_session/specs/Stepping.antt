@@ -1,14 +1,31 @@
 -- What a step leaves of a session, by its answer.
 use Rattle.std.specs.Prelude.{ℕ, ◌≡◌, ◌≤◌, Bool, Option, Some, None, Result, Ok, Err, List, [], ◌∷◌, ◌++◌, true, IfSome, IfOk, IfErr, OnErr}
-use Rattle.amqp_resource_session.specs.Words.{Answer, DrawnIds, Drew, Entry, Frame, Held, NoMemory, Reply, Rose, Step, StepError, Told, TransactionId, TxnSession, Verdict, hands}
+use Rattle.amqp_resource_record.specs.Answers.{Answer}
+use Rattle.amqp_below_ids.specs.Drawn.{DrawnIds}
+use Rattle.amqp_below_ids.specs.Ids.{Drew}
+use Rattle.amqp_resource_record.specs.declared.entry.Entry.{Entry}
+use Rattle.amqp_txn_types.specs.declared.performatives.Frame.{Frame}
+use Rattle.amqp_resource_held.specs.declared.held.Held.{Held}
+use Rattle.amqp_txn_types.specs.declared.items.NoMemory.{NoMemory}
+use Rattle.amqp_resource_record.specs.declared.reply.Reply.{Reply}
+use Rattle.amqp_txn_types.specs.Counts.{Rose}
+use Rattle.amqp_resource_record.specs.declared.step.Step.{Step}
+use Rattle.amqp_resource_record.specs.declared.stop.StepError.{StepError}
+use Rattle.amqp_below_layer.specs.Told.{Told}
+use Rattle.amqp_txn_types.specs.declared.id.TransactionId.{TransactionId}
+use Rattle.amqp_resource_session.specs.declared.session.TxnSession.{TxnSession}
+use Rattle.amqp_below_layer.specs.declared.verdict.Verdict.{Verdict}
+use Rattle.amqp_resource_record.specs.Hands.{hands}
+use Rattle.amqp_txn_types.specs.declared.performatives.Disposition.{Disposition}
+use Rattle.amqp_below_layer.specs.declared.inner_error.SessionInnerError.{SessionInnerError}
 use Rattle.amqp_below_layer.specs.declared.inner_error.SessionInnerError.TheVariants as faults
 use Rattle.amqp_below_layer.specs.declared.verdict.Verdict.TheVariants as verdicts
 use Rattle.amqp_resource_record.specs.declared.stop.StepError.TheVariants as errors
-use Rattle.amqp_resource_session.specs.Held.{Stands}
-use Rattle.amqp_resource_session.specs.Steps.{entry_of, ended_by, takes_memory, AnswersEnd, IfEnded, IfRefused, IfUnknown, IsControlAttach, IsFirstStop, MayFault, OnAttachRefused, OnNoMemory, OnNoCall, OnVeto, OpenedBy, RefusedAdds, RefusedBy, StopsSurely, TookFirst, TookHands, UnderDead, VetoedBy, step_hands}
+use Rattle.amqp_resource_held.specs.Held.{Stands}
+use Rattle.amqp_resource_session.specs.Steps.{entry_of, ended_by, takes_memory, AnswersEnd, ChecksWork, IfEnded, IfRefused, IfUnknown, IsControlAttach, IsFirstStop, MayFault, OnAttachRefused, OnNoMemory, OnNoCall, OnVeto, OpenedBy, RefusedAdds, RefusedBy, StopsSurely, TookFirst, TookHands, UnderDead, VetoedBy, step_hands}
 use Rattle.amqp_resource_session.specs.Complete.{InOrder, Completed}
-use Rattle.amqp_resource_session.specs.Keeping.{AnswerKeeps}
-use Rattle.amqp_resource_session.specs.Views.{view_of_record}
+use Rattle.amqp_resource_session.specs.Keeping.{AnswerKeeps, ErrorKeeps}
+use Rattle.amqp_resource_held.specs.Views.{view_of_record}
 use Rattle.amqp_resource_session.specs.Session.{FitsTogether, ForEachRecord, SameSession, StopAfter, below_of, held_of, refusals_of, stop_of, told_of, vetoes_of, view_of}
 
 -- what a step answers, leaves and does below, by a record that the session stood for before it
@@ -46,9 +63,10 @@ pub record StepRecords (told now : Told) (ids : ℕ → TransactionId) (new : He
   pub complete : (n : List TransactionId) → InOrder told now ids r s n → Completed result
 
 -- the clauses of a step, each by its name: on a session over a layer that tells this, is sure or
--- not, and reviews so, with a source that gives these ids
+-- not, and reviews and checks so, with a source that gives these ids
 pub record StepSays {S G : Type 0} (told : S → Told) (sure : Bool)
     (reviews : S → S → List Frame → Result Verdict NoMemory → Type 0)
+    (checks : S → S → Disposition → Result Unit SessionInnerError → Type 0)
     (next : G → ℕ → TransactionId) (starts : G → Option (ℕ → TransactionId))
     (old new : TxnSession S) (before after : G) (s : Step)
     (result : Result (DrawnIds × Reply) StepError) : Type 0 where
@@ -71,6 +89,9 @@ pub record StepSays {S G : Type 0} (told : S → Told) (sure : Bool)
   -- A vetoed commit leaves below what the review of its frames left: no other call is made.
   pub reviewed : OnVeto result
       (reviews (below_of old) (below_of new) (step_hands (view_of old) s) (Ok verdicts.Veto))
+  -- Work that is answered with a disposition has the layer below check exactly it, and makes no
+  -- other call: the reply comes where the check was answered Ok, and its refusal is the fault.
+  pub checked : stop_of old ≡ None → ChecksWork checks (below_of old) (below_of new) s result
   -- An end is answered with its own value; a copy of its error may run out of memory.
   pub ended : stop_of old ≡ None → AnswersEnd (ended_by s) result
   pub ended_only : IfEnded result (λ reason. ended_by s ≡ Some reason)
@@ -87,6 +108,10 @@ pub record StepSays {S G : Type 0} (told : S → Told) (sure : Bool)
   pub fits : FitsTogether old → FitsTogether new
   pub keeps : stop_of old ≡ None → FitsTogether old
       → AnswerKeeps (view_of old) (view_of new) (told_of told old) (told_of told new) s result
+  -- What is kept after an error: an id that isn't live, an end and out of memory leave all as it
+  -- was, and so does the refusal of a plain frame; a refused check leaves its work kept, and a
+  -- commit that ran out of memory below has ended its id.
+  pub left : stop_of old ≡ None → ErrorKeeps (view_of old) (view_of new) s result
   pub dead : stop_of old ≡ None → FitsTogether old
       → UnderDead (view_of old) s → result ≡ Err (errors.Fault faults.UnknownTxnId 0)
   pub attach_rose : OnAttachRefused result

@@ -1,7 +1,32 @@
 -- What one step is, what it hands and takes memory for, by a view, and when each answer may come.
 use Rattle.std.specs.Prelude.{ℕ, Bool, true, false, not, cond, ◌&&◌, ◌≡◌, ◌≤◌, ◌⊎◌, ⊤, Option, Some, None, Result, Ok, Err, List, [], ◌∷◌, length, map, take, slice_get, is_some, is_none, MatchBool}
 use Rattle.std.specs.List.{zip}
-use Rattle.amqp_resource_session.specs.Words.{ControlMessageBody, DrawnIds, Entry, Error, Frame, Refusal, Reply, Rose, SessionInnerError, SessionStopReason, Step, StepError, Told, TookFrames, TransactionId, answered_under, given_by, grown, handed_by, is_coordinator_attach, is_plain_frame, is_rollback, is_veto, message_of, opened_by, refusal_of, refused_by, stripped, txn, vetoed_by}
+use Rattle.amqp_txn_codec.specs.declared.message.ControlMessageBody.{ControlMessageBody}
+use Rattle.amqp_below_ids.specs.Drawn.{DrawnIds}
+use Rattle.amqp_resource_record.specs.declared.entry.Entry.{Entry}
+use Rattle.amqp_txn_types.specs.declared.delivery.Error.{Error}
+use Rattle.amqp_txn_types.specs.declared.performatives.Frame.{Frame}
+use Rattle.amqp_below_layer.specs.declared.refusal.Refusal.{Refusal}
+use Rattle.amqp_resource_record.specs.declared.reply.Reply.{Reply}
+use Rattle.amqp_txn_types.specs.Counts.{Rose}
+use Rattle.amqp_below_layer.specs.declared.inner_error.SessionInnerError.{SessionInnerError}
+use Rattle.amqp_txn_types.specs.declared.delivery.SessionStopReason.{SessionStopReason}
+use Rattle.amqp_resource_record.specs.declared.step.Step.{Step}
+use Rattle.amqp_resource_record.specs.declared.stop.StepError.{StepError}
+use Rattle.amqp_below_layer.specs.Told.{Told, refusal_of}
+use Rattle.amqp_below_layer.specs.Taking.{TookFrames}
+use Rattle.amqp_txn_types.specs.declared.id.TransactionId.{TransactionId}
+use Rattle.amqp_txn_types.specs.Presumptive.{answered_under}
+use Rattle.amqp_resource_record.specs.Work.{given_by, handed_by}
+use Rattle.amqp_txn_types.specs.Growing.{grown}
+use Rattle.amqp_txn_types.specs.Frames.{is_coordinator_attach, is_plain_frame, stripped, txn}
+use Rattle.amqp_txn_codec.specs.Discharges.{is_rollback}
+use Rattle.amqp_resource_record.specs.Entries.{is_veto}
+use Rattle.amqp_txn_codec.specs.Reading.{message_of}
+use Rattle.amqp_resource_record.specs.Opened.{opened_by, refused_by}
+use Rattle.amqp_resource_record.specs.Vetoed.{vetoed_by}
+use Rattle.amqp_below_layer.specs.Taking.{ChecksGiven}
+use Rattle.amqp_txn_types.specs.declared.performatives.Disposition.{Disposition}
 use Rattle.amqp_txn_types.specs.declared.small.TransactionError.TheVariants as transaction_errors
 use Rattle.amqp_txn_types.specs.declared.delivery.ConnectionStopReason.{ConnectionStopReason}
 use Rattle.amqp_txn_types.specs.declared.delivery.ConnectionStopReason.TheVariants as stop_reasons
@@ -11,7 +36,7 @@ use Rattle.amqp_below_layer.specs.declared.inner_error.SessionInnerError.TheVari
 use Rattle.amqp_resource_record.specs.declared.step.Step.TheVariants as steps
 use Rattle.amqp_resource_record.specs.declared.reply.Reply.TheVariants as replies
 use Rattle.amqp_resource_record.specs.declared.stop.StepError.TheVariants as errors
-use Rattle.amqp_resource_session.specs.Views.{View, frames_in, is_held_in, is_live_in}
+use Rattle.amqp_resource_held.specs.Views.{View, frames_in, is_held_in, is_live_in}
 
 -- a step with its draws and reply
 abbrev pub entry_of : Step → DrawnIds → Reply → Entry
@@ -286,6 +311,44 @@ OnVeto (Err error) P = ⊤
 abbrev pub OnAttachRefused : Result (DrawnIds × Reply) StepError → Type 0 → Type 0
 OnAttachRefused (Ok out) P = IfAttachRefused out.1 P
 OnAttachRefused (Err error) P = ⊤
+
+-- ---- the check of a presumptive disposition
+
+-- the checks of what work is answered with at once: on a reply each of them was answered Ok, and no
+-- other call was made below; a fault is the refusal of one of them, after those before it were
+-- answered Ok (part 4, section 4.4)
+abbrev pub ChecksAnswer : {S : Type 0}
+    → (S → S → Disposition → Result Unit SessionInnerError → Type 0) → S → S → List Frame
+    → Result (DrawnIds × Reply) StepError → Type 0
+ChecksAnswer checks old new given (Ok out) = ChecksGiven checks old new given (Ok tt)
+ChecksAnswer checks old new given (Err (errors.Fault error handed)) =
+    MatchBool (is_unknown error) ⊤ ((own : SessionInnerError) × (error ≡ fault_of own)
+    × ChecksGiven checks old new given (Err own))
+ChecksAnswer checks old new given (Err _) = ⊤
+
+-- a frame, by the id that it is under, if any: of a frame under none nothing is said
+abbrev pub ChecksUnder : {S : Type 0}
+    → (S → S → Disposition → Result Unit SessionInnerError → Type 0) → S → S → Frame
+    → Option TransactionId → Result (DrawnIds × Reply) StepError → Type 0
+ChecksUnder checks old new frame None result = ⊤
+ChecksUnder checks old new frame (Some id) result =
+    ChecksAnswer checks old new (answered_under id frame) result
+
+-- a step
+abbrev pub ChecksWork : {S : Type 0}
+    → (S → S → Disposition → Result Unit SessionInnerError → Type 0) → S → S → Step
+    → Result (DrawnIds × Reply) StepError → Type 0
+ChecksWork checks old new (steps.Frame frame) result =
+    ChecksUnder checks old new frame (txn frame) result
+ChecksWork checks old new _ result = ⊤
+
+-- a reply to a step that isn't a frame
+abbrev pub RepliesToNoFrame : Result (DrawnIds × Reply) StepError → Step → Type 0
+RepliesToNoFrame (Err error) s = Unit {0}
+RepliesToNoFrame (Ok out) (steps.Frame frame) = ⊥
+RepliesToNoFrame (Ok out) _ = Unit {0}
+
+-- ---- errors
 
 -- the error isn't that of a session that had stopped before
 abbrev pub IsFirstStop : StepError → Type 0

@@ -1,29 +1,27 @@
 -- What the transactional calls of a session do. An id that such a call allocates is declared on no
 -- link: no control message discharges it, and no end of a link aborts it.
-use Rattle.std.specs.Prelude.{ℕ, ◌≡◌, true, false, cond, map, Some, None, Result, Ok, Err, List, []}
-use Rattle.amqp_resource_session.specs.Words.{Accepted, AllocTxnIdError, Answers, CommitFault, DrawnIds, Frame, Held, StepError, Told, TransactionError, TransactionId, frames_kept, kept, same_id, stripped}
+use Rattle.std.specs.Prelude.{ℕ, ◌≡◌, true, false, map, Result, Ok, Err, List}
+use Rattle.amqp_txn_types.specs.declared.small.Accepted.{Accepted}
+use Rattle.amqp_below_sessions.specs.declared.transacting.AllocTxnIdError.{AllocTxnIdError}
+use Rattle.amqp_below_layer.specs.declared.answers.Answers.{Answers}
+use Rattle.amqp_below_sessions.specs.declared.transacting.CommitFault.{CommitFault}
+use Rattle.amqp_below_ids.specs.Drawn.{DrawnIds}
+use Rattle.amqp_txn_types.specs.declared.performatives.Frame.{Frame}
+use Rattle.amqp_resource_held.specs.declared.held.Held.{Held}
+use Rattle.amqp_resource_record.specs.declared.stop.StepError.{StepError}
+use Rattle.amqp_below_layer.specs.Told.{Told}
+use Rattle.amqp_txn_types.specs.declared.small.TransactionError.{TransactionError}
+use Rattle.amqp_txn_types.specs.declared.id.TransactionId.{TransactionId}
+use Rattle.amqp_resource_log.specs.Live.{frames_kept, kept}
+use Rattle.amqp_txn_types.specs.Frames.{stripped}
 use Rattle.amqp_txn_types.specs.declared.small.TransactionError.TheVariants as transaction_errors
 use Rattle.amqp_below_sessions.specs.declared.transacting.AllocTxnIdError.TheVariants as allocations
 use Rattle.amqp_below_sessions.specs.declared.transacting.CommitFault.TheVariants as commit_faults
 use Rattle.amqp_resource_record.specs.declared.stop.StepError.TheVariants as errors
+use Rattle.amqp_resource_held.specs.Changes.{Added, Ended}
 use Rattle.amqp_resource_session.specs.Committing.{HandsAll}
-use Rattle.amqp_resource_session.specs.Draws.{DrewLive, DrewUnused, is_kept}
-use Rattle.amqp_resource_session.specs.Held.{SameHeld, Tied, ids_on, is_in, kept_without}
-
--- the id is live, on no link and with no frames; all else is as it was
-pub record Added (old new : Held) (id : TransactionId) : Type 0 where
-  pub live : (t : TransactionId) → kept new.work t ≡ cond (same_id t id) (Some (None, []))
-      (kept old.work t)
-  pub links : (k : ℕ) → ids_on new.links.entries k ≡ ids_on old.links.entries k
-  pub opened : new.opened ≡ old.opened
-
--- the id is live no more; the same links are open, and if the ids of each were the live ids
--- declared on it they still are; all else is as it was
-pub record Ended (old new : Held) (id : TransactionId) : Type 0 where
-  pub live : (t : TransactionId) → kept new.work t ≡ kept_without id old.work t
-  pub links : (k : ℕ) → is_in new.links.entries k ≡ is_in old.links.entries k
-  pub tied : Tied old → Tied new
-  pub opened : new.opened ≡ old.opened
+use Rattle.amqp_resource_held.specs.Draws.{DrewLive, DrewUnused, is_kept}
+use Rattle.amqp_resource_held.specs.Held.{SameHeld}
 
 -- an allocation: the ids drawn were live but for the last, which now is; or all 16 of them were
 -- live
@@ -48,6 +46,11 @@ CommittedWith old new told now id kept Untouched answer =
 abbrev pub step_error_of : CommitFault → StepError
 step_error_of commit_faults.NoMemory = errors.NoMemory
 step_error_of (commit_faults.Refused error handed) = errors.Fault error handed
+
+-- a commit ended so many frames, and none where memory ran out before it asked the layer below
+abbrev pub unless_starved : {T : Type 0} → Result T CommitFault → ℕ → ℕ
+unless_starved (Err commit_faults.NoMemory) count = 0
+unless_starved _ count = count
 
 -- a commit, by its answer: UnknownId where the id isn't live, else that of its frames
 abbrev pub CommittedIn : Held → Held → Told → Told → TransactionId → Type 0

@@ -1,25 +1,21 @@
 //! Declares: ids are drawn until one isn't live.
 
-ghost use Rattle.std.specs.Prelude.{◌≡◌, ◌≤◌, [], true, Some, None, MatchOption, IfOk};
+ghost use Rattle.std.specs.Prelude.{◌≡◌, true, Some, None, IfOk};
 ghost use Rattle.amqp_txn_codec.specs.Reading.{message_of};
 ghost use Rattle.amqp_txn_codec.specs.declared.message.ControlMessageBody.TheVariants as messages;
-ghost use Rattle.amqp_below_ids.specs.Ids.{Drew};
 ghost use Rattle.amqp_below_sessions.specs.Transacting.{Allocates};
 ghost use Rattle.amqp_resource_record.specs.declared.step.Step.TheVariants as steps;
-ghost use Rattle.amqp_resource_session.specs.Held.{is_in};
-ghost use Rattle.amqp_resource_log.specs.Live.{kept};
-ghost use Rattle.amqp_resource_session.specs.Draws.{DrewUnused, DrewLive};
+ghost use Rattle.amqp_resource_held.specs.Held.{is_in};
 ghost use Rattle.amqp_resource_session.specs.Transacting.{AllocatedIn};
-ghost use Rattle.amqp_resource_session.specs.Keeping.{Fits};
+ghost use Rattle.amqp_resource_held.specs.Changes.{Fits};
 ghost use Rattle.amqp_resource_session.specs.Leaving.{LeavesHere, StepDraws};
-ghost use Rattle.amqp_resource_session.specs.Looking.{Adds};
+ghost use Rattle.amqp_resource_held.specs.Looks.{Adds};
 ghost use Rattle.amqp_resource_session.specs.Steps.{nothing_drawn};
 
-use crate::held::{Held, declare_on, make_room};
 use crate::outcomes::no_draws;
 use amqp_below_ids::{Drawn, IdSource};
 use amqp_below_sessions::AllocTxnIdError;
-use amqp_resource_log::LiveWork;
+use amqp_resource_held::{Held, declare_on, draw_unused, make_room};
 use amqp_resource_record::{RejectText, Reply, StepError};
 use amqp_txn_types::{Payload, TransactionError, TransactionId};
 use std::alloc::Global;
@@ -45,30 +41,6 @@ pub fn global_step(
             text: RejectText::GlobalId,
         },
     ))
-}
-
-/// Draws up to 16 ids, to the first that isn't live, and gives back the room that is left then.
-fn draw_unused<G: IdSource>(
-    work: &LiveWork,
-    ids: &mut G,
-    drawn: &mut Drawn,
-) -> Option<TransactionId>
-    requires none { drawn.old.ids ≡ [] }
-    requires room { 16 ≤ drawn.old.spare }
-    ensures unused { MatchOption result (DrewLive (kept work.now) drawn.new.ids)
-        (λ id. DrewUnused (kept work.now) drawn.new.ids id) }
-    ensures drew { Drew (G.next ids.old) (G.next ids.new) drawn.new.ids }
-    ensures start { G.start ids.new ≡ G.start ids.old }
-{
-    for _turn in 0..16usize {
-        let id = ids.draw();
-        drawn.push(id);
-        if !work.is_live(&id) {
-            drawn.trim();
-            return Some(id);
-        }
-    }
-    None
 }
 
 /// A declare without a global id.
@@ -116,6 +88,7 @@ pub fn allocate<G: IdSource>(
 ) -> Result<Drawn, AllocTxnIdError>
     ensures answer { AllocatedIn held.old held.new result }
     ensures fits { Fits held.old → Fits held.new }
+    ensures counts { Adds held.old.work held.new.work 0 }
     ensures drew { Allocates (G.next ids.old) (G.next ids.new) result }
     ensures start { G.start ids.new ≡ G.start ids.old }
 {

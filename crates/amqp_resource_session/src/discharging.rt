@@ -8,22 +8,22 @@ ghost use Rattle.amqp_txn_types.specs.Frames.{stripped};
 ghost use Rattle.amqp_resource_record.specs.declared.step.Step.TheVariants as steps;
 ghost use Rattle.amqp_resource_record.specs.declared.reply.Reply.TheVariants as replies;
 ghost use Rattle.amqp_resource_record.specs.declared.reply.RejectText.TheVariants as texts;
-ghost use Rattle.amqp_resource_session.specs.Held.{is_in};
+ghost use Rattle.amqp_resource_held.specs.Held.{is_in};
 ghost use Rattle.amqp_resource_log.specs.Live.{frame_count, frames_kept, home_of, kept, owed};
 ghost use Rattle.amqp_resource_session.specs.Calls.{CommitCalls};
 ghost use Rattle.amqp_resource_session.specs.Committing.{HandsAll, HandsSurely};
-ghost use Rattle.amqp_resource_session.specs.Transacting.{CommittedIn, CommittedWith, Ended, RolledBackIn, step_error_of};
-ghost use Rattle.amqp_resource_session.specs.Keeping.{Fits};
+ghost use Rattle.amqp_resource_session.specs.Transacting.{unless_starved, CommittedIn, CommittedWith, RolledBackIn, step_error_of};
+ghost use Rattle.amqp_resource_held.specs.Changes.{Ended, Fits};
 ghost use Rattle.amqp_resource_session.specs.Leaving.{StepLeaves};
-ghost use Rattle.amqp_resource_session.specs.Looking.{Pays, frames_ended};
+ghost use Rattle.amqp_resource_held.specs.Looks.{Pays, frames_ended, unless_no_memory};
 ghost use Rattle.amqp_resource_session.specs.Steps.{nothing_drawn};
 
-use crate::committing::hand_reviewed;
-use crate::held::{Held, drop_work, is_declared_on, take_work};
 use crate::outcomes::{faulted, no_draws};
+use crate::review::hand_reviewed;
 use amqp_below_ids::Drawn;
 use amqp_below_layer::{Answers, Echoes, LayerBelow};
 use amqp_below_sessions::CommitFault;
+use amqp_resource_held::{Held, drop_work, is_declared_on, take_work};
 use amqp_resource_log::Looks;
 use amqp_resource_record::{RejectText, Reply, StepError};
 use amqp_txn_codec::{Discharge, rolls_back};
@@ -91,7 +91,7 @@ fn commit_live<S: LayerBelow, L: Ledger>(
     ensures later { (S.told below.old).refusals ≤ (S.told below.new).refusals }
     ensures counted { (S.told below.old).reviews.vetoes ≤ (S.told below.new).reviews.vetoes }
     ensures pays { Pays held.old.work held.new.work looks.old looks.new
-        (length (frames_kept (kept held.old.work id))) 0 }
+        (unless_starved result (length (frames_kept (kept held.old.work id)))) 0 }
 {
     let count = held.work.count(&id);
     if count == 0 {
@@ -129,11 +129,11 @@ pub fn discharge_step<S: LayerBelow, L: Ledger>(
 ) -> Result<(Drawn, Reply), StepError>
     requires message { message_of payload.now ≡ Some (messages.Discharge discharge) }
     requires opened { is_in held.old.links.entries link ≡ true }
-    ensures leaves { StepLeaves S.told S.sure S.review_gives held.old held.new below.old below.new
-        (steps.Control link payload.now) result }
+    ensures leaves { StepLeaves S.told S.sure S.review_gives S.check_gives held.old held.new below.old
+        below.new (steps.Control link payload.now) result }
     ensures draws { IfOk result (λ out. out.0 ≡ nothing_drawn) }
     ensures pays { Pays held.old.work held.new.work looks.old looks.new
-        (frames_ended held.old (steps.Control link payload.now)) 0 }
+        (unless_no_memory result (frames_ended held.old (steps.Control link payload.now))) 0 }
 {
     if !is_declared_on(&held.work, discharge.txn_id, link) {
         return Ok((no_draws(alloc), rejected(TransactionError::UnknownId)));
@@ -170,7 +170,7 @@ fn commit_id<S: LayerBelow, L: Ledger>(
     commit_live(held, below, alloc, id, home, looks)
 }
 
-/// Commits an id, whichever link declared it, and closes the log up. Its looks are counted in a
+/// Commits an id, whichever link declared it, and compacts the log. Its looks are counted in a
 /// blank ledger.
 pub fn commit_kept<S: LayerBelow, L: Ledger>(
     held: &mut Held,
@@ -193,7 +193,7 @@ pub fn commit_kept<S: LayerBelow, L: Ledger>(
 {
     let mut looks = Looks::<L>::new(blank);
     let committed = commit_id(held, below, alloc, id, &mut looks);
-    held.work.settle(&mut looks);
+    held.work.compact(&mut looks);
     committed
 }
 
@@ -212,7 +212,7 @@ fn roll_back_id<L: Ledger>(
     Ok(Accepted)
 }
 
-/// Rolls an id back, whichever link declared it, and closes the log up. Its looks are counted in a
+/// Rolls an id back, whichever link declared it, and compacts the log. Its looks are counted in a
 /// blank ledger.
 pub fn roll_back_kept<L: Ledger>(
     held: &mut Held,
@@ -228,6 +228,6 @@ pub fn roll_back_kept<L: Ledger>(
 {
     let mut looks = Looks::<L>::new(blank);
     let rolled_back = roll_back_id(held, id, &mut looks);
-    held.work.settle(&mut looks);
+    held.work.compact(&mut looks);
     rolled_back
 }

@@ -14,12 +14,12 @@ ghost use Rattle.amqp_resource_session.specs.Drive.{NextStep, RunLeaves, RunRefu
 ghost use Rattle.amqp_resource_session.specs.Driving.{DriveSays};
 ghost use Rattle.amqp_resource_session.specs.Steps.{IsFirstStop, UnderDead, ended_by, entry_of};
 ghost use Rattle.amqp_resource_session.specs.Session.{FitsTogether, IsFresh, told_of};
-ghost use Rattle.amqp_resource_session.specs.Views.{view_of_record};
+ghost use Rattle.amqp_resource_held.specs.Views.{view_of_record};
 
 use crate::session::TxnSession;
 use amqp_below_ids::{Drawn, IdSource};
 use amqp_below_layer::LayerBelow;
-use amqp_resource_log::{LiveWork, Looks};
+use amqp_resource_log::Looks;
 use amqp_resource_record::{Driven, Entries, Entry, Reply, StepError, Steps, Stop};
 use std::marker::Brand;
 use std::sync::ledger::{Blank, Ledger};
@@ -71,8 +71,8 @@ fn fill_in(entry: &mut Entry, drawn: Drawn, reply: Reply)
 ///
 /// # Requires
 ///
-/// That the session is fresh: no id is live, no link was opened, it hasn't stopped, and the layer
-/// below is Mapped.
+/// That the session is fresh: no id is live, no link was opened, no look is owed, it hasn't stopped,
+/// and the layer below is Mapped.
 pub fn drive<S: LayerBelow, G: IdSource>(
     session: &mut TxnSession<S>,
     steps: Steps,
@@ -160,9 +160,6 @@ pub fn drive_counted<S: LayerBelow, G: IdSource, L: Ledger>(
     // Two looks at most come for each entry that is a frame of transactional work.
     ensures looks { looks.new ≤ looks.old + 2 * work_count result.entries }
 {
-    let alloc = session.allocator();
-    // Nothing is kept, so the log may as well be a new one, which owes no look.
-    session.held.work = LiveWork::new(alloc);
     let mut entries = steps.into_entries();
     for at in 0..entries.len() {
         match session.step_counted(&entries[at].step, ids, looks) {

@@ -6,18 +6,16 @@ ghost use Rattle.amqp_txn_types.specs.Frames.{txn, is_coordinator_attach, is_pla
 ghost use Rattle.amqp_txn_types.specs.Works.{frame_of_work};
 ghost use Rattle.amqp_resource_record.specs.declared.step.Step.TheVariants as steps;
 ghost use Rattle.amqp_txn_types.specs.Presumptive.{answered_under, presumed};
-ghost use Rattle.amqp_resource_session.specs.Draws.{is_kept};
-ghost use Rattle.amqp_resource_session.specs.Held.{SameHeld};
-ghost use Rattle.amqp_resource_session.specs.Opening.{OpensLink};
-ghost use Rattle.amqp_resource_session.specs.Posting.{Posted, PostedIf};
+ghost use Rattle.amqp_resource_session.specs.Opening.{OpensBy};
+ghost use Rattle.amqp_resource_session.specs.Posting.{KeepsCopy, KeepsUnder};
 ghost use Rattle.amqp_resource_session.specs.Leaving.{StepLeaves};
-ghost use Rattle.amqp_resource_session.specs.Looking.{Adds, frames_added};
+ghost use Rattle.amqp_resource_held.specs.Looks.{Adds, frames_added};
 ghost use Rattle.amqp_resource_session.specs.Steps.{nothing_drawn};
 
-use crate::held::{Held, open_link};
 use crate::outcomes::{fault_of, faulted, handed_with, no_draws};
 use amqp_below_ids::Drawn;
 use amqp_below_layer::{Answers, LayerBelow, SessionInnerError, check_given, take_frame};
+use amqp_resource_held::{Held, open_link};
 use amqp_resource_log::{LiveWork, presumptive};
 use amqp_resource_record::{Reply, StepError};
 use amqp_txn_types::{
@@ -34,8 +32,8 @@ fn plain_step<S: LayerBelow>(
     frame: &Frame,
 ) -> Result<(Drawn, Reply), StepError>
     requires { is_plain_frame frame.now ≡ true }
-    ensures leaves { StepLeaves S.told S.sure S.review_gives held.now held.now below.old below.new
-        (steps.Frame frame.now) result }
+    ensures leaves { StepLeaves S.told S.sure S.review_gives S.check_gives held.now held.now below.old
+        below.new (steps.Frame frame.now) result }
     ensures draws { IfOk result (λ out. out.0 ≡ nothing_drawn) }
 {
     let Ok(copy) = frame.try_clone() else {
@@ -88,6 +86,17 @@ fn copy_work(frame: &Frame) -> Result<TxnWorkFrame, NoMemory>
     }
 }
 
+/// What became of a frame under an id.
+#[derive(Drop)]
+pub enum KeptWork {
+    /// A copy of it is kept, and it is answered at once with these frames.
+    Answered(Frames),
+    /// The id isn't live.
+    NotLive,
+    /// The id is live, and memory ran out.
+    NoMemory,
+}
+
 /// Keeps a copy of a frame under its id, and gives what it is answered at once; `None` where the id
 /// isn't live. Where memory runs out what is kept is as it was.
 fn keep_copy(
@@ -97,7 +106,7 @@ fn keep_copy(
     id: TransactionId,
 ) -> Result<Option<Frames>, NoMemory>
     requires { txn frame.now ≡ Some id }
-    ensures kept { IfOk result (λ kept. PostedIf work.old work.new frame.now id kept) }
+    ensures kept { IfOk result (λ kept. KeepsCopy work.old work.new frame.now id kept) }
     ensures err { OnErr result (work.new ≡ work.old) }
     ensures counts { Adds work.old work.new 1 }
 {
@@ -110,28 +119,21 @@ fn keep_copy(
     }
 }
 
-/// Keeps a copy of a frame under its id, and gives what it is answered at once; `None` where the
-/// id isn't live.
-pub fn keep_under(
-    work: &mut LiveWork,
-    alloc: Global,
-    frame: &Frame,
-    id: TransactionId,
-) -> Option<Result<Frames, NoMemory>>
+/// Keeps a copy of a frame under its id. The id is looked up in the log once; where memory runs out
+/// before that, a second look-up tells whether it is live, since an id that isn't is the answer then.
+pub fn keep_under(work: &mut LiveWork, alloc: Global, frame: &Frame, id: TransactionId) -> KeptWork
     requires { txn frame.now ≡ Some id }
-    ensures live { is_some result ≡ is_kept work.old id }
-    ensures posted { MatchOption result (work.new ≡ work.old)
-        (Posted work.old work.new frame.now id) }
+    ensures kept { KeepsUnder work.old work.new frame.now id result }
     ensures counts { Adds work.old work.new 1 }
 {
     match keep_copy(work, alloc, frame, id) {
-        Ok(Some(given)) => Some(Ok(given)),
-        Ok(None) => None,
-        Err(error) => {
+        Ok(Some(given)) => KeptWork::Answered(given),
+        Ok(None) => KeptWork::NotLive,
+        Err(_) => {
             if work.is_live(&id) {
-                Some(Err(error))
+                KeptWork::NoMemory
             } else {
-                None
+                KeptWork::NotLive
             }
         }
     }
@@ -146,16 +148,15 @@ fn post_step<S: LayerBelow>(
     id: TransactionId,
 ) -> Result<(Drawn, Reply), StepError>
     requires { txn frame.now ≡ Some id }
-    ensures leaves { StepLeaves S.told S.sure S.review_gives held.old held.new below.old below.new
-        (steps.Frame frame.now) result }
+    ensures leaves { StepLeaves S.told S.sure S.review_gives S.check_gives held.old held.new below.old
+        below.new (steps.Frame frame.now) result }
     ensures draws { IfOk result (λ out. out.0 ≡ nothing_drawn) }
     ensures counts { Adds held.old.work held.new.work 1 }
 {
-    let Some(kept) = keep_under(&mut held.work, alloc, frame, id) else {
-        return Err(faulted(SessionInnerError::UnknownTxnId, 0));
-    };
-    let Ok(given) = kept else {
-        return Err(StepError::NoMemory);
+    let given = match keep_under(&mut held.work, alloc, frame, id) {
+        KeptWork::Answered(given) => given,
+        KeptWork::NotLive => return Err(faulted(SessionInnerError::UnknownTxnId, 0)),
+        KeptWork::NoMemory => return Err(StepError::NoMemory),
     };
     match check_given(below, given.as_slice()) {
         Ok(()) => Ok((
@@ -169,30 +170,40 @@ fn post_step<S: LayerBelow>(
     }
 }
 
-/// Opens a control link, where the layer below takes its attach; gives the link's number and the
-/// frames to be sent back. `None` where there is no room for the link, which is made first.
+/// What became of the attach of a control link.
+#[derive(Drop)]
+pub enum LinkOpening {
+    /// The link is open: its number, and the frames to be sent back.
+    Opened { link: u64, frames: Frames },
+    /// The layer below refused the attach.
+    Refused(SessionInnerError),
+    /// There was no room for the link, and the layer below wasn't asked.
+    NoMemory,
+}
+
+/// Opens a control link, where the layer below takes its attach. Room for the link is made first.
 pub fn open_control<S: LayerBelow>(
     held: &mut Held,
     below: &mut S,
     alloc: Global,
     attach: &Attach,
-) -> Option<Result<(u64, Frames), SessionInnerError>>
+) -> LinkOpening
     requires { held.old.opened < 2 ^ 64 - 1 }
-    ensures opens { MatchOption result (SameHeld held.old held.new × (below.new ≡ below.old))
-        (OpensLink S.told S.opening_gives held.old held.new below.old below.new attach.now) }
+    ensures opens { OpensBy S.told S.opening_gives held.old held.new below.old below.new attach.now
+        result }
     ensures work { held.new.work ≡ held.old.work }
 {
     let Ok(()) = held.links.reserve(1) else {
-        return None;
+        return LinkOpening::NoMemory;
     };
     match below.on_control_attach(attach) {
         Ok(frames) => {
             let link = held.opened;
             open_link(&mut held.links, alloc, link);
             held.opened += 1;
-            Some(Ok((link, frames)))
+            LinkOpening::Opened { link, frames }
         }
-        Err(error) => Some(Err(error)),
+        Err(error) => LinkOpening::Refused(error),
     }
 }
 
@@ -205,17 +216,17 @@ fn attach_step<S: LayerBelow>(
 ) -> Result<(Drawn, Reply), StepError>
     requires coordinator { attaches_coordinator attach.now ≡ true }
     requires room { held.old.opened < 2 ^ 64 - 1 }
-    ensures leaves { StepLeaves S.told S.sure S.review_gives held.old held.new below.old below.new
-        (steps.Frame (frames.Attach attach.now)) result }
+    ensures leaves { StepLeaves S.told S.sure S.review_gives S.check_gives held.old held.new below.old
+        below.new (steps.Frame (frames.Attach attach.now)) result }
     ensures draws { IfOk result (λ out. out.0 ≡ nothing_drawn) }
     ensures counts { Adds held.old.work held.new.work 0 }
 {
-    let Some(opened) = open_control(held, below, alloc, attach) else {
-        return Err(StepError::NoMemory);
-    };
-    match opened {
-        Ok((link, frames)) => Ok((no_draws(alloc), Reply::Attached { link, frames })),
-        Err(error) => Ok((no_draws(alloc), Reply::AttachRefused(error))),
+    match open_control(held, below, alloc, attach) {
+        LinkOpening::Opened { link, frames } => {
+            Ok((no_draws(alloc), Reply::Attached { link, frames }))
+        }
+        LinkOpening::Refused(error) => Ok((no_draws(alloc), Reply::AttachRefused(error))),
+        LinkOpening::NoMemory => Err(StepError::NoMemory),
     }
 }
 
@@ -246,8 +257,8 @@ pub fn frame_step<S: LayerBelow>(
     frame: &Frame,
 ) -> Result<(Drawn, Reply), StepError>
     requires room { held.old.opened < 2 ^ 64 - 1 }
-    ensures leaves { StepLeaves S.told S.sure S.review_gives held.old held.new below.old below.new
-        (steps.Frame frame.now) result }
+    ensures leaves { StepLeaves S.told S.sure S.review_gives S.check_gives held.old held.new below.old
+        below.new (steps.Frame frame.now) result }
     ensures draws { IfOk result (λ out. out.0 ≡ nothing_drawn) }
     ensures counts { Adds held.old.work held.new.work (frames_added (steps.Frame frame.now)) }
 {

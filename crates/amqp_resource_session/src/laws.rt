@@ -7,7 +7,7 @@ ghost use Rattle.amqp_resource_record.specs.declared.step.Step.{Step};
 ghost use Rattle.amqp_resource_record.specs.Hands.{frames_of, hands};
 ghost use Rattle.amqp_resource_record.specs.Live.{is_held_on, is_live};
 ghost use Rattle.amqp_resource_session.specs.Steps.{step_hands};
-ghost use Rattle.amqp_resource_session.specs.Views.{frames_in, is_held_in, is_live_in, view_of_record};
+ghost use Rattle.amqp_resource_held.specs.Views.{frames_in, is_held_in, is_live_in, view_of_record};
 
 /// What the view of a record says is what the record says, looking back over its entries: which ids
 /// are live and on which link, which frames stand under a live one, and what a step hands.

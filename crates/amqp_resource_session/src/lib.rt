@@ -22,8 +22,8 @@
 //! The frames that are kept for all live ids stand in one log of arrivals. [`drive_counted`] and
 //! `step_counted` count the looks into it.
 //!
-//! Below stand the types, the codec of control messages, the log of arrivals, the traits of the
-//! outside, the coordinator, which asks a session by these calls, and the record with its
+//! Below stand the types, the codec of control messages, the log of arrivals, what a session keeps,
+//! the traits of the outside, the coordinator, which asks a session by these calls, and the record with its
 //! definitions, which look back over the entries of a session and know nothing of what it keeps.
 //! What a user of a session needs of them is passed on. The promise that this crate carries: a step
 //! answers by the record, and a run is its record. The layer below has taken exactly the work of
@@ -31,19 +31,18 @@
 //! vetoed commit, followed, only where it refused, by the first frames of the next step's.
 #![tactic(auto)]
 
-mod acting;
 mod as_session;
-mod committing;
 mod declaring;
 mod discharging;
+mod dispatch;
 mod driving;
 mod ending;
 mod frame_steps;
-mod hearing;
-mod held;
+mod incoming;
 mod laws;
 mod link_steps;
 mod outcomes;
+mod review;
 mod session;
 mod transacting;
 

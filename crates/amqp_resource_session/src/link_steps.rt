@@ -3,14 +3,14 @@
 ghost use Rattle.std.specs.Prelude.{◌≡◌, true, false, None, IfOk};
 ghost use Rattle.amqp_txn_codec.specs.Reading.{message_of};
 ghost use Rattle.amqp_resource_record.specs.declared.step.Step.TheVariants as steps;
-ghost use Rattle.amqp_resource_session.specs.Held.{is_in};
+ghost use Rattle.amqp_resource_held.specs.Held.{is_in};
 ghost use Rattle.amqp_resource_session.specs.Leaving.{LeavesHere};
-ghost use Rattle.amqp_resource_session.specs.Looking.{Pays, frames_ended};
+ghost use Rattle.amqp_resource_held.specs.Looks.{Pays, frames_ended, unless_no_memory};
 ghost use Rattle.amqp_resource_session.specs.Steps.{nothing_drawn};
 
-use crate::held::{Held, end_link, has_link};
 use crate::outcomes::no_draws;
 use amqp_below_ids::Drawn;
+use amqp_resource_held::{Held, end_link, has_link};
 use amqp_resource_log::Looks;
 use amqp_resource_record::{Reply, StepError};
 use amqp_txn_types::{AmqpError, Payload};
@@ -27,7 +27,7 @@ pub fn link_end_step<L: Ledger>(
     ensures leaves { LeavesHere held.old held.new (steps.LinkEnd link) result }
     ensures draws { IfOk result (λ out. out.0 ≡ nothing_drawn) }
     ensures pays { Pays held.old.work held.new.work looks.old looks.new
-        (frames_ended held.old (steps.LinkEnd link)) 0 }
+        (unless_no_memory result (frames_ended held.old (steps.LinkEnd link))) 0 }
 {
     if !has_link(&held.links, link) {
         return Ok((no_draws(alloc), Reply::NoLink));
@@ -49,7 +49,7 @@ pub fn close_step<L: Ledger>(
     ensures leaves { LeavesHere held.old held.new (steps.Control link payload.now) result }
     ensures draws { IfOk result (λ out. out.0 ≡ nothing_drawn) }
     ensures pays { Pays held.old.work held.new.work looks.old looks.new
-        (frames_ended held.old (steps.Control link payload.now)) 0 }
+        (unless_no_memory result (frames_ended held.old (steps.Control link payload.now))) 0 }
 {
     end_link(held, link, looks);
     Ok((no_draws(alloc), Reply::LinkClosed(AmqpError::NotAllowed)))

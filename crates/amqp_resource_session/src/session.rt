@@ -5,17 +5,16 @@ ghost use Rattle.amqp_resource_record.specs.declared.entry.Entry.{Entry};
 ghost use Rattle.amqp_resource_record.specs.Links.{attached_count};
 ghost use Rattle.amqp_resource_record.specs.Live.{is_live};
 ghost use Rattle.amqp_resource_session.specs.Stepping.{StepSays};
-ghost use Rattle.amqp_resource_session.specs.Looking.{dues, frames_added, frames_ended};
+ghost use Rattle.amqp_resource_held.specs.Looks.{dues, frames_added, frames_ended, unless_no_memory};
 ghost use Rattle.amqp_resource_session.specs.Session.{FitsTogether, IsFresh, StandsFor, StopAfter, below_of, frame_count_of, held_of, is_live_on, opened_of, owed_of, refusals_of, stop_of, vetoes_of};
 
-use crate::acting::take_step;
-use crate::held::{Held, keeps_nothing};
+use crate::dispatch::take_step;
 use amqp_below_ids::{Drawn, IdSource};
 use amqp_below_layer::LayerBelow;
-use amqp_resource_log::{LiveWork, Looks};
+use amqp_resource_held::{Held, keeps_nothing};
+use amqp_resource_log::Looks;
 use amqp_resource_record::{Drawn16, Reply, Step, StepError, StopCode, code_of_end, code_of_fault};
 use amqp_txn_types::{SessionState, TransactionId};
-use indexmap::IndexMap;
 use std::alloc::Global;
 use std::marker::Brand;
 use std::sync::ledger::{Blank, Ledger};
@@ -69,11 +68,7 @@ impl<S: LayerBelow> TxnSession<S> {
         ensures owed { owed_of result ≡ 0 }
     {
         TxnSession {
-            held: Held {
-                work: LiveWork::new(alloc),
-                links: IndexMap::new(alloc),
-                opened: 0,
-            },
+            held: Held::new(alloc),
             below,
             stop: None,
             refusals: 0,
@@ -82,12 +77,15 @@ impl<S: LayerBelow> TxnSession<S> {
         }
     }
 
-    /// Whether no id is live, no link was opened so far, the session hasn't stopped and the layer
-    /// below is mapped.
+    /// Whether no id is live, no link was opened so far, no look is owed, the session hasn't stopped
+    /// and the layer below is mapped.
     pub fn is_fresh(&self) -> bool
         ensures { IsTrue result ↔ IsFresh S.told self.now }
     {
         if !keeps_nothing(&self.held) {
+            return false;
+        }
+        if self.held.work.owed() != 0 {
             return false;
         }
         if self.stop.is_some() {
@@ -163,7 +161,7 @@ impl<S: LayerBelow> TxnSession<S> {
         ids: &mut G,
     ) -> Result<(Drawn16, Reply), StepError>
         requires { stop_of self.old ≡ None → opened_of self.old < 2 ^ 64 - 1 }
-        ensures { StepSays S.told S.sure S.review_gives G.next G.start self.old self.new ids.old
+        ensures { StepSays S.told S.sure S.review_gives S.check_gives G.next G.start self.old self.new ids.old
             ids.new step.now result }
     {
         self.step_blank::<G, Brand>(step, ids, Blank::new(1))
@@ -180,7 +178,7 @@ impl<S: LayerBelow> TxnSession<S> {
         requires name { blank.name ≡ L.name }
         requires parts { blank.parts ≡ L.parts }
         requires some { 0 < blank.parts }
-        ensures { StepSays S.told S.sure S.review_gives G.next G.start self.old self.new ids.old
+        ensures { StepSays S.told S.sure S.review_gives S.check_gives G.next G.start self.old self.new ids.old
             ids.new step.now result }
     {
         let mut looks = Looks::<L>::new(blank);
@@ -199,13 +197,13 @@ impl<S: LayerBelow> TxnSession<S> {
         looks: &mut Looks<L>,
     ) -> Result<(Drawn16, Reply), StepError>
         requires room { stop_of self.old ≡ None → opened_of self.old < 2 ^ 64 - 1 }
-        ensures says { StepSays S.told S.sure S.review_gives G.next G.start self.old self.new
+        ensures says { StepSays S.told S.sure S.review_gives S.check_gives G.next G.start self.old self.new
             ids.old ids.new step.now result }
         // The looks of the step and those owed after it are at most those owed before it and two
-        // for each frame that it ends. While the session hasn't stopped, no more are owed than
-        // frames are kept.
-        ensures looks { looks.new + owed_of self.new
-            ≤ looks.old + owed_of self.old + 2 * frames_ended (held_of self.old) step.now }
+        // for each frame that it ends, and a step that ran out of memory ends none. While the
+        // session hasn't stopped, no more are owed than frames are kept.
+        ensures looks { looks.new + owed_of self.new ≤ looks.old + owed_of self.old
+            + 2 * unless_no_memory result (frames_ended (held_of self.old) step.now) }
         ensures few { stop_of self.new ≡ None → owed_of self.new ≤ frame_count_of self.new }
         // Two looks at most come for each frame that is kept.
         ensures dues { looks.new + dues (held_of self.new).work

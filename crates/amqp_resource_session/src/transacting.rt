@@ -6,8 +6,7 @@
 //! steps; what a step does then is said by what is kept (`keeps`). The clauses of these calls need
 //! no record.
 
-ghost use Rattle.std.specs.Prelude.{◌≡◌, ◌≤◌, Err};
-ghost use Rattle.amqp_txn_types.specs.Counts.{one_more};
+ghost use Rattle.std.specs.Prelude.{Err};
 ghost use Rattle.amqp_resource_session.specs.Calls.{StopAfterCommit};
 
 use crate::declaring::allocate;
@@ -20,16 +19,6 @@ use amqp_resource_record::{StopCode, code_of_fault};
 use amqp_txn_types::{Accepted, TransactionError, TransactionId, refuse};
 use std::marker::Brand;
 use std::sync::ledger::Blank;
-
-/// Counts a refusal of a call, and answers it.
-pub fn refuse_call<T, E>(refusals: &mut u64, error: E) -> Result<T, E>
-    ensures count { refusals.new ≡ one_more refusals.old }
-    ensures later { refusals.old ≤ refusals.new }
-    ensures answer { result ≡ Err error }
-{
-    let _before = *refusals;
-    refuse(refusals, error)
-}
 
 /// The code that a session keeps after a commit that failed; `None` where it goes on.
 fn stop_after_commit(fault: &CommitFault) -> Option<StopCode>
@@ -57,12 +46,12 @@ impl<S: LayerBelow> HandleDeclare for TxnSession<S> {
         ids: &mut G,
     ) -> Result<Drawn, AllocTxnIdError> {
         if self.stop.is_some() {
-            return refuse_call(&mut self.refusals, AllocTxnIdError::NotImplemented);
+            return refuse(&mut self.refusals, AllocTxnIdError::NotImplemented);
         }
         let alloc = self.allocator();
         match allocate(&mut self.held, alloc, ids) {
             Ok(drawn) => Ok(drawn),
-            Err(error) => refuse_call(&mut self.refusals, error),
+            Err(error) => refuse(&mut self.refusals, error),
         }
     }
 }
@@ -79,7 +68,7 @@ impl<S: LayerBelow> HandleDischarge for TxnSession<S> {
         txn_id: &TransactionId,
     ) -> Result<Result<Echoes, TransactionError>, CommitFault> {
         if self.stop.is_some() {
-            return Ok(refuse_call(&mut self.refusals, TransactionError::UnknownId));
+            return Ok(refuse(&mut self.refusals, TransactionError::UnknownId));
         }
         let alloc = self.allocator();
         match commit_kept::<S, Brand>(
@@ -90,10 +79,10 @@ impl<S: LayerBelow> HandleDischarge for TxnSession<S> {
             Blank::new(1),
         ) {
             Ok(Ok(echoes)) => Ok(Ok(echoes)),
-            Ok(Err(error)) => Ok(refuse_call(&mut self.refusals, error)),
+            Ok(Err(error)) => Ok(refuse(&mut self.refusals, error)),
             Err(fault) => {
                 self.stop = stop_after_commit(&fault);
-                refuse_call(&mut self.refusals, fault)
+                refuse(&mut self.refusals, fault)
             }
         }
     }
@@ -103,11 +92,11 @@ impl<S: LayerBelow> HandleDischarge for TxnSession<S> {
         txn_id: &TransactionId,
     ) -> Result<Accepted, TransactionError> {
         if self.stop.is_some() {
-            return refuse_call(&mut self.refusals, TransactionError::UnknownId);
+            return refuse(&mut self.refusals, TransactionError::UnknownId);
         }
         match roll_back_kept::<Brand>(&mut self.held, *txn_id, Blank::new(1)) {
             Ok(accepted) => Ok(accepted),
-            Err(error) => refuse_call(&mut self.refusals, error),
+            Err(error) => refuse(&mut self.refusals, error),
         }
     }
 }

@@ -13,14 +13,14 @@ use std::sync::ledger::{Blank, Ledger};
 fn open<R: Abort>(rt: &R, log: &mut ArrivalLog, octet: u8) {
     let txn_id = id(octet);
     log.make_room().expect(rt, "an Ok");
-    assert!(rt; !log.is_opened(&txn_id));
+    assert!(rt; !log.is_live(&txn_id));
     log.open_id(txn_id).expect(rt, "an Ok");
-    assert!(rt; log.is_opened(&txn_id));
+    assert!(rt; log.is_live(&txn_id));
 }
 
 fn keep<R: Abort>(rt: &R, log: &mut ArrivalLog, octet: u8, number: u32) {
     let txn_id = id(octet);
-    assert!(rt; log.is_opened(&txn_id));
+    assert!(rt; log.is_live(&txn_id));
     log.append(&txn_id, work(number)).expect(rt, "an Ok");
 }
 
@@ -41,7 +41,7 @@ fn new_log_keeps_nothing(rt: HostRuntime) {
     assert_eq!(rt; log.dead(), 0);
     assert_eq!(rt; log.live(), 0);
     assert_eq!(rt; log.first(&id(1)), None);
-    assert!(rt; !log.is_opened(&id(1)));
+    assert!(rt; !log.is_live(&id(1)));
     drop(log);
 }
 
@@ -71,7 +71,7 @@ fn take_first<L: Ledger>(
 enum Case {
     Takes,
     ClosesUp,
-    Settles,
+    Compacts,
     Ends,
 }
 
@@ -84,7 +84,7 @@ fn run_case<L: Ledger, R: Abort>(rt: &R, case: Case, log: &mut ArrivalLog, blank
     match case {
         Case::Takes => takes(rt, log, &mut looks),
         Case::ClosesUp => closes_up(rt, log, &mut looks),
-        Case::Settles => settles(rt, log, &mut looks),
+        Case::Compacts => compacts(rt, log, &mut looks),
         Case::Ends => ends(rt, log, &mut looks),
     }
 }
@@ -128,35 +128,35 @@ fn closed_up_log_keeps_its_order(rt: HostRuntime) {
     with_two_ids(&rt, Case::ClosesUp);
 }
 
-fn settles<L: Ledger, R: Abort>(rt: &R, log: &mut ArrivalLog, looks: &mut Looks<L>) {
+fn compacts<L: Ledger, R: Abort>(rt: &R, log: &mut ArrivalLog, looks: &mut Looks<L>) {
     drop(take_first(log, &id(1), looks));
     drop(take_first(log, &id(1), looks));
-    log.settle(looks);
+    log.compact(looks);
     assert_eq!(rt; log.dead(), 2);
     drop(take_first(log, &id(1), looks));
-    log.settle(looks);
+    log.compact(looks);
     assert_eq!(rt; log.dead(), 0);
     assert_eq!(rt; log.live(), 2);
 }
 
 #[test]
 fn log_is_closed_up_once_more_is_dead_than_live(rt: HostRuntime) {
-    with_two_ids(&rt, Case::Settles);
+    with_two_ids(&rt, Case::Compacts);
 }
 
 fn ends<L: Ledger, R: Abort>(rt: &R, log: &mut ArrivalLog, looks: &mut Looks<L>) {
     let txn_id = id(2);
     drop(take_first(log, &txn_id, looks));
     drop(take_first(log, &txn_id, looks));
-    assert!(rt; log.is_opened(&txn_id));
+    assert!(rt; log.is_live(&txn_id));
     assert_eq!(rt; log.count(&txn_id), 0);
     log.end(&txn_id);
-    assert!(rt; !log.is_opened(&txn_id));
-    assert!(rt; log.is_opened(&id(1)));
+    assert!(rt; !log.is_live(&txn_id));
+    assert!(rt; log.is_live(&id(1)));
     assert_eq!(rt; log.live(), 3);
 }
 
 #[test]
-fn ended_id_is_opened_no_more(rt: HostRuntime) {
+fn ended_id_is_live_no_more(rt: HostRuntime) {
     with_two_ids(&rt, Case::Ends);
 }

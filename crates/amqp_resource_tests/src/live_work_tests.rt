@@ -68,7 +68,7 @@ fn drops<L: Ledger, R: Abort>(rt: &R, live: &mut LiveWork, blank: Blank)
     assert!(rt; !live.is_live(&id(1)));
     assert_eq!(rt; live.frame_count(), 1);
     assert_eq!(rt; live.owed(), 2);
-    live.settle(&mut looks);
+    live.compact(&mut looks);
     assert_eq!(rt; live.owed(), 0);
     assert_eq!(rt; live.count(&id(2)), 1);
 }

@@ -1,6 +1,7 @@
 pub mod Thinly
 pub mod Padded
 pub mod Frames
+pub mod Plain
 pub mod Works
 pub mod Symbols
 pub mod Payloads

@@ -1,6 +1,6 @@
 //! Strings of octets.
 
-ghost use Rattle.std.specs.Prelude.{◌≡◌, ◌↔◌, ◌++◌, ◌∷◌, [], length, slice_get, IsTrue, OnOk, IfOk, IfErr, nat_eq};
+ghost use Rattle.std.specs.Prelude.{◌≡◌, ◌↔◌, ◌++◌, ◌∷◌, [], length, slice_get, IsTrue, OnOk, OnErr, IfOk, IfErr, nat_eq};
 ghost use Rattle.std.specs.Cmp.Lexicographic.{pointwise, nat_list_eq_equiv};
 ghost use Rattle.std.specs.Cmp.{partial_equiv_from_equiv};
 
@@ -116,6 +116,21 @@ impl Binary {
                 self.octets = Octets::Listed(listed);
                 Ok(())
             }
+        }
+    }
+
+    /// Appends the octet.
+    ///
+    /// # Errors
+    ///
+    /// Returns [`NoMemory`] where memory runs out; the string is as it was then.
+    pub fn append(&mut self, octet: u8) -> Result<(), NoMemory>
+        ensures ok { OnOk result (self.new ≡ self.old ++ octet ∷ []) }
+        ensures err { OnErr result (self.new ≡ self.old) }
+    {
+        match self.push(octet) {
+            Ok(()) => Ok(()),
+            Err((_, error)) => Err(error),
         }
     }
 }

@@ -1,5 +1,8 @@
 //! Delivery states, outcomes and errors.
 
+ghost use Rattle.std.specs.Prelude.{◌≡◌, Some};
+ghost use Rattle.amqp_txn_types.specs.Plain.{plain_error, plain_modified, plain_rejected, plain_transactional_state};
+
 use crate::fields::Fields;
 use crate::id::TransactionId;
 use crate::items::{NoMemory, TryClone};
@@ -25,6 +28,35 @@ pub struct Error {
     pub info: Option<Fields>,
 }
 
+impl Error {
+    /// The error that is known by its condition alone. Part 2 of the standard, section 2.8.14.
+    pub fn new(condition: ErrorCondition) -> Self
+        ensures { result ≡ plain_error condition }
+    {
+        Error {
+            condition,
+            description: None,
+            info: None,
+        }
+    }
+
+    /// Sets the text for people.
+    pub fn description(mut self, description: Text) -> Self
+        ensures { result ≡ record self { description = Some description } }
+    {
+        self.description = Some(description);
+        self
+    }
+
+    /// Sets what else is known of it.
+    pub fn info(mut self, info: Fields) -> Self
+        ensures { result ≡ record self { info = Some info } }
+    {
+        self.info = Some(info);
+        self
+    }
+}
+
 impl TryClone for Error {
     fn try_clone(&self) -> Result<Self, NoMemory> {
         Ok(Error {
@@ -40,6 +72,25 @@ impl TryClone for Error {
 pub struct Rejected {
     /// Why it can't.
     pub error: Option<Error>,
+}
+
+/// A rejection without a reason. Part 3 of the standard, section 3.4.3 (rejected).
+impl Default for Rejected {
+    ghost is_default = { λ rejected. rejected ≡ plain_rejected };
+
+    fn default() -> Self {
+        Rejected { error: None }
+    }
+}
+
+impl Rejected {
+    /// Sets why the message can't be processed.
+    pub fn error(mut self, error: Error) -> Self
+        ensures { result ≡ record self { error = Some error } }
+    {
+        drop(self.error.replace(error));
+        self
+    }
 }
 
 impl TryClone for Rejected {
@@ -61,6 +112,45 @@ pub struct Modified {
     pub message_annotations: Option<Fields>,
 }
 
+/// A modification that names no change. Part 3 of the standard, section 3.4.5 (modified).
+impl Default for Modified {
+    ghost is_default = { λ modified. modified ≡ plain_modified };
+
+    fn default() -> Self {
+        Modified {
+            delivery_failed: None,
+            undeliverable_here: None,
+            message_annotations: None,
+        }
+    }
+}
+
+impl Modified {
+    /// Sets whether the transfer counts as a failed attempt.
+    pub fn delivery_failed(mut self, delivery_failed: bool) -> Self
+        ensures { result ≡ record self { delivery_failed = Some delivery_failed } }
+    {
+        self.delivery_failed = Some(delivery_failed);
+        self
+    }
+
+    /// Sets whether the message must not come to this receiver again.
+    pub fn undeliverable_here(mut self, undeliverable_here: bool) -> Self
+        ensures { result ≡ record self { undeliverable_here = Some undeliverable_here } }
+    {
+        self.undeliverable_here = Some(undeliverable_here);
+        self
+    }
+
+    /// Sets the annotations to be put in place of those of the message.
+    pub fn message_annotations(mut self, message_annotations: Fields) -> Self
+        ensures { result ≡ record self { message_annotations = Some message_annotations } }
+    {
+        self.message_annotations = Some(message_annotations);
+        self
+    }
+}
+
 impl TryClone for Modified {
     fn try_clone(&self) -> Result<Self, NoMemory> {
         Ok(Modified {
@@ -79,6 +169,28 @@ pub struct TransactionalState {
     pub txn_id: TransactionId,
     /// The outcome that the delivery gets if the transaction is committed.
     pub outcome: Option<Outcome>,
+}
+
+impl TransactionalState {
+    /// The state of what is under the transaction, without an outcome.
+    ///
+    /// Part 4 of the standard, section 4.5.6 (transactional state).
+    pub fn new(txn_id: TransactionId) -> Self
+        ensures { result ≡ plain_transactional_state txn_id }
+    {
+        TransactionalState {
+            txn_id,
+            outcome: None,
+        }
+    }
+
+    /// Sets the outcome that the delivery gets if the transaction is committed.
+    pub fn outcome(mut self, outcome: Outcome) -> Self
+        ensures { result ≡ record self { outcome = Some outcome } }
+    {
+        drop(self.outcome.replace(outcome));
+        self
+    }
 }
 
 impl TryClone for TransactionalState {
@@ -243,7 +355,6 @@ pub enum SessionStopReason {
 
 impl From<ConnectionStopReason> for SessionStopReason {
     ghost use Rattle.amqp_txn_types.specs.declared.delivery.SessionStopReason.TheVariants as reasons;
-    ghost use Rattle.std.specs.Prelude.{◌≡◌};
 
     ghost from_gives = { λ reason stop. stop ≡ reasons.ConnectionStopped reason };
 

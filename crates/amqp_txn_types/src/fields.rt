@@ -1,7 +1,8 @@
 //! Fields in the order of insertion, which a contract sees as a list of pairs.
 
-ghost use Rattle.std.specs.Prelude.{◌≡◌, ◌↔◌, [], length, slice_get, option_map, nat_eq, IsTrue, OnOk, IfOk, IfErr};
+ghost use Rattle.std.specs.Prelude.{◌≡◌, ◌↔◌, [], length, slice_get, is_some, option_copied, option_map, nat_eq, IsTrue, OnOk, OnErr, IfOk, IfErr};
 ghost use Rattle.std.specs.Cmp.Lexicographic.{pointwise};
+ghost use Rattle.std.specs.Map.{lookup};
 ghost use Rattle.indexmap.specs.IndexMap.{insert_entry, shift_remove_entry};
 
 use crate::binary::Binary;
@@ -110,6 +111,23 @@ impl Fields {
         }
     }
 
+    /// The value under the key; `None` where no pair has it.
+    pub fn value_of(&self, key: &str) -> Option<&Value>
+        ensures { option_copied result ≡ lookup (pointwise nat_eq key.now) self.now }
+    {
+        match self.map.as_ref() {
+            None => None,
+            Some(map) => map.get(key),
+        }
+    }
+
+    /// Whether a pair has the key.
+    pub fn contains_key(&self, key: &str) -> bool
+        ensures { result ≡ is_some (lookup (pointwise nat_eq key.now) self.now) }
+    {
+        self.value_of(key).is_some()
+    }
+
     /// Puts the value under the key. A new key goes last; a key that is there keeps its place and
     /// gets the value. Where memory runs out key and value come back, and the map is as it was.
     pub fn insert(&mut self, key: Symbol, value: Value) -> Result<(), ((Symbol, Value), NoMemory)>
@@ -129,6 +147,22 @@ impl Fields {
                 Ok(_) => Ok(()),
                 Err(failed) => Err((failed.value, NoMemory)),
             },
+        }
+    }
+
+    /// Puts the value under the key. A new key goes last; a key that is there keeps its place and
+    /// gets the value.
+    ///
+    /// # Errors
+    ///
+    /// Returns [`NoMemory`] where memory runs out; the map is as it was then.
+    pub fn set(&mut self, key: Symbol, value: Value) -> Result<(), NoMemory>
+        ensures ok { OnOk result (self.new ≡ insert_entry (pointwise nat_eq) self.old key value) }
+        ensures err { OnErr result (self.new ≡ self.old) }
+    {
+        match self.insert(key, value) {
+            Ok(()) => Ok(()),
+            Err((_, error)) => Err(error),
         }
     }
 

@@ -9,19 +9,16 @@
 //!
 //! ```
 //! let txn_id = TransactionId::new(b"\x01")?;
-//! let accepted = TransactionalState { txn_id, outcome: Some(Outcome::Accepted) };
-//! let retirement = Disposition {
-//!     role: Role::Receiver,
-//!     first: 7,
-//!     last: None,
-//!     settled: false,
-//!     state: Some(DeliveryState::TransactionalState(accepted)),
-//!     batchable: false,
-//! };
+//! let accepted = TransactionalState::new(txn_id).outcome(Outcome::Accepted);
+//! let retirement = Disposition::new(Role::Receiver, 7)
+//!     .state(DeliveryState::TransactionalState(accepted));
 //! let work = TxnWorkFrame::Retire(retirement);
 //! assert_eq!(rt; txn_of(&frame_of(work.try_clone()?)), Some(txn_id));
 //! let handed = strip(work); // a disposition that is settled and Accepted
 //! ```
+//!
+//! A performative is made of its required fields by `new`, or by `default` where it has none, and
+//! each other field has the standard's default until the call of its name sets it.
 //!
 //! It stands on `thin`, which keeps a text, a list of symbols and fields to one pointer each, so
 //! that a frame has at most 248 octets; payloads are over `bytes`, and fields over `indexmap`. It
@@ -50,7 +47,7 @@ mod text;
 pub use binary::Binary;
 pub use calls::Calls;
 pub use capability::TxnCapability;
-pub use counts::{count_refusal, refuse};
+pub use counts::{count_answer, count_one, count_refusal, refuse};
 pub use delivery::{
     ConnectionStopReason, Declared, DeliveryState, Error, ErrorCondition, Modified, Outcome,
     Rejected, SessionStopReason, TransactionalState,

@@ -12,6 +12,10 @@ use crate::small::{Handle, InputHandle, OutputHandle, ReceiverSettleMode, Role, 
 use crate::symbols::Symbols;
 use crate::text::Text;
 
+mod deliveries;
+mod links;
+mod sessions;
+
 /// A list of frames, as a session sends back.
 pub type Frames = Items<Frame>;
 

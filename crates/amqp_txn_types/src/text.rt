@@ -1,14 +1,15 @@
 //! Text and symbols, which a contract sees as their octets in UTF-8.
 
-ghost use Rattle.std.specs.Prelude.{◌≡◌, ◌↔◌, List, [], ◌++◌, ℕ, length, slice_get, IsTrue, OnOk, IfOk, IfErr, nat_eq, string_bytes};
+ghost use Rattle.std.specs.Prelude.{◌≡◌, ◌↔◌, List, [], ◌++◌, ℕ, length, slice_get, IsTrue, OnOk, OnErr, IfOk, IfErr, nat_eq, string_bytes};
 ghost use Rattle.std.specs.Char.{encode_utf8};
 ghost use Rattle.std.specs.Hash as fed;
-ghost use Rattle.std.specs.Cmp.Lexicographic.{pointwise, nat_list_eq_equiv};
+ghost use Rattle.std.specs.Cmp.Lexicographic.{bytes_decides, pointwise, nat_list_eq_equiv};
 ghost use Rattle.std.specs.Cmp.{partial_equiv_from_equiv};
 ghost use Rattle.std.specs.Cmp.Rules.{hashing};
-ghost use Rattle.std.proofs.Common.{rules};
+ghost use Rattle.std.proofs.Common.{ap, rules};
 
 use crate::items::{NoMemory, TryClone};
+use indexmap::Equivalent;
 use std::alloc::Global;
 use std::fmt;
 use std::hash::{Hash, Hasher};
@@ -108,6 +109,21 @@ impl Text {
                 Ok(()) => Ok(()),
                 Err(_) => Err((item, NoMemory)),
             },
+        }
+    }
+
+    /// Appends the character, which takes one to four octets.
+    ///
+    /// # Errors
+    ///
+    /// Returns [`NoMemory`] where memory runs out; the text is as it was then.
+    pub fn append(&mut self, item: char) -> Result<(), NoMemory>
+        ensures ok { OnOk result (self.new ≡ self.old ++ encode_utf8 item) }
+        ensures err { OnErr result (self.new ≡ self.old) }
+    {
+        match self.push(item) {
+            Ok(()) => Ok(()),
+            Err((_, error)) => Err(error),
         }
     }
 }
@@ -220,6 +236,21 @@ impl Symbol {
     {
         self.text.push(item)
     }
+
+    /// Appends the character, which takes one to four octets.
+    ///
+    /// # Errors
+    ///
+    /// Returns [`NoMemory`] where memory runs out; the symbol is as it was then.
+    pub fn append(&mut self, item: char) -> Result<(), NoMemory>
+        ensures ok { OnOk result (self.new ≡ self.old ++ encode_utf8 item) }
+        ensures err { OnErr result (self.new ≡ self.old) }
+    {
+        match self.push(item) {
+            Ok(()) => Ok(()),
+            Err((_, error)) => Err(error),
+        }
+    }
 }
 
 impl TryClone for Symbol {
@@ -251,5 +282,18 @@ impl Hash for Symbol {
 
     fn hash<H: Hasher>(&self, state: &mut H) {
         self.text.hash(state);
+    }
+}
+
+/// A text stands for the symbol of the same octets, where a map is asked for a key.
+impl Equivalent<Symbol> for &str {
+    ghost equivalent = { λ text symbol. pointwise nat_eq text.now symbol };
+
+    ghost respects_hash = { λ text symbol same. ap fed.str ((bytes_decides text.now symbol).0 same) };
+
+    ghost respects_eq = { λ text x y. nat_list_eq_equiv.congr text.now x y };
+
+    fn equivalent(&self, symbol: &Symbol) -> bool {
+        *self == symbol.as_str()
     }
 }

@@ -1,42 +1,63 @@
-//! The commands of the program.
+//! The commands of the program, each of a crate of its own.
 
-ghost use Rattle.std.specs.Prelude.{◌≡◌};
+ghost use Rattle.std.specs.Prelude.{◌≡◌, IfOk};
 ghost use Rattle.amqp_below_recorder.specs.Recording.{IsFresh, is_unused};
-ghost use Rattle.txn_program.specs.Words.{IsWithin, command_of};
-ghost use Rattle.txn_program.specs.Reading.{source_of};
-ghost use Rattle.txn_program.specs.Running.{told_under};
-ghost use Rattle.txn_program.specs.Serving.{Serves};
-ghost use Rattle.txn_program.specs.Writing.{sink_of};
+ghost use Rattle.txn_program_edges.specs.Reading.{source_of};
+ghost use Rattle.txn_program_edges.specs.Writing.{sink_of};
+ghost use Rattle.txn_program.specs.Commands.{IsWithin, Serves, command_of};
 
-use crate::running::{Ran, out_of_memory, run_drawing, run_made, told};
-use crate::status;
-use crate::words::{Command, Plans, command_of};
-use amqp_below::{ByteSink, ByteSource, LayerBelow, Recorder, Tells};
-use amqp_txn_types::Text;
+use amqp_below_layer::{LayerBelow, Tells};
+use amqp_below_recorder::Recorder;
+use amqp_below_streams::{ByteSink, ByteSource};
+use amqp_txn_types::{NoMemory, Text};
 use std::alloc::Global;
+use std::sync::Wait;
+use std::thread::Threads;
+use txn_program_runs::{Ran, RunCommand, end_without_memory, run_command_of, serve_run};
 
-/// The top call: does what the words ask for, and answers with a status.
+/// What the arguments ask for.
+#[derive(Debug, Drop, PartialEq)]
+pub enum Command {
+    /// `run`, `listen` or `make`: a run of steps.
+    Run(RunCommand),
+}
+
+/// The command that the arguments give, `None` where they are outside the table of words. The only
+/// error is out of memory.
+pub fn command_of(alloc: Global, arguments: &[Text]) -> Result<Option<Command>, NoMemory>
+    ensures command { IfOk result (λ command. command ≡ command_of arguments.now) }
+    ensures within { IfOk result IsWithin }
+{
+    match run_command_of(alloc, arguments)? {
+        Some(command) => Ok(Some(Command::Run(command))),
+        None => Ok(None),
+    }
+}
+
+/// The top call: does what the arguments ask for, and answers with a status.
 ///
-/// `words` are the words after the program's name. What the layer below took is told by the
-/// recorder that is handed back.
+/// `arguments` are the words after the program's name. The runtime is for commands that start
+/// threads; those of today start none. What the layer below took is told by the recorder that is
+/// handed back.
 ///
 /// # Requires
 ///
 /// The recorder is fresh, as [`Recorder::is_fresh`] tests.
-pub fn run<S: LayerBelow + Send, I: ByteSource, O: ByteSink>(
+pub fn run<R: Threads + Wait + Sync, S: LayerBelow + Send, I: ByteSource, O: ByteSink>(
+    _rt: &R,
     alloc: Global,
-    words: &[Text],
+    arguments: &[Text],
     below: Recorder<S>,
     input: &mut I,
     output: &mut O,
 ) -> Ran<S>
     requires { IsFresh (is_unused below) (⟦<Recorder<S> as Tells>⟧.told below) }
-    ensures { Serves ⟦<Recorder<S> as Tells>⟧.told (command_of words.now) below
+    ensures { Serves ⟦<Recorder<S> as Tells>⟧.told (command_of arguments.now) below
         (source_of I.rest I.faults input.old) (source_of I.rest I.faults input.new)
         (sink_of O.written O.faults O.spare output.old)
         (sink_of O.written O.faults O.spare output.new) result }
 {
-    run_commands(alloc, words, below, input, output)
+    run_commands(alloc, arguments, below, input, output)
 }
 
 /// As [`run`], for all commands that wait for nobody.
@@ -46,31 +67,30 @@ pub fn run<S: LayerBelow + Send, I: ByteSource, O: ByteSink>(
 /// The recorder is fresh, as [`Recorder::is_fresh`] tests.
 pub fn run_commands<S: LayerBelow + Send, I: ByteSource, O: ByteSink>(
     alloc: Global,
-    words: &[Text],
+    arguments: &[Text],
     below: Recorder<S>,
     input: &mut I,
     output: &mut O,
 ) -> Ran<S>
     requires { IsFresh (is_unused below) (⟦<Recorder<S> as Tells>⟧.told below) }
-    ensures { Serves ⟦<Recorder<S> as Tells>⟧.told (command_of words.now) below
+    ensures { Serves ⟦<Recorder<S> as Tells>⟧.told (command_of arguments.now) below
         (source_of I.rest I.faults input.old) (source_of I.rest I.faults input.new)
         (sink_of O.written O.faults O.spare output.old)
         (sink_of O.written O.faults O.spare output.new) result }
 {
-    match command_of(alloc, words) {
+    match command_of(alloc, arguments) {
         Ok(command) => run_command(alloc, command, below, input, output),
-        Err(_) => out_of_memory(None, below),
+        Err(_) => end_without_memory(None, below),
     }
 }
 
-/// As [`run`], once the words are read: the command that they give, none where they are outside the
-/// table.
+/// As [`run_commands`], once the arguments are read: the command that they give, none where they
+/// are outside the table.
 ///
 /// # Requires
 ///
 /// The recorder is fresh, as [`Recorder::is_fresh`] tests, and the command is within the limits of
-/// the table, as each that [`command_of`] gives: a run has an id to draw, and 1 to 20,000
-/// transactions are made.
+/// the table, as each that [`command_of`] gives.
 pub fn run_command<S: LayerBelow + Send, I: ByteSource, O: ByteSink>(
     alloc: Global,
     command: Option<Command>,
@@ -86,29 +106,7 @@ pub fn run_command<S: LayerBelow + Send, I: ByteSource, O: ByteSink>(
         (sink_of O.written O.faults O.spare output.new) result }
 {
     match command {
-        Some(Command::Run { plans, ids, .. }) => {
-            let below = under_plans(below, plans);
-            run_drawing(alloc, ids, below, input, output)
-        }
-        Some(Command::Make(count)) => run_made(alloc, count, below, output),
-        None => told(status::USAGE, b"usage\n", below, output),
+        Some(Command::Run(command)) => serve_run(alloc, Some(command), below, input, output),
+        None => serve_run(alloc, None, below, input, output),
     }
-}
-
-/// The recorder with the plans of the words, where they have one, in place of its own.
-fn under_plans<S: LayerBelow>(below: Recorder<S>, plans: Plans) -> Recorder<S>
-    requires { IsFresh (is_unused below) (⟦<Recorder<S> as Tells>⟧.told below) }
-    ensures fresh { IsFresh (is_unused result) (⟦<Recorder<S> as Tells>⟧.told result) }
-    ensures told { ⟦<Recorder<S> as Tells>⟧.told result
-        ≡ told_under plans (⟦<Recorder<S> as Tells>⟧.told below) }
-{
-    let Plans { refused, starved } = plans;
-    let mut below = below;
-    if let Some(plan) = refused {
-        below.set_plan(plan);
-    }
-    if let Some(plan) = starved {
-        below.set_starved(plan);
-    }
-    below
 }

@@ -4,8 +4,8 @@ use Rattle.std.specs.Prelude.{nat_lt, position}
 use Rattle.std.specs.List.{slice_split, onto_first, position_or_len}
 use Rattle.std.proofs.lemmas.Bool.Decides.{nat_tests}
 use Rattle.std.proofs.lemmas.List.Splits.{slice_split_first}
-use Rattle.txn_program_lines.specs.Cutting.{without_last_empty}
-use Rattle.txn_program_lines.specs.Lines.{ended, lines_of}
+use Rattle.txn_program_lines.specs.Cutting.{lines_of, without_last_empty}
+use Rattle.txn_program_lines.specs.Lines.{ended}
 
 -- some piece comes always, so words are left wherever octets may be
 ended-onto_first : (b : ℕ) (pieces : List (List ℕ)) → ended (onto_first b pieces) ≡ None

@@ -13,3 +13,11 @@ abbrev pub without_last_empty : List (List ℕ) → List (List ℕ)
 without_last_empty [] = []
 without_last_empty ([] ∷ []) = []
 without_last_empty (piece ∷ pieces) = piece ∷ without_last_empty pieces
+
+-- the lines: each ends at a line feed, and a last one without it isn't empty
+abbrev pub lines_of : List ℕ → List (List ℕ)
+lines_of octets = without_last_empty (slice_split (λ b. b == 10) octets)
+
+-- the words of a line, parted by one space each
+abbrev pub words_of : List ℕ → List (List ℕ)
+words_of line = slice_split (λ b. b == 32) line

@@ -1,7 +1,6 @@
 -- The steps of the input: its lines, the words of a line, and the step that the words spell.
 use Rattle.std.specs.Prelude.{ℕ, ◌+◌, ◌==◌, false, Option, Some, None, Result, Ok, Err, List, [], ◌∷◌, codes, if◌then◌else◌}
 use Rattle.std.specs.Int.{w32, to_be_bytes}
-use Rattle.std.specs.List.{slice_split}
 use Rattle.std.specs.Str.{bytes_eq}
 use Rattle.amqp_txn_types.specs.declared.small.Role.{Role}
 use Rattle.amqp_txn_types.specs.declared.small.Role.TheVariants as roles
@@ -17,22 +16,16 @@ use Rattle.amqp_txn_types.specs.declared.performatives.Transfer.{Transfer}
 use Rattle.amqp_txn_types.specs.declared.performatives.Disposition.{Disposition}
 use Rattle.amqp_txn_types.specs.declared.performatives.TargetArchetype.{TargetArchetype}
 use Rattle.amqp_txn_types.specs.declared.performatives.TargetArchetype.TheVariants as targets
+use Rattle.amqp_txn_types.specs.declared.performatives.Frame.{Frame}
 use Rattle.amqp_txn_types.specs.declared.performatives.Frame.TheVariants as frames
 use Rattle.amqp_txn_types.specs.Frames.{state_of_outcomes}
 use Rattle.amqp_resource_record.specs.declared.step.Step.{Step}
 use Rattle.amqp_resource_record.specs.declared.step.Step.TheVariants as steps
 use Rattle.txn_program_lines.specs.declared.line_words.Delivery.{Delivery}
 use Rattle.txn_program_lines.specs.declared.line_words.Deliveries.{Deliveries}
-use Rattle.txn_program_lines.specs.Cutting.{without_last_empty}
+use Rattle.txn_program_lines.specs.Cutting.{lines_of, words_of}
+use Rattle.txn_program_lines.specs.Numbered.{items_from}
 use Rattle.txn_program_lines.specs.LineWords.{◌>>=◌, name_of, u32_of, u64_of, bool_of, role_of, outcome_of, optional, txn_id_of, payload_of}
-
--- the lines: each ends at a line feed, and a last one without it isn't empty
-abbrev pub lines_of : List ℕ → List (List ℕ)
-lines_of octets = without_last_empty (slice_split (λ b. b == 10) octets)
-
--- the words of a line, parted by one space each
-abbrev pub words_of : List ℕ → List (List ℕ)
-words_of line = slice_split (λ b. b == 32) line
 
 -- the first of the words, and the others
 abbrev pub word_at : List (List ℕ) → Option (List ℕ × List (List ℕ))
@@ -51,11 +44,11 @@ abbrev pub ended : List (List ℕ) → Option (Unit {0})
 ended [] = Some tt
 ended (word ∷ words) = None
 
--- a step, where no word is left
-abbrev pub alone : List (List ℕ) → Step → Option Step
-alone words step = do
+-- what is spelled, where no word is left
+abbrev pub alone : {A : Type 0} → List (List ℕ) → A → Option A
+alone words spelled = do
   done ← ended words
-  Some step
+  Some spelled
 
 -- a delivery count is there for a sender
 abbrev pub first_count : Role → Option ℕ
@@ -187,78 +180,96 @@ deliveries_at words = do
   Some (record { role = role.0; first = first.0; last = last.0; settled = settled.0 }, settled.1)
 
 -- attach NAME H
-unfoldable pub attach_line : List (List ℕ) → Option Step
+unfoldable pub attach_line : List (List ℕ) → Option Frame
 attach_line words = do
   name ← next name_of words
   handle ← next u32_of name.1
-  alone handle.1 (steps.Frame (frames.Attach (attach_of name.0 handle.0 roles.Sender coordinator)))
+  alone handle.1 (frames.Attach (attach_of name.0 handle.0 roles.Sender coordinator))
 
 -- link NAME H ROLE
-unfoldable pub link_line : List (List ℕ) → Option Step
+unfoldable pub link_line : List (List ℕ) → Option Frame
 link_line words = do
   name ← next name_of words
   handle ← next u32_of name.1
   role ← next role_of handle.1
-  alone role.1 (steps.Frame (frames.Attach (attach_of name.0 handle.0 role.0 (node name.0))))
+  alone role.1 (frames.Attach (attach_of name.0 handle.0 role.0 (node name.0)))
 
 -- flow H N
-unfoldable pub link_flow_line : List (List ℕ) → Option Step
+unfoldable pub link_flow_line : List (List ℕ) → Option Frame
 link_flow_line words = do
   handle ← next u32_of words
   credit ← next u32_of handle.1
-  alone credit.1 (steps.Frame (frames.Flow (flow_of (Some (handle.0, credit.0)))))
+  alone credit.1 (frames.Flow (flow_of (Some (handle.0, credit.0))))
 
 -- flow H N, or flow -
-unfoldable pub flow_line : List (List ℕ) → Option Step
+unfoldable pub flow_line : List (List ℕ) → Option Frame
 flow_line words = do
   first ← word_at words
-  if bytes_eq first.0 (codes "-") then alone first.1 (steps.Frame (frames.Flow (flow_of None)))
+  if bytes_eq first.0 (codes "-") then alone first.1 (frames.Flow (flow_of None))
       else link_flow_line words
 
 -- transfer H ID SET PAYLOAD
-unfoldable pub transfer_line : List (List ℕ) → Option Step
+unfoldable pub transfer_line : List (List ℕ) → Option Frame
 transfer_line words = do
   delivery ← delivery_at words
   payload ← next payload_of delivery.1
-  alone payload.1 (steps.Frame (frames.Transfer (transfer_of delivery.0 None) payload.0))
+  alone payload.1 (frames.Transfer (transfer_of delivery.0 None) payload.0)
 
 -- post T H ID SET OUT PAYLOAD
-unfoldable pub post_line : List (List ℕ) → Option Step
+unfoldable pub post_line : List (List ℕ) → Option Frame
 post_line words = do
   txn_id ← next txn_id_of words
   delivery ← delivery_at txn_id.1
   outcome ← next (optional outcome_of) delivery.1
   payload ← next payload_of outcome.1
-  alone payload.1 (steps.Frame
-      (frames.Transfer (transfer_of delivery.0 (state_under txn_id.0 outcome.0)) payload.0))
+  alone payload.1
+      (frames.Transfer (transfer_of delivery.0 (state_under txn_id.0 outcome.0)) payload.0)
 
 -- disposition ROLE FIRST LAST BOOL OUT
-unfoldable pub disposition_line : List (List ℕ) → Option Step
+unfoldable pub disposition_line : List (List ℕ) → Option Frame
 disposition_line words = do
   deliveries ← deliveries_at words
   outcome ← next (optional outcome_of) deliveries.1
-  alone outcome.1 (steps.Frame
-      (frames.Disposition (disposition_of deliveries.0 (state_of_outcomes outcome.0))))
+  alone outcome.1
+      (frames.Disposition (disposition_of deliveries.0 (state_of_outcomes outcome.0)))
 
 -- retire T ROLE FIRST LAST BOOL OUT
-unfoldable pub retire_line : List (List ℕ) → Option Step
+unfoldable pub retire_line : List (List ℕ) → Option Frame
 retire_line words = do
   txn_id ← next txn_id_of words
   deliveries ← deliveries_at txn_id.1
   outcome ← next (optional outcome_of) deliveries.1
-  alone outcome.1 (steps.Frame
-      (frames.Disposition (disposition_of deliveries.0 (state_under txn_id.0 outcome.0))))
+  alone outcome.1
+      (frames.Disposition (disposition_of deliveries.0 (state_under txn_id.0 outcome.0)))
 
 -- detach H BOOL
-unfoldable pub detach_line : List (List ℕ) → Option Step
+unfoldable pub detach_line : List (List ℕ) → Option Frame
 detach_line words = do
   handle ← next u32_of words
   closed ← next bool_of handle.1
-  alone closed.1 (steps.Frame (frames.Detach (record {
+  alone closed.1 (frames.Detach (record {
     handle = record { 0 = handle.0 };
     closed = closed.0;
     error = None;
-  })))
+  }))
+
+-- the frame of a line, by its first word and the words after it
+unfoldable pub frame_of_words : List ℕ → List (List ℕ) → Option Frame
+frame_of_words kind words =
+    if bytes_eq kind (codes "attach") then attach_line words
+    else if bytes_eq kind (codes "link") then link_line words
+    else if bytes_eq kind (codes "flow") then flow_line words
+    else if bytes_eq kind (codes "transfer") then transfer_line words
+    else if bytes_eq kind (codes "post") then post_line words
+    else if bytes_eq kind (codes "disposition") then disposition_line words
+    else if bytes_eq kind (codes "retire") then retire_line words
+    else if bytes_eq kind (codes "detach") then detach_line words
+    else None
+
+-- a frame as a step
+abbrev pub frame_step : Option Frame → Option Step
+frame_step None = None
+frame_step (Some frame) = Some (steps.Frame frame)
 
 -- control K PAYLOAD
 unfoldable pub control_line : List (List ℕ) → Option Step
@@ -276,21 +287,13 @@ link_end_line words = do
 -- the step of a line, by its first word and the words after it
 unfoldable pub step_of_words : List ℕ → List (List ℕ) → Option Step
 step_of_words kind words =
-    if bytes_eq kind (codes "attach") then attach_line words
-    else if bytes_eq kind (codes "link") then link_line words
-    else if bytes_eq kind (codes "flow") then flow_line words
-    else if bytes_eq kind (codes "transfer") then transfer_line words
-    else if bytes_eq kind (codes "post") then post_line words
-    else if bytes_eq kind (codes "disposition") then disposition_line words
-    else if bytes_eq kind (codes "retire") then retire_line words
-    else if bytes_eq kind (codes "detach") then detach_line words
-    else if bytes_eq kind (codes "control") then control_line words
+    if bytes_eq kind (codes "control") then control_line words
     else if bytes_eq kind (codes "link-end") then link_end_line words
     else if bytes_eq kind (codes "end") then alone words (steps.LocalEnd None)
     else if bytes_eq kind (codes "remote-end") then alone words (steps.RemoteEnd None)
     else if bytes_eq kind (codes "connection-stop") then
     alone words (steps.ConnectionStop reasons.RemoteClosed)
-    else None
+    else frame_step (frame_of_words kind words)
 
 -- the step that a line spells
 unfoldable pub step_of_line : List ℕ → Option Step
@@ -298,18 +301,6 @@ step_of_line line = do
   kind ← word_at (words_of line)
   step_of_words kind.0 kind.1
 
--- a step before the steps of the lines that follow, or the number of the line that isn't a step
-abbrev pub step_then : Option Step → ℕ → Result (List Step) ℕ → Result (List Step) ℕ
-step_then None number others = Err number
-step_then (Some step) number (Ok more) = Ok (step ∷ more)
-step_then (Some step) number (Err bad) = Err bad
-
--- the steps of lines of which the first has that number
-unfoldable pub steps_from : ℕ → List (List ℕ) → Result (List Step) ℕ
-steps_from number [] = Ok []
-steps_from number (line ∷ others) =
-    step_then (step_of_line line) number (steps_from (number + 1) others)
-
 -- the steps of the input's lines, or the number, from 1, of the first line that isn't a step
 abbrev pub input_steps : List ℕ → Result (List Step) ℕ
-input_steps octets = steps_from 1 (lines_of octets)
+input_steps octets = items_from step_of_line 1 (lines_of octets)

@@ -38,31 +38,31 @@ pub fn is_text(word: &[u8], text: &str) -> bool
 }
 
 /// The first of the words that are left, and the others.
-pub(crate) fn word_at(words: Option<&[u8]>) -> Result<(&[u8], Option<&[u8]>), Unread>
+pub fn word_at(words: Option<&[u8]>) -> Result<(&[u8], Option<&[u8]>), Unread>
     ensures { Reads (λ x. (x.0.now, words_left x.1)) result (word_at (words_left words.entry)) }
 {
     let Some(octets) = words else {
-        return Err(Unread::NotAStep);
+        return Err(Unread::OutsideTable);
     };
     Ok(cut_at(octets, b' '))
 }
 
 /// That no word is left.
-pub(crate) fn end_at(words: Option<&[u8]>) -> Result<(), Unread>
+pub fn end_at(words: Option<&[u8]>) -> Result<(), Unread>
     ensures { Reads (λ x. x) result (ended (words_left words.entry)) }
 {
     match words {
         None => Ok(()),
-        Some(_) => Err(Unread::NotAStep),
+        Some(_) => Err(Unread::OutsideTable),
     }
 }
 
 /// A name, of 1 to 64 characters.
-pub(crate) fn name_of(word: &[u8]) -> Result<&str, Unread>
+pub fn name_of(word: &[u8]) -> Result<&str, Unread>
     ensures { Reads (λ name. name.now) result (name_of word.now) }
 {
     if !is_name(word) {
-        return Err(Unread::NotAStep);
+        return Err(Unread::OutsideTable);
     }
     match str::from_utf8(word) {
         Ok(name) => Ok(name),
@@ -136,7 +136,7 @@ fn with_digit(number: u64, digit: u8, limit: u64) -> Option<u64>
 }
 
 /// A number up to 4,294,967,295.
-pub(crate) fn u32_of(word: &[u8]) -> Option<u32>
+pub fn u32_of(word: &[u8]) -> Option<u32>
     ensures { result ≡ u32_of word.now }
 {
     match number_of(word, 4_294_967_295) {
@@ -145,7 +145,8 @@ pub(crate) fn u32_of(word: &[u8]) -> Option<u32>
     }
 }
 
-fn bool_of(word: &[u8]) -> Option<bool>
+/// `true` or `false`; `None` for any other word.
+pub fn bool_of(word: &[u8]) -> Option<bool>
     ensures { result ≡ bool_of word.now }
 {
     if is_text(word, "true") {
@@ -157,7 +158,8 @@ fn bool_of(word: &[u8]) -> Option<bool>
     }
 }
 
-fn role_of(word: &[u8]) -> Option<Role>
+/// `sender` or `receiver`; `None` for any other word.
+pub fn role_of(word: &[u8]) -> Option<Role>
     ensures { result ≡ role_of word.now }
 {
     if is_text(word, "sender") {
@@ -169,7 +171,8 @@ fn role_of(word: &[u8]) -> Option<Role>
     }
 }
 
-fn outcome_of(word: &[u8]) -> Option<Outcome>
+/// An outcome by its name, with no more than the name; `None` for any other word.
+pub fn outcome_of(word: &[u8]) -> Option<Outcome>
     ensures { result ≡ outcome_of word.now }
 {
     if is_text(word, "accepted") {
@@ -190,7 +193,7 @@ fn outcome_of(word: &[u8]) -> Option<Outcome>
 }
 
 /// An outcome, or `-` for none.
-pub(crate) fn optional_outcome_of(word: &[u8]) -> Result<Option<Outcome>, Unread>
+pub fn optional_outcome_of(word: &[u8]) -> Result<Option<Outcome>, Unread>
     ensures { Reads (λ outcome. outcome) result (optional outcome_of word.now) }
 {
     if is_text(word, "-") {
@@ -198,7 +201,7 @@ pub(crate) fn optional_outcome_of(word: &[u8]) -> Result<Option<Outcome>, Unread
     }
     match outcome_of(word) {
         Some(outcome) => Ok(Some(outcome)),
-        None => Err(Unread::NotAStep),
+        None => Err(Unread::OutsideTable),
     }
 }
 
@@ -209,7 +212,7 @@ fn octets_of(alloc: Global, word: &[u8]) -> Result<Vec<u8>, Unread>
     match hex::decode(alloc, word) {
         Ok(octets) => Ok(octets),
         Err(FromHexError::OutOfMemory) => Err(Unread::NoMemory),
-        Err(_) => Err(Unread::NotAStep),
+        Err(_) => Err(Unread::OutsideTable),
     }
 }
 
@@ -233,19 +236,19 @@ fn short_id_of(word: &[u8]) -> Result<TransactionId, Unread>
 {
     let mut block = [0; 32];
     let Some(len) = short_octets_of(word, &mut block) else {
-        return Err(Unread::NotAStep);
+        return Err(Unread::OutsideTable);
     };
     if len == 0 {
-        return Err(Unread::NotAStep);
+        return Err(Unread::OutsideTable);
     }
     match TransactionId::new(&block[..len]) {
         Ok(id) => Ok(id),
-        Err(_) => Err(Unread::NotAStep),
+        Err(_) => Err(Unread::OutsideTable),
     }
 }
 
 /// The id of a transaction, of 1 to 32 octets in hexadecimal digits.
-pub(crate) fn txn_id_of(alloc: Global, word: &[u8]) -> Result<TransactionId, Unread>
+pub fn txn_id_of(alloc: Global, word: &[u8]) -> Result<TransactionId, Unread>
     ensures { Reads (λ id. id) result (txn_id_of word.now) }
 {
     if word.len() <= 64 {
@@ -253,16 +256,16 @@ pub(crate) fn txn_id_of(alloc: Global, word: &[u8]) -> Result<TransactionId, Unr
     }
     let octets = octets_of(alloc, word)?;
     if octets.is_empty() {
-        return Err(Unread::NotAStep);
+        return Err(Unread::OutsideTable);
     }
     match TransactionId::new(octets.as_slice()) {
         Ok(id) => Ok(id),
-        Err(_) => Err(Unread::NotAStep),
+        Err(_) => Err(Unread::OutsideTable),
     }
 }
 
 /// The octets of a message in hexadecimal digits, or `-` for none.
-pub(crate) fn payload_of(alloc: Global, word: &[u8]) -> Result<Payload, Unread>
+pub fn payload_of(alloc: Global, word: &[u8]) -> Result<Payload, Unread>
     ensures { Reads (λ octets. octets) result (payload_of word.now) }
 {
     if is_text(word, "-") {
@@ -271,22 +274,22 @@ pub(crate) fn payload_of(alloc: Global, word: &[u8]) -> Result<Payload, Unread>
     if word.len() <= 64 {
         let mut block = [0; 32];
         let Some(len) = short_octets_of(word, &mut block) else {
-            return Err(Unread::NotAStep);
+            return Err(Unread::OutsideTable);
         };
         if len == 0 {
-            return Err(Unread::NotAStep);
+            return Err(Unread::OutsideTable);
         }
         return Ok(Payload::from_slice(alloc, &block[..len])?);
     }
     let octets = octets_of(alloc, word)?;
     if octets.is_empty() {
-        return Err(Unread::NotAStep);
+        return Err(Unread::OutsideTable);
     }
     Ok(Payload::from_slice(alloc, octets.as_slice())?)
 }
 
 /// A name and the words after it.
-pub(crate) fn name_at(words: Option<&[u8]>) -> Result<(&str, Option<&[u8]>), Unread>
+pub fn name_at(words: Option<&[u8]>) -> Result<(&str, Option<&[u8]>), Unread>
     ensures { Reads (λ x. (x.0.now, words_left x.1)) result
         (next name_of (words_left words.entry)) }
 {
@@ -295,29 +298,29 @@ pub(crate) fn name_at(words: Option<&[u8]>) -> Result<(&str, Option<&[u8]>), Unr
 }
 
 /// A number up to 4,294,967,295 and the words after it.
-pub(crate) fn u32_at(words: Option<&[u8]>) -> Result<(u32, Option<&[u8]>), Unread>
+pub fn u32_at(words: Option<&[u8]>) -> Result<(u32, Option<&[u8]>), Unread>
     ensures { Reads (λ x. (x.0, words_left x.1)) result (next u32_of (words_left words.entry)) }
 {
     let (word, words) = word_at(words)?;
     let Some(number) = u32_of(word) else {
-        return Err(Unread::NotAStep);
+        return Err(Unread::OutsideTable);
     };
     Ok((number, words))
 }
 
 /// A number up to 18,446,744,073,709,551,615 and the words after it.
-pub(crate) fn u64_at(words: Option<&[u8]>) -> Result<(u64, Option<&[u8]>), Unread>
+pub fn u64_at(words: Option<&[u8]>) -> Result<(u64, Option<&[u8]>), Unread>
     ensures { Reads (λ x. (x.0, words_left x.1)) result (next u64_of (words_left words.entry)) }
 {
     let (word, words) = word_at(words)?;
     let Some(number) = number_of(word, u64::MAX) else {
-        return Err(Unread::NotAStep);
+        return Err(Unread::OutsideTable);
     };
     Ok((number, words))
 }
 
 /// A number up to 4,294,967,295 or `-`, and the words after it.
-fn optional_u32_at(words: Option<&[u8]>) -> Result<(Option<u32>, Option<&[u8]>), Unread>
+pub fn optional_u32_at(words: Option<&[u8]>) -> Result<(Option<u32>, Option<&[u8]>), Unread>
     ensures { Reads (λ x. (x.0, words_left x.1)) result
         (next (optional u32_of) (words_left words.entry)) }
 {
@@ -326,24 +329,24 @@ fn optional_u32_at(words: Option<&[u8]>) -> Result<(Option<u32>, Option<&[u8]>),
         return Ok((None, words));
     }
     let Some(number) = u32_of(word) else {
-        return Err(Unread::NotAStep);
+        return Err(Unread::OutsideTable);
     };
     Ok((Some(number), words))
 }
 
 /// `true` or `false`, and the words after it.
-pub(crate) fn bool_at(words: Option<&[u8]>) -> Result<(bool, Option<&[u8]>), Unread>
+pub fn bool_at(words: Option<&[u8]>) -> Result<(bool, Option<&[u8]>), Unread>
     ensures { Reads (λ x. (x.0, words_left x.1)) result (next bool_of (words_left words.entry)) }
 {
     let (word, words) = word_at(words)?;
     let Some(flag) = bool_of(word) else {
-        return Err(Unread::NotAStep);
+        return Err(Unread::OutsideTable);
     };
     Ok((flag, words))
 }
 
 /// `true`, `false` or `-`, and the words after it.
-fn optional_bool_at(words: Option<&[u8]>) -> Result<(Option<bool>, Option<&[u8]>), Unread>
+pub fn optional_bool_at(words: Option<&[u8]>) -> Result<(Option<bool>, Option<&[u8]>), Unread>
     ensures { Reads (λ x. (x.0, words_left x.1)) result
         (next (optional bool_of) (words_left words.entry)) }
 {
@@ -352,25 +355,25 @@ fn optional_bool_at(words: Option<&[u8]>) -> Result<(Option<bool>, Option<&[u8]>
         return Ok((None, words));
     }
     let Some(flag) = bool_of(word) else {
-        return Err(Unread::NotAStep);
+        return Err(Unread::OutsideTable);
     };
     Ok((Some(flag), words))
 }
 
 /// A role and the words after it.
-pub(crate) fn role_at(words: Option<&[u8]>) -> Result<(Role, Option<&[u8]>), Unread>
+pub fn role_at(words: Option<&[u8]>) -> Result<(Role, Option<&[u8]>), Unread>
     ensures { Reads (λ x. (x.0, words_left x.1)) result (next role_of (words_left words.entry)) }
 {
     let (word, words) = word_at(words)?;
     let Some(role) = role_of(word) else {
-        return Err(Unread::NotAStep);
+        return Err(Unread::OutsideTable);
     };
     Ok((role, words))
 }
 
 /// The words `H ID SET`, and those after them.
 #[tactic(auto, unfolding(crate::specs::Lines::delivery_at))]
-pub(crate) fn delivery_at(words: Option<&[u8]>) -> Result<(Delivery, Option<&[u8]>), Unread>
+pub fn delivery_at(words: Option<&[u8]>) -> Result<(Delivery, Option<&[u8]>), Unread>
     ensures { Reads (λ x. (x.0, words_left x.1)) result (delivery_at (words_left words.entry)) }
 {
     let (handle, words) = u32_at(words)?;
@@ -386,7 +389,7 @@ pub(crate) fn delivery_at(words: Option<&[u8]>) -> Result<(Delivery, Option<&[u8
 
 /// The words `ROLE FIRST LAST BOOL`, and those after them.
 #[tactic(auto, unfolding(crate::specs::Lines::deliveries_at))]
-pub(crate) fn deliveries_at(words: Option<&[u8]>) -> Result<(Deliveries, Option<&[u8]>), Unread>
+pub fn deliveries_at(words: Option<&[u8]>) -> Result<(Deliveries, Option<&[u8]>), Unread>
     ensures { Reads (λ x. (x.0, words_left x.1)) result (deliveries_at (words_left words.entry)) }
 {
     let (role, words) = role_at(words)?;

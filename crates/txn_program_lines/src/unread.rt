@@ -1,4 +1,4 @@
-//! Why no step came of a line.
+//! Why a reader of words has no answer.
 
 ghost use Rattle.std.specs.Prelude.{◌≡◌};
 ghost use Rattle.txn_program_lines.specs.declared.unread.Unread.TheVariants as unread;
@@ -8,8 +8,8 @@ use amqp_txn_types::NoMemory;
 /// Why a reader of words has no answer.
 #[derive(Clone, Copy, Debug, PartialEq, Eq)]
 pub enum Unread {
-    /// The words are of no form of a step.
-    NotAStep,
+    /// The words are of no form of the table.
+    OutsideTable,
     /// An allocation failed.
     NoMemory,
 }

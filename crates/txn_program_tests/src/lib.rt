@@ -4,6 +4,8 @@
 #[cfg(test)]
 mod listen_tests;
 #[cfg(test)]
+mod process_tests;
+#[cfg(test)]
 mod run_over;
 #[cfg(test)]
 mod seed_tests;

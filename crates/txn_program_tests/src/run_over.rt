@@ -9,7 +9,11 @@ use txn_program::{run_commands, status};
 
 pub(crate) const A: &str = "00000000000000000000000000000001";
 
-fn append_words(alloc: Global, texts: &mut Items<Text>, words: &[&str]) -> Result<(), NoMemory> {
+pub(crate) fn append_words(
+    alloc: Global,
+    texts: &mut Items<Text>,
+    words: &[&str],
+) -> Result<(), NoMemory> {
     for word in words {
         texts.append(Text::from_str(alloc, word)?)?;
     }

@@ -1,12 +1,12 @@
 //! The calls of an accepting listener beside those of a layer below: each is its listener's.
 
 use crate::accepting::AcceptingListener;
-use amqp_accept_listener::{ListenerSession, count_answer};
+use amqp_accept_listener::ListenerSession;
 use amqp_below_layer::{LayerBelow, SessionInnerError, Tells};
 use amqp_below_sessions::{AllocLinkError, BeginError, NameState, Relay, Session};
 use amqp_txn_types::{
     Attach, Begin, ConnectionStopReason, Detach, End, Error, Flow, IncomingChannel, InputHandle,
-    LinkFlow, OutgoingChannel, OutputHandle, SessionStopReason, Text, Transfer,
+    LinkFlow, OutgoingChannel, OutputHandle, SessionStopReason, Text, Transfer, count_answer,
 };
 
 impl<S: Session> Session for AcceptingListener<S> {
@@ -14,7 +14,7 @@ impl<S: Session> Session for AcceptingListener<S> {
     ghost use Rattle.amqp_below_sessions.specs.SessionStates.{begin_received, begin_sent, end_received, end_sent};
     ghost use Rattle.amqp_accept_at_once.specs.AtOnce.{AcceptsOver, PassesCheck, PassesMove, PassesSame, listener_of};
     ghost use Rattle.amqp_accept_listener.specs.Listening.{inner_of};
-    ghost use Rattle.amqp_accept_listener.specs.ListenerLaws.{heard-leaves as listener-leaves};
+    ghost use Rattle.amqp_accept_listener.specs.ListenerLaws.{heard-leaves as listener-leaves, opening-leaves, passed-leaves};
     ghost use Rattle.amqp_accept_at_once.specs.AtOnceLaws.{heard-leaves};
 
     ghost kept = { λ l. ⟦<ListenerSession<S> as Session>⟧.kept (listener_of l) };
@@ -90,17 +90,24 @@ impl<S: Session> Session for AcceptingListener<S> {
         ⟦<ListenerSession<S> as Session>⟧.outgoing_flow_gives
         ⟦<ListenerSession<S> as Session>⟧.deallocate_link_gives) old new frame answer gives };
 
-    ghost opening_leaves = { λ old new attach answer gives. gives.gave.leaves };
+    ghost opening_leaves = { λ old new attach answer gives.
+        opening-leaves S.told S.kept S.names (listener_of old) (listener_of new) attach answer
+        gives.gave.leaves gives.gave.queue };
 
-    ghost check_leaves = { λ old new disposition answer gives. S.check_leaves
-        (inner_of (listener_of old)) (inner_of (listener_of new)) disposition answer
-        gives.gave.gave };
+    ghost check_leaves = { λ old new disposition answer gives.
+        passed-leaves S.told S.kept S.names (listener_of old) (listener_of new)
+        (S.check_leaves (inner_of (listener_of old)) (inner_of (listener_of new)) disposition
+        answer gives.gave.gave) gives.gave.keeps.queue };
 
-    ghost review_leaves = { λ old new list answer gives. S.review_leaves
-        (inner_of (listener_of old)) (inner_of (listener_of new)) list answer gives.gave.gave };
+    ghost review_leaves = { λ old new list answer gives.
+        passed-leaves S.told S.kept S.names (listener_of old) (listener_of new)
+        (S.review_leaves (inner_of (listener_of old)) (inner_of (listener_of new)) list answer
+        gives.gave.gave) gives.gave.keeps.queue };
 
-    ghost window_leaves = { λ old new flow gives. S.window_leaves
-        (inner_of (listener_of old)) (inner_of (listener_of new)) flow gives.gave.gave };
+    ghost window_leaves = { λ old new flow gives.
+        passed-leaves S.told S.kept S.names (listener_of old) (listener_of new)
+        (S.window_leaves (inner_of (listener_of old)) (inner_of (listener_of new)) flow
+        gives.gave.gave) gives.gave.keeps.queue };
 
     fn session_stop_reason(&self) -> Option<&SessionStopReason> {
         self.listener.session_stop_reason()

@@ -1,12 +1,12 @@
 //! The calls of a listener beside those of a layer below: each goes to the session in it.
 
-use crate::hearing::{allocate_held, count_answer};
+use crate::hearing::allocate_held;
 use crate::listener::ListenerSession;
 use amqp_below_layer::SessionInnerError;
 use amqp_below_sessions::{AllocLinkError, BeginError, NameState, Relay, Session};
 use amqp_txn_types::{
     Attach, Begin, ConnectionStopReason, Detach, End, Error, Flow, IncomingChannel, InputHandle,
-    LinkFlow, OutgoingChannel, OutputHandle, SessionStopReason, Text, Transfer,
+    LinkFlow, OutgoingChannel, OutputHandle, SessionStopReason, Text, Transfer, count_answer,
 };
 
 impl<S: Session> Session for ListenerSession<S> {
@@ -14,10 +14,10 @@ impl<S: Session> Session for ListenerSession<S> {
     ghost use Rattle.amqp_below_layer.specs.Told.{Checks};
     ghost use Rattle.amqp_below_sessions.specs.Sessions.{Moves};
     ghost use Rattle.amqp_below_sessions.specs.SessionStates.{begin_received, begin_sent, end_received, end_sent};
-    ghost use Rattle.amqp_accept_listener.specs.Listening.{Allocates, Passes, PassesOn, inner_of};
-    ghost use Rattle.amqp_accept_listener.specs.ListenerLaws.{heard-leaves};
+    ghost use Rattle.amqp_accept_listener.specs.Listening.{Allocates, Passes, PassesOn, inner_of, kept_with};
+    ghost use Rattle.amqp_accept_listener.specs.ListenerLaws.{heard-leaves, opening-leaves, passed-leaves};
 
-    ghost kept = { λ l. S.kept l.session };
+    ghost kept = { kept_with S.kept };
 
     ghost names = { λ l. S.names l.session };
 
@@ -78,16 +78,21 @@ impl<S: Session> Session for ListenerSession<S> {
         heard-leaves S.told S.kept S.names S.accepts_at_once S.incoming_gives S.incoming_leaves
         old new frame answer gives };
 
-    ghost opening_leaves = { λ old new attach answer gives. gives.leaves };
+    ghost opening_leaves = { λ old new attach answer gives.
+        opening-leaves S.told S.kept S.names old new attach answer gives.leaves gives.queue };
 
     ghost check_leaves = { λ old new disposition answer gives.
-        S.check_leaves (inner_of old) (inner_of new) disposition answer gives.gave };
+        passed-leaves S.told S.kept S.names old new
+        (S.check_leaves (inner_of old) (inner_of new) disposition answer gives.gave)
+        gives.keeps.queue };
 
     ghost review_leaves = { λ old new list answer gives.
-        S.review_leaves (inner_of old) (inner_of new) list answer gives.gave };
+        passed-leaves S.told S.kept S.names old new
+        (S.review_leaves (inner_of old) (inner_of new) list answer gives.gave) gives.keeps.queue };
 
     ghost window_leaves = { λ old new flow gives.
-        S.window_leaves (inner_of old) (inner_of new) flow gives.gave };
+        passed-leaves S.told S.kept S.names old new
+        (S.window_leaves (inner_of old) (inner_of new) flow gives.gave) gives.keeps.queue };
 
     fn session_stop_reason(&self) -> Option<&SessionStopReason> {
         self.session.session_stop_reason()

@@ -1,11 +1,10 @@
 //! A listener does no transactions.
 
-use crate::hearing::count_one;
 use crate::listener::ListenerSession;
 use amqp_below_ids::{Drawn, IdSource};
 use amqp_below_layer::Echoes;
 use amqp_below_sessions::{AllocTxnIdError, CommitFault, HandleDeclare, HandleDischarge, Session};
-use amqp_txn_types::{Accepted, TransactionError, TransactionId};
+use amqp_txn_types::{Accepted, TransactionError, TransactionId, count_one};
 
 impl<S: Session> HandleDeclare for ListenerSession<S> {
     ghost use Rattle.std.specs.Prelude.{◌≡◌, Err};

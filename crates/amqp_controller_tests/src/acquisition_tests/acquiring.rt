@@ -1,8 +1,8 @@
 //! Acquiring deliveries.
 
 use super::fixtures::{
-    a_and_b, acquired, as_of, controller, done, flow_is, receiver, refused, skips, transaction,
-    with_uint,
+    a_and_b, acquired, as_of, controller, done, flow_is, receiver, refused, skips, still_waits,
+    transaction, waits, with_uint,
 };
 use amqp_controller_acquisition::TransactionAcquisition;
 use amqp_controller_transactions::TransactionDischarge;
@@ -38,19 +38,22 @@ fn acquiring_puts_one_flow_that_names_the_transaction(rt: HostRuntime) {
     assert_eq!(rt; puts, 1);
 }
 
-/// Acquiring fails as illegal, puts nothing, and leaves the properties of the receiver, those of
-/// another.
+/// Acquiring fails as illegal, puts nothing, and leaves the receiver, with the properties of
+/// another; the call of the receiver after it has that number.
 fn fails_and_leaves<R: Wait + Abort>(
     rt: &R,
     alloc: Global,
     mut wire: WireReceiver,
     other: WireReceiver,
+    next: u64,
 ) {
+    waits(rt, alloc, &mut wire);
     let controller = controller(rt, alloc);
     let transaction = transaction(rt, &controller);
     let (transaction, fault) = refused(rt, transaction.acquire(alloc, &mut wire, 1));
     drop(transaction.abandon(rt));
     drop(controller);
+    still_waits(rt, alloc, &mut wire, next);
     let none = wire.put().is_empty();
     let left = as_of(&wire, &other);
     drop(wire);
@@ -63,9 +66,9 @@ fn fails_and_leaves<R: Wait + Abort>(
 #[test]
 fn a_refused_flow_leaves_the_properties(rt: HostRuntime) {
     let alloc = rt.alloc();
-    let wire = a_and_b(&rt, alloc, &[1]);
+    let wire = a_and_b(&rt, alloc, &[2]);
     let other = a_and_b(&rt, alloc, &[]);
-    fails_and_leaves(&rt, alloc, wire, other);
+    fails_and_leaves(&rt, alloc, wire, other, 3);
 }
 
 /// A receiver whose properties name a transaction.
@@ -80,5 +83,5 @@ fn a_second_acquisition_is_illegal(rt: HostRuntime) {
     let alloc = rt.alloc();
     let wire = named_before(&rt, alloc);
     let other = named_before(&rt, alloc);
-    fails_and_leaves(&rt, alloc, wire, other);
+    fails_and_leaves(&rt, alloc, wire, other, 2);
 }

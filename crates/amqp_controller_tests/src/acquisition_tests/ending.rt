@@ -3,14 +3,14 @@
 use super::fixtures::{
     WireAcquisition, WireTransaction, a_and_b, acquired, answers, as_of, controller, done,
     ends_discharged, flow_is, is_to_fail, last_is, next_call_is, pending, puts, ready, receiver,
-    refused, skips,
+    refused, skips, still_waits, waits,
 };
 use amqp_controller_acquisition::AcquisitionDischarging;
 use amqp_controller_calls::{Abandoned, ControllerSendError};
 use amqp_controller_transactions::{Controller, TransactionDischarge};
 use amqp_links::{FlowError, LinkStateError, WireReceiver, WireSender};
-use amqp_test_values::same;
-use amqp_txn_types::{DeliveryState, Fields, Rejected};
+use amqp_test_values::{plain_error, same};
+use amqp_txn_types::{DeliveryState, ErrorCondition, Fields, Rejected, TransactionError};
 use std::alloc::Global;
 use std::process::Abort;
 use std::sync::Wait;
@@ -186,6 +186,31 @@ fn a_refused_end_hands_the_acquisition_back(rt: HostRuntime) {
     handed_back_row(&rt, rt.alloc(), state, want);
 }
 
+/// A discharge that the coordinator answered by a rollback.
+fn rolled_back() -> DeliveryState {
+    let condition = ErrorCondition::TransactionError(TransactionError::Rollback);
+    DeliveryState::Rejected(Rejected {
+        error: Some(plain_error(condition)),
+    })
+}
+
+/// It is given up without a rollback, after another cleanup.
+#[test]
+fn an_acquisition_that_was_rolled_back_cleans_up(rt: HostRuntime) {
+    let alloc = rt.alloc();
+    let controller = controller(&rt, alloc);
+    let mut wire = receiver(&rt, alloc, &[]);
+    let acquisition = acquired(&rt, alloc, &controller, &mut wire);
+    let discharging = begun(&rt, acquisition, false);
+    answers(&rt, &controller, 1, rolled_back());
+    let (acquisition, error) = refused(&rt, ready(&rt, discharging.poll(&rt)));
+    drop(error);
+    assert!(rt; same(acquisition.abandon(&rt), Abandoned::RolledBack));
+    assert_eq!(rt; puts(&rt, &controller), 2);
+    drop(controller);
+    is_cleaned(&rt, alloc, wire, 3);
+}
+
 /// What giving an acquisition up with one trial comes to.
 fn given_up<R: Wait>(rt: &R, mut acquisition: WireAcquisition<'_, '_>) -> Abandoned {
     acquisition.txn_mut().set_rollback_on_drop_trials(1);
@@ -196,12 +221,14 @@ fn given_up<R: Wait>(rt: &R, mut acquisition: WireAcquisition<'_, '_>) -> Abando
 fn gives_up<R: Wait + Abort>(rt: &R, alloc: Global) {
     let controller = controller(rt, alloc);
     let mut wire = receiver(rt, alloc, &[]);
+    waits(rt, alloc, &mut wire);
     let acquisition = acquired(rt, alloc, &controller, &mut wire);
     assert!(rt; same(given_up(rt, acquisition), Abandoned::Unanswered));
     assert!(rt; last_is(rt, alloc, &controller, &ROLLBACK));
     assert_eq!(rt; puts(rt, &controller), 2);
     assert!(rt; next_call_is(rt, alloc, &controller, 5));
     drop(controller);
+    still_waits(rt, alloc, &mut wire, 4);
     is_cleaned(rt, alloc, wire, 2);
 }
 
@@ -228,10 +255,12 @@ fn an_abandon_once_discharged_puts_nothing(rt: HostRuntime) {
     let alloc = rt.alloc();
     let controller = controller(&rt, alloc);
     let mut wire = receiver(&rt, alloc, &[]);
+    waits(&rt, alloc, &mut wire);
     let acquisition = acquired(&rt, alloc, &controller, &mut wire);
     ends_discharged(&rt, &controller, acquisition);
     assert_eq!(rt; puts(&rt, &controller), 2);
     drop(controller);
+    still_waits(&rt, alloc, &mut wire, 3);
     let count = wire.put().len();
     drop(wire);
     assert_eq!(rt; count, 1);

@@ -5,13 +5,13 @@ use amqp_controller_acquisition::{TransactionAcquisition, TxnAcquisition};
 use amqp_controller_calls::Abandoned;
 use amqp_controller_transactions::{Controller, Transaction, TransactionDischarge};
 use amqp_links::{
-    LinkStateError, Poll, Progress, ReceiverLink, ReceiverMessage, Sendable, SenderLink, Sent,
-    WireReceiver, WireSender,
+    Delivery, DeliveryInfo, LinkStateError, Poll, Progress, ReceiverLink, ReceiverMessage,
+    RecvError, Sendable, SenderLink, Sent, WireReceiver, WireSender,
 };
 use amqp_test_values::{call_numbers, link_end, same};
 use amqp_txn_types::{
-    Declared, DeliveryState, Fields, LinkEnd, Payload, Role, Symbol, Text, Token, TransactionId,
-    Value,
+    Binary, Declared, DeliveryState, Fields, LinkEnd, Payload, Role, Symbol, Text, Token,
+    TransactionId, Value,
 };
 use std::alloc::Global;
 use std::process::Abort;
@@ -79,6 +79,38 @@ pub fn a_and_b(rt: &impl Abort, alloc: Global, failing: &[u64]) -> WireReceiver 
     with_uint(rt, alloc, &mut wire, "a", 1);
     with_uint(rt, alloc, &mut wire, "b", 2);
     wire
+}
+
+/// The seventh delivery.
+pub fn seventh(alloc: Global) -> DeliveryInfo {
+    DeliveryInfo {
+        delivery_id: 7,
+        delivery_tag: Binary::new(alloc),
+        rcv_settle_mode: None,
+    }
+}
+
+/// A delivery of no octets.
+pub fn delivery(alloc: Global) -> Delivery {
+    Delivery {
+        info: seventh(alloc),
+        payload: Payload::new(),
+    }
+}
+
+/// A delivery waits on the receiver, whose credit is set to five by its first call.
+pub fn waits(rt: &impl Abort, alloc: Global, wire: &mut WireReceiver) {
+    done(rt, wire.deliver(delivery(alloc)));
+    done(rt, wire.set_credit(5));
+}
+
+/// The credit is five, the next call of the receiver has that number, and the delivery still waits.
+pub fn still_waits(rt: &impl Abort, alloc: Global, wire: &mut WireReceiver, next: u64) {
+    assert_eq!(rt; wire.credit(), 5);
+    wire.set_failing(call_numbers(alloc, &[next]).expect(rt, "numbers"));
+    let fault = RecvError::LinkStateError(LinkStateError::IllegalState);
+    assert!(rt; same(wire.recv(), Poll::Ready(Err(fault))));
+    assert!(rt; same(wire.recv(), Poll::Ready(Ok(delivery(alloc)))));
 }
 
 /// Puts a number under a key of the receiver's properties.

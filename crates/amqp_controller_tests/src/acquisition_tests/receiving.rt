@@ -1,32 +1,16 @@
 //! What is received and retired under an acquisition.
 
 use super::fixtures::{
-    WireAcquisition, acquired, controller, done, ends_discharged, id, receiver, skips,
+    WireAcquisition, acquired, controller, delivery, done, ends_discharged, id, receiver, refused,
+    seventh, skips,
 };
-use amqp_links::{Delivery, DeliveryInfo, Poll, ReceiverMessage, WireReceiver};
+use amqp_links::{
+    DeliveryInfo, FlowError, LinkStateError, Poll, ReceiverMessage, RecvError, WireReceiver,
+};
 use amqp_test_values::same;
-use amqp_txn_types::{
-    Binary, DeliveryState, Modified, Outcome, Payload, Rejected, TransactionalState,
-};
+use amqp_txn_types::{DeliveryState, Modified, Outcome, Rejected, TransactionalState};
 use std::alloc::Global;
 use std::process::Abort;
-
-/// The seventh delivery.
-fn seventh(alloc: Global) -> DeliveryInfo {
-    DeliveryInfo {
-        delivery_id: 7,
-        delivery_tag: Binary::new(alloc),
-        rcv_settle_mode: None,
-    }
-}
-
-/// A delivery of no octets.
-fn delivery(alloc: Global) -> Delivery {
-    Delivery {
-        info: seventh(alloc),
-        payload: Payload::new(),
-    }
-}
 
 #[test]
 fn a_delivery_is_received(rt: HostRuntime) {
@@ -55,6 +39,23 @@ fn the_credit_is_set(rt: HostRuntime) {
     let credit = wire.credit();
     drop(wire);
     assert_eq!(rt; credit, 5);
+}
+
+/// The second call of the receiver is that of the credit, and the third is the look.
+#[test]
+fn faults_of_the_receiver_are_passed_on(rt: HostRuntime) {
+    let alloc = rt.alloc();
+    let controller = controller(&rt, alloc);
+    let mut wire = receiver(&rt, alloc, &[2, 3]);
+    let mut acquisition = acquired(&rt, alloc, &controller, &mut wire);
+    let fault = refused(&rt, acquisition.set_credit(5));
+    let found = acquisition.recv();
+    skips(&rt, acquisition);
+    drop(controller);
+    drop(wire);
+    assert!(rt; same(fault, FlowError::IllegalState));
+    let want = RecvError::LinkStateError(LinkStateError::IllegalState);
+    assert!(rt; same(found, Poll::Ready(Err(want))));
 }
 
 /// A modification that says that the delivery failed.

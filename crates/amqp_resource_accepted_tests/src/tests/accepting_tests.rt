@@ -102,7 +102,7 @@ fn an_accepted_session_answers_the_peer(rt: HostRuntime) {
 
 /// What beginning a session answers, in a word.
 fn begun(alloc: Global, builder: Builder, mut on: MemoryConnection) -> &'static str {
-    let answer = begin(builder, alloc, &mut on);
+    let answer = begin(alloc, builder, &mut on);
     drop(on);
     match answer {
         Ok((session, begin)) => {

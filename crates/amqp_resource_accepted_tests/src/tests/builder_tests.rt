@@ -61,15 +61,40 @@ fn counts(acceptor: SessionAcceptor) -> (usize, usize) {
     (offered, desired)
 }
 
+/// An acceptor with one thing that this side can do, in either form.
+fn offering<R: Abort>(rt: &R, alloc: Global, kept: bool) -> SessionAcceptor {
+    let builder = SessionAcceptor::builder();
+    let offered = symbol(rt, alloc, "a");
+    if kept {
+        let answer = builder.add_offered_capabilities(alloc, offered);
+        return answer.ok().expect(rt, "memory").build();
+    }
+    let answer = builder.append_offered_capabilities(alloc, offered);
+    answer.expect(rt, "memory").build()
+}
+
+/// An acceptor with one thing that it wants the peer to do, in either form.
+fn desiring<R: Abort>(rt: &R, alloc: Global, kept: bool) -> SessionAcceptor {
+    let builder = SessionAcceptor::builder();
+    let desired = symbol(rt, alloc, "b");
+    if kept {
+        let answer = builder.add_desired_capabilities(alloc, desired);
+        return answer.ok().expect(rt, "memory").build();
+    }
+    let answer = builder.append_desired_capabilities(alloc, desired);
+    answer.expect(rt, "memory").build()
+}
+
 #[test]
 fn capabilities_are_added(rt: HostRuntime) {
     let alloc = rt.alloc();
-    let builder = SessionAcceptor::builder();
-    let offered = builder.add_offered_capabilities(alloc, symbol(&rt, alloc, "a"));
-    let builder = offered.ok().expect(&rt, "memory");
-    assert_eq!(rt; counts(builder.build()), (1, 0));
-    let builder = SessionAcceptor::builder();
-    let desired = builder.add_desired_capabilities(alloc, symbol(&rt, alloc, "b"));
-    let builder = desired.ok().expect(&rt, "memory");
-    assert_eq!(rt; counts(builder.build()), (0, 1));
+    assert_eq!(rt; counts(offering(&rt, alloc, true)), (1, 0));
+    assert_eq!(rt; counts(desiring(&rt, alloc, true)), (0, 1));
+}
+
+#[test]
+fn capabilities_are_appended(rt: HostRuntime) {
+    let alloc = rt.alloc();
+    assert_eq!(rt; counts(offering(&rt, alloc, false)), (1, 0));
+    assert_eq!(rt; counts(desiring(&rt, alloc, false)), (0, 1));
 }

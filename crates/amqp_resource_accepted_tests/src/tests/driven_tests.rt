@@ -2,52 +2,15 @@
 //! commit, one on a handle without a link is vetoed there, a plain frame is handed at once, an id
 //! that isn't live stops it.
 
-use crate::tests::test_values::{Listening, incoming, transactional, transfer};
-use amqp_below_ids::CountIds;
+use crate::tests::engine_calls::{Engine, accepted, asked, committed, given_for, taken};
+use crate::tests::test_values::transfer;
 use amqp_below_layer::SessionInnerError;
 use amqp_below_sessions::ListenerSessionEndpoint;
-use amqp_engine_events::{
-    ControlReply, SessionControl, SessionEngine, SessionFrame, SessionFrameBody, Turn,
-};
-use amqp_resource_accepted::*;
+use amqp_engine_events::SessionControl;
 use amqp_resource_session::{StopCode, numbered_id};
 use amqp_test_values::{control_attach, relay, sender_attach, under};
-use amqp_txn_types::{
-    Frame, InputHandle, OutgoingChannel, Role, Text, TransactionError, TransactionId,
-};
+use amqp_txn_types::{Frame, InputHandle, Role, Text, TransactionError};
 use std::alloc::Global;
-
-type Engine = SessionEngine<Listening>;
-
-/// A session that was accepted.
-fn accepted(alloc: Global) -> Option<Engine> {
-    let acceptor = transactional();
-    let answer = acceptor.accept_incoming_session(alloc, incoming(), OutgoingChannel(4));
-    drop(acceptor);
-    let (session, begin) = answer.ok()?;
-    drop(begin);
-    match session {
-        AcceptedSession::Transactional(engine) => Some(engine),
-        AcceptedSession::Plain(engine) => {
-            drop(engine);
-            None
-        }
-    }
-}
-
-/// What the engine answers to a frame. Like those below it says nothing of the session, so that
-/// each call of the engine is proved once.
-fn taken(engine: &mut Engine, frame: Frame) -> Result<Turn, SessionInnerError> {
-    engine.on_incoming(SessionFrame {
-        channel: 3,
-        body: SessionFrameBody::Link(frame),
-    })
-}
-
-/// What the engine answers to a control.
-fn asked(engine: &mut Engine, control: SessionControl) -> Result<Turn, SessionInnerError> {
-    engine.on_control(control, &mut CountIds::new())
-}
 
 /// Whether the answer is this Err. It says nothing of it, so that no proof of a test looks into the
 /// error.
@@ -59,29 +22,6 @@ fn refuses<T: Drop, E: PartialEq + Drop>(answer: Result<T, E>, wanted: E) -> boo
         }
         Err(error) => error == wanted,
     }
-}
-
-/// How many frames are to be sent for a frame; None where it was refused.
-fn given_for(engine: &mut Engine, frame: Frame) -> Option<usize> {
-    let turn = taken(engine, frame).ok()?;
-    let count = turn.sent.given.len();
-    drop(turn);
-    Some(count)
-}
-
-/// How many frames a commit handed, or how it ended otherwise; None where it was refused.
-fn committed(
-    engine: &mut Engine,
-    txn_id: TransactionId,
-) -> Option<Result<usize, TransactionError>> {
-    let turn = asked(engine, SessionControl::CommitTransaction { txn_id }).ok()?;
-    let found = match &turn.reply {
-        ControlReply::Committed(Ok(echoes)) => Some(Ok(echoes.len())),
-        ControlReply::Committed(Err(error)) => Some(Err(*error)),
-        _ => None,
-    };
-    drop(turn);
-    found
 }
 
 /// A session with a receiver of its own on the handle of the posts, and a live id.

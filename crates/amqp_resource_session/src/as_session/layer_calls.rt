@@ -1,12 +1,10 @@
 //! The calls of a layer below.
 
-use crate::hearing::count_answer;
 use crate::session::TxnSession;
-use crate::transacting::refuse_call;
 use amqp_below_layer::{LayerBelow, SessionInnerError, Verdict};
 use amqp_txn_types::{
     Attach, Detach, Disposition, Flow, Frame, Frames, NoMemory, Payload, SessionState, Transfer,
-    count_refusal,
+    count_answer, count_one, refuse,
 };
 
 impl<S: LayerBelow> LayerBelow for TxnSession<S> {
@@ -97,16 +95,16 @@ impl<S: LayerBelow> LayerBelow for TxnSession<S> {
 
     fn review(&mut self, frames: &Frames) -> Result<Verdict, NoMemory> {
         if self.stop.is_some() {
-            count_refusal(&mut self.vetoes);
+            count_one(&mut self.vetoes);
             return Ok(Verdict::Veto);
         }
         match self.below.review(frames) {
             Ok(Verdict::Accept) => Ok(Verdict::Accept),
             Ok(Verdict::Veto) => {
-                count_refusal(&mut self.vetoes);
+                count_one(&mut self.vetoes);
                 Ok(Verdict::Veto)
             }
-            Err(error) => refuse_call(&mut self.refusals, error),
+            Err(error) => refuse(&mut self.refusals, error),
         }
     }
 }

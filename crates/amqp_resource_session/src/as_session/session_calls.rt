@@ -1,12 +1,11 @@
 //! The calls of a session beside those of a layer below: each goes to the session below.
 
-use crate::hearing::count_answer;
 use crate::session::TxnSession;
 use amqp_below_layer::SessionInnerError;
 use amqp_below_sessions::{AllocLinkError, BeginError, NameState, Relay, Session};
 use amqp_txn_types::{
     Attach, Begin, ConnectionStopReason, Detach, End, Error, Flow, IncomingChannel, InputHandle,
-    LinkFlow, OutgoingChannel, OutputHandle, SessionStopReason, Text, Transfer,
+    LinkFlow, OutgoingChannel, OutputHandle, SessionStopReason, Text, Transfer, count_answer,
 };
 
 impl<S: Session> Session for TxnSession<S> {

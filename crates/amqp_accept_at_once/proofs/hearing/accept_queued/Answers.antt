@@ -1,6 +1,6 @@
 use Rattle.std.proofs.Common.{rules, ap, ◌∙◌}
 use Rattle.amqp_accept_listener.specs.ListenerLaws.{names-same}
-use Rattle.amqp_accept_at_once.proofs.Keeping.{queue-kept}
+use Rattle.amqp_below_sessions.specs.Sessions.{Kept, same-own_queue}
 use Rattle.amqp_accept_at_once.proofs.Opening.{opens-back, opens-refused}
 use Rattle.amqp_accept_at_once.proofs.hearing.accept_queued.Goals as goal
 
@@ -10,7 +10,7 @@ returns-in_err-attach-clause-opens g c =
     let took = c.in_err-attach.ensures in
     let kept = g.S.Session.kept in
     opens-refused _ _ _ _ _ c.args.listener.now c.take_queued.new.listener c.args.attach
-    c.in_err-attach.field-0.0 c.from_residual.result c.requires (ap (λ s. kept s) took.same)
+    c.in_err-attach.field-0.0 c.from_residual.result c.requires (same-own_queue _ _ _ _ (ap (λ s. kept s) took.same) took.queue)
     (names-same g.S.Tells.told kept g.S.Session.names _ _ took.same) took.cause took.takes
     took.queue (search rules)
 
@@ -22,9 +22,6 @@ returns-clause-opens g c =
     let kept = g.S.Session.kept in
     opens-back _ _ _ _ _ c.args.listener.now c.take_queued.new.listener c.accept.new.listener
     c.args.attach c.in_ok-attach.attach c.accept.result took.attach c.requires
-    (ap (λ s. kept s) took.same) (names-same g.S.Tells.told kept g.S.Session.names _ _ took.same)
+    (same-own_queue _ _ _ _ (ap (λ s. kept s) took.same) took.queue) (names-same g.S.Tells.told kept g.S.Session.names _ _ took.same)
     took.steady.later took.takes says.kept says.names says.cause says.accepts
-    (queue-kept g.S.Tells.told g.S.Session.names g.S.Session.allocate_incoming_link_gives
-    g.S.Session.outgoing_flow_gives g.S.Session.deallocate_link_gives c.args.acceptor.now _
-    c.in_ok-attach.attach c.take_queued.new.listener c.accept.new.listener says.accepts.0
-    says.accepts.1 ∙ took.queue)
+    (ap (λ (k : Kept). k.queue) says.kept ∙ took.queue)

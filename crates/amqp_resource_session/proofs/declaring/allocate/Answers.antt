@@ -1,6 +1,7 @@
 use Rattle.std.proofs.Common.{None, Some, [], cond, ap, ◌∙◌, refl}
-use Rattle.amqp_resource_session.specs.Words.{Held, same_id}
-use Rattle.amqp_resource_session.specs.Held.{SameHeld}
+use Rattle.amqp_resource_held.specs.declared.held.Held.{Held}
+use Rattle.amqp_txn_types.specs.Ids.{same_id}
+use Rattle.amqp_resource_held.specs.Held.{SameHeld}
 use Rattle.amqp_resource_session.proofs.Keeping.{drew-live, drew-unused}
 use Rattle.amqp_resource_session.proofs.declaring.allocate.Goals as goal
 

@@ -1,7 +1,10 @@
 use Rattle.std.proofs.Common.{arith, subst, ◌∙◌, ◌≡◌, length, map, List, Ok, ap}
 use Rattle.std.specs.List.{list_all}
 use Rattle.std.proofs.lemmas.List.{length-map}
-use Rattle.amqp_resource_session.specs.Words.{Frame, frames_kept, is_bare, kept, stripped}
+use Rattle.amqp_txn_types.specs.declared.performatives.Frame.{Frame}
+use Rattle.amqp_resource_log.specs.Live.{frames_kept, kept}
+use Rattle.amqp_below_layer.specs.Reviewing.{is_bare}
+use Rattle.amqp_txn_types.specs.Frames.{stripped}
 use Rattle.amqp_below_layer.specs.declared.verdict.Verdict.TheVariants as verdicts
 use Rattle.amqp_resource_session.specs.Committing.{HandsAll, OnVetoed}
 use Rattle.amqp_resource_session.proofs.Handing.{kept-bare, some-echoes}

@@ -1,5 +1,7 @@
 use Rattle.std.proofs.Common.{◌≡◌, arith, refl, sym, subst, map, List, [], Ok}
-use Rattle.amqp_resource_session.specs.Words.{Frame, frames_kept, kept, stripped}
+use Rattle.amqp_txn_types.specs.declared.performatives.Frame.{Frame}
+use Rattle.amqp_resource_log.specs.Live.{frames_kept, kept}
+use Rattle.amqp_txn_types.specs.Frames.{stripped}
 use Rattle.amqp_resource_session.specs.Committing.{HandsAll}
 use Rattle.amqp_resource_session.proofs.Handing.{committed-with, handed-nothing, no-frames}
 use Rattle.amqp_resource_session.proofs.discharging.commit_live.Goals as goal

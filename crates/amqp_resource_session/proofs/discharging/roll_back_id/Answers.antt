@@ -1,8 +1,8 @@
 use Rattle.std.proofs.Common.{◌≡◌, ap, sym, ◌∙◌, refl, true, false}
 use Rattle.std.specs.Prelude.{is_some}
-use Rattle.amqp_resource_session.specs.Draws.{is_kept}
+use Rattle.amqp_resource_held.specs.Draws.{is_kept}
 use Rattle.amqp_resource_session.proofs.Keeping.{same_held}
-use Rattle.amqp_resource_session.proofs.Kept.{live_home}
+use Rattle.amqp_resource_held.proofs.Kept.{live_home}
 use Rattle.amqp_resource_session.proofs.discharging.roll_back_id.Goals as goal
 
 pub returns-in_default : goal.returns-in_default

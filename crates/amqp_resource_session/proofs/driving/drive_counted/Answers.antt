@@ -1,26 +1,31 @@
 use Rattle.std.proofs.Common.{rules, ap, ◌∙◌, refl, suc, ◌+◌, ◌<◌, ◌≤◌, List, ◌++◌, ◌∷◌, [], ◌≡◌, arith, length, take, drop, set}
 use Rattle.std.proofs.Math.ListN.{length-set}
-use Rattle.amqp_resource_session.specs.Words.{Entry, Step, steps_of}
+use Rattle.amqp_resource_record.specs.declared.entry.Entry.{Entry}
+use Rattle.amqp_resource_record.specs.declared.step.Step.{Step}
+use Rattle.amqp_resource_record.specs.Entries.{steps_of}
 use Rattle.amqp_resource_session.specs.Steps.{entry_of}
 use Rattle.amqp_resource_session.specs.Session.{held_of, below_of, stop_of}
 use Rattle.amqp_resource_session.specs.Drive.{Left, work_count}
 use Rattle.amqp_resource_session.proofs.Filling.{filled_all, filled_more, left_at, same_at, steps_filled, steps_waiting}
-use Rattle.amqp_resource_session.proofs.Standing.{emptied}
-use Rattle.amqp_resource_session.proofs.Fitting.{fits-stands}
-use Rattle.amqp_resource_session.proofs.Looked.{step_spends, work_more}
+use Rattle.amqp_resource_held.proofs.Standing.{new-live}
+use Rattle.amqp_resource_held.proofs.Fitting.{fits-stands}
+use Rattle.amqp_resource_held.proofs.Looked.{none_counted, step_spends}
+use Rattle.amqp_resource_session.proofs.Looked.{work_more}
 use Rattle.amqp_resource_session.proofs.Parts.{end_is, no_call_weaker}
-use Rattle.amqp_resource_session.proofs.Running.{Broke, broke_cause, broke_ended, broke_refused, broke_surely, broke_took, broke_unknown, failed, ran-more, ran-nil, steps-first, stops_by}
+use Rattle.amqp_resource_session.proofs.Running.{broke_cause, broke_ended, broke_refused, broke_surely, broke_took, broke_unknown, ran-more, ran-nil, steps-first, stops_by}
+use Rattle.amqp_resource_session.specs.Ran.{Broke, failed}
 use Rattle.amqp_resource_session.proofs.driving.drive_counted.Given.{Over}
 use Rattle.amqp_resource_session.proofs.driving.drive_counted.Goals as goal
 
 pub loop-at-init : goal.loop-at-init
 loop-at-init g c = record {
   runs = c.requires.runs;
-  ran = ran-nil (g.S.Tells.told (below_of c.args.session.now)) (g.G.IdSource.next c.args.ids.now) _ (emptied (held_of c.args.session.now) c.new.result c.requires.stands c.new.ensures.kept);
+  fits = (fits-stands (held_of c.args.session.now) [] c.requires.stands, omega (arith, c.requires.owed));
+  ran = ran-nil (g.S.Tells.told (below_of c.args.session.now)) (g.G.IdSource.next c.args.ids.now) (held_of c.args.session.now) c.requires.stands;
   start = refl;
   steps = ap steps_of c.into_entries-entries.ensures ∙ steps_waiting c.args.steps;
   count = search rules;
-  looks = omega (arith, c.new.ensures.owed, c.new.ensures.frames);
+  looks = omega (arith, c.requires.owed, none_counted (held_of c.args.session.now).work (new-live (held_of c.args.session.now) c.requires.stands));
 }
 
 pub loop-at-preserved : goal.loop-at-preserved
@@ -41,6 +46,7 @@ loop-at-preserved g c =
     let said = c.in-Ok.ensures.says in
     record {
       runs = said.stops runs;
+      fits = said.fits c.loop-at.invariant.fits;
       ran = rw more (ran-more _ _ _ _ _ _ (held_of c.loop-at.session) (held_of c.step_counted.new.self) r old.step c.in-Ok.drawn c.in-Ok.reply c.loop-at.invariant.ran
           (record {
             by = said.by_record runs r stands;
@@ -120,15 +126,12 @@ returns-in-Err-clause-surely g c =
     rw (c.driven.ensures, c.truncate.ensures.items, by.0, by.1) (broke_surely _ _ _ _ (take c.loop-at.at c.loop-at.entries.items) c.index.result.now.step c.in-Err.error _ c.args.steps (rest g c) (left g c) (broke g c))
 
 pub returns-in-Err-clause-fits : goal.returns-in-Err-clause-fits
-returns-in-Err-clause-fits g c = c.in-Err.ensures.says.fits (fits-stands (held_of c.loop-at.session) (take c.loop-at.at c.loop-at.entries.items) c.loop-at.invariant.ran.stands)
-
-pub returns-clause-fits : goal.returns-clause-fits
-returns-clause-fits g c = fits-stands (held_of c.loop-at.session) (take c.loop-at.at c.loop-at.entries.items) c.loop-at.invariant.ran.stands
+returns-in-Err-clause-fits g c = c.in-Err.ensures.says.fits c.loop-at.invariant.fits
 
 pub returns-in-Err-clause-looks : goal.returns-in-Err-clause-looks
 returns-in-Err-clause-looks g c =
     let said = c.in-Err.ensures in
-    let spent = step_spends (held_of c.loop-at.session) c.index.result.now.step (held_of c.loop-at.session).work (held_of c.step_counted.new.self).work c.loop-at.looks c.step_counted.new.looks (record { ended = said.looks; all = said.dues }) in
+    let spent = step_spends (held_of c.loop-at.session) c.index.result.now.step (failed c.in-Err.error) (held_of c.loop-at.session).work (held_of c.step_counted.new.self).work c.loop-at.looks c.step_counted.new.looks (record { ended = said.looks; all = said.dues }) in
     rw (c.driven.ensures, c.truncate.ensures.items) (omega (arith, c.loop-at.invariant.looks, spent))
 
 pub returns-clause-looks : goal.returns-clause-looks

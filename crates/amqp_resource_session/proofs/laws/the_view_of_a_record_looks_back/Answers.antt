@@ -1,4 +1,5 @@
-use Rattle.amqp_resource_session.proofs.Views.{frames-record, hands-record, held-record, live-record}
+use Rattle.amqp_resource_held.proofs.Views.{frames-record, held-record, live-record}
+use Rattle.amqp_resource_session.proofs.Handed.{hands-record}
 use Rattle.amqp_resource_session.proofs.laws.the_view_of_a_record_looks_back.Goals as goal
 
 pub returns-clause-live : goal.returns-clause-live

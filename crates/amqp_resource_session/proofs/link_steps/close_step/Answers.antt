@@ -1,6 +1,6 @@
 use Rattle.std.proofs.Common.{ℕ, subst}
-use Rattle.amqp_resource_session.specs.Looking.{Pays}
-use Rattle.amqp_resource_session.proofs.Looked.{ends_closed}
+use Rattle.amqp_resource_held.specs.Looks.{Pays}
+use Rattle.amqp_resource_held.proofs.Looked.{ends_closed}
 use Rattle.amqp_resource_session.proofs.Keeping.{here-closed}
 use Rattle.amqp_resource_session.proofs.link_steps.close_step.Goals as goal
 

@@ -1,6 +1,6 @@
 use Rattle.std.proofs.Common.{sym, ◌∙◌}
 use Rattle.amqp_resource_session.proofs.Keeping.{here-link_end, here-no_end}
-use Rattle.amqp_resource_session.proofs.Looked.{pays_none}
+use Rattle.amqp_resource_held.proofs.Looked.{pays_none}
 use Rattle.amqp_resource_session.proofs.link_steps.link_end_step.Goals as goal
 
 pub returns-then-not-has_link-clause-leaves : goal.returns-then-not-has_link-clause-leaves

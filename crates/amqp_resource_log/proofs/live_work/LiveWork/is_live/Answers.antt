@@ -6,5 +6,5 @@ pub returns : goal.returns
 returns c =
     let id = c.args.txn_id.now in
     let log = c.self.inside.log in
-    c.is_opened.ensures ∙ sym (is_some-lookup (same_id id) log.homes) ∙ is_kept (frames_of log id) (lookup (same_id id) log.homes)
+    c.is_live.ensures ∙ sym (is_some-lookup (same_id id) log.homes) ∙ is_kept (frames_of log id) (lookup (same_id id) log.homes)
     ∙ ap (λ (live : Live). is_some (kept live id)) c.self.view_is

@@ -4,7 +4,7 @@ use Rattle.amqp_resource_log.proofs.live_work.LiveWork.keep.Goals as goal
 
 pub invariant_of-self : goal.invariant_of-self
 invariant_of-self c =
-    subst (λ (log : Log). Agrees log.homes log) (sym c.keep.ensures.log) (agrees_arrived c.self.inside.log c.args.txn_id.now c.args.work c.keep.result c.self.invariant c.keep.ensures.opened)
+    subst (λ (log : Log). Agrees log.homes log) (sym c.keep.ensures.log) (agrees_arrived c.self.inside.log c.args.txn_id.now c.args.work c.keep.result c.self.invariant c.keep.ensures.live)
 
 pub returns-clause-kept : goal.returns-clause-kept
 returns-clause-kept c =
@@ -12,4 +12,4 @@ returns-clause-kept c =
     let frame = frame_of_work c.args.work in
     subst (λ (live : Live). Keeps live c.keep.new.self id frame c.keep.result) c.self.view_is
     (subst (λ (log : Log). Keeps c.self.inside.log log id frame c.keep.result) (sym c.keep.ensures.log)
-    (keeps c.self.inside.log id c.args.work c.keep.result c.self.invariant c.keep.ensures.opened))
+    (keeps c.self.inside.log id c.args.work c.keep.result c.self.invariant c.keep.ensures.live))

@@ -1,6 +1,6 @@
 use Rattle.std.proofs.Common.{◌∙◌}
 use Rattle.amqp_resource_session.specs.Session.{held_of}
-use Rattle.amqp_resource_session.proofs.Standing.{kept_live}
+use Rattle.amqp_resource_held.proofs.Standing.{kept_live}
 use Rattle.amqp_resource_session.proofs.session.TxnSession.is_live.Goals as goal
 
 pub returns-clause-as_record : goal.returns-clause-as_record

@@ -1,6 +1,6 @@
-use Rattle.std.proofs.Common.{refl}
-use Rattle.amqp_resource_session.proofs.Standing.{stands-new}
+use Rattle.std.proofs.Common.{[], arith}
+use Rattle.amqp_resource_held.proofs.Fitting.{fits-stands}
 use Rattle.amqp_resource_session.proofs.session.TxnSession.new.Goals as goal
 
-pub returns-clause-stands : goal.returns-clause-stands
-returns-clause-stands g c = stands-new _ c.new.ensures.kept c.new-2.ensures.empty refl
+pub returns-clause-fits : goal.returns-clause-fits
+returns-clause-fits g c = (fits-stands c.new.result [] c.new.ensures.stands, omega (arith, c.new.ensures.owed))

@@ -24,6 +24,8 @@ returns-in-Some-clause-says g c = record {
   fixed = refl;
   fits = λ f. f;
   keeps = λ e. cc (e, c.in-Some.is);
+  checked = λ e. cc (e, c.in-Some.is);
+  left = λ e. cc (e, c.in-Some.is);
   dead = λ e. cc (e, c.in-Some.is);
   attach_rose = tt;
   refusals = refl;
@@ -40,7 +42,7 @@ returns-clause-says g c =
     let new = g.S.Tells.told c.take_step-result.new.below in
     record {
       stopped = first_of (search rules, grind (arith, common_steps));
-      by_record = λ e r s. step_records _ _ _ _ _ c.args.self.now.below c.take_step-result.new.below r _ _ _ s c.take_step-result.ensures.leaves (drew_next _ _ _ c.take_step-result.ensures.draws.drew);
+      by_record = λ e r s. step_records _ _ _ _ _ _ c.args.self.now.below c.take_step-result.new.below r _ _ _ s c.take_step-result.ensures.leaves (drew_next _ _ _ c.take_step-result.ensures.draws.drew);
       runs = λ e. cause_first old new _ _ c.take_step-result.ensures.leaves.cause;
       surely = c.take_step-result.ensures.leaves.surely;
       veto_rose = cause_veto old new _ _ c.take_step-result.ensures.leaves.cause;
@@ -53,9 +55,11 @@ returns-clause-says g c =
       untouched = c.take_step-result.ensures.leaves.untouched;
       later = c.take_step-result.ensures.leaves.later;
       fixed = c.take_step-result.ensures.leaves.fixed;
-      fits = λ f. let kept = c.take_step-result.ensures.leaves.keeps f in kept.fits;
-      keeps = λ e f. let kept = c.take_step-result.ensures.leaves.keeps f in kept.answer;
-      dead = λ e f u. let kept = c.take_step-result.ensures.leaves.keeps f in step_unknown _ _ old new _ _ kept.answer u;
+      fits = λ f. let kept = c.take_step-result.ensures.leaves.keeps f.0 in (kept.fits, c.take_step-result.ensures.few);
+      keeps = λ e f. let kept = c.take_step-result.ensures.leaves.keeps f.0 in kept.answer;
+      checked = λ e. c.take_step-result.ensures.leaves.checked;
+      left = λ e. c.take_step-result.ensures.leaves.left;
+      dead = λ e f u. let kept = c.take_step-result.ensures.leaves.keeps f.0 in step_unknown _ _ old new _ _ kept.answer u;
       attach_rose = cause_attach old new _ _ c.take_step-result.ensures.leaves.cause;
       refusals = refl;
       vetoes = refl;

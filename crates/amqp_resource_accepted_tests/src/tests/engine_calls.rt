@@ -1,0 +1,67 @@
+//! The calls of an accepted session's engine. Each says nothing of the session, so that each call of
+//! the engine is proved once.
+
+use crate::tests::test_values::{Listening, incoming, transactional};
+use amqp_below_ids::CountIds;
+use amqp_below_layer::SessionInnerError;
+use amqp_engine_events::{
+    ControlReply, SessionControl, SessionEngine, SessionFrame, SessionFrameBody, Turn,
+};
+use amqp_resource_accepted::*;
+use amqp_txn_types::{Frame, OutgoingChannel, TransactionError, TransactionId};
+use std::alloc::Global;
+
+/// The engine of a session that does transactions.
+pub type Engine = SessionEngine<Listening>;
+
+/// A session that was accepted.
+pub fn accepted(alloc: Global) -> Option<Engine> {
+    let acceptor = transactional();
+    let answer = acceptor.accept_incoming_session(alloc, incoming(), OutgoingChannel(4));
+    drop(acceptor);
+    let (session, begin) = answer.ok()?;
+    drop(begin);
+    match session {
+        AcceptedSession::Transactional(engine) => Some(engine),
+        AcceptedSession::Plain(engine) => {
+            drop(engine);
+            None
+        }
+    }
+}
+
+/// What the engine answers to a frame.
+pub fn taken(engine: &mut Engine, frame: Frame) -> Result<Turn, SessionInnerError> {
+    engine.on_incoming(SessionFrame {
+        channel: 3,
+        body: SessionFrameBody::Link(frame),
+    })
+}
+
+/// What the engine answers to a control.
+pub fn asked(engine: &mut Engine, control: SessionControl) -> Result<Turn, SessionInnerError> {
+    engine.on_control(control, &mut CountIds::new())
+}
+
+/// How many frames are to be sent for a frame; None where it was refused.
+pub fn given_for(engine: &mut Engine, frame: Frame) -> Option<usize> {
+    let turn = taken(engine, frame).ok()?;
+    let count = turn.sent.given.len();
+    drop(turn);
+    Some(count)
+}
+
+/// How many frames a commit handed, or how it ended otherwise; None where it was refused.
+pub fn committed(
+    engine: &mut Engine,
+    txn_id: TransactionId,
+) -> Option<Result<usize, TransactionError>> {
+    let turn = asked(engine, SessionControl::CommitTransaction { txn_id }).ok()?;
+    let found = match &turn.reply {
+        ControlReply::Committed(Ok(echoes)) => Some(Ok(echoes.len())),
+        ControlReply::Committed(Err(error)) => Some(Err(*error)),
+        _ => None,
+    };
+    drop(turn);
+    found
+}

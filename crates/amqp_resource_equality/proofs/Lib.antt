@@ -1,0 +1,5 @@
+pub mod Deciding
+pub mod Values
+pub mod States
+pub mod Performatives
+pub mod Steps

@@ -1,0 +1,7 @@
+use Rattle.std.proofs.lemmas.Bool.Decides.{Decides-at}
+use Rattle.amqp_resource_equality.proofs.Deciding.{decides}
+use Rattle.amqp_resource_equality.proofs.Performatives.{frame}
+use Rattle.amqp_resource_equality.proofs.same_frame.Goals as goal
+
+pub returns : goal.returns
+returns c = Decides-at _ _ c.eq.ensures (decides frame _ _)

@@ -1,0 +1,5 @@
+pub mod Kept
+pub mod Views
+pub mod Standing
+pub mod Fitting
+pub mod Looked

@@ -1,0 +1,26 @@
+-- Ids drawn for a declare.
+use Rattle.std.specs.Prelude.{◌≡◌, ◌≤◌, Bool, true, List, [], ◌∷◌, ◌++◌, length, Option, is_some, None}
+use Rattle.std.specs.List.{list_all}
+use Rattle.amqp_resource_log.specs.Live.{Live, kept, Kept}
+use Rattle.amqp_txn_types.specs.declared.id.TransactionId.{TransactionId}
+
+-- something is kept for the id
+abbrev pub is_kept : Live → TransactionId → Bool
+is_kept live t = is_some (kept live t)
+
+-- these ids are live
+abbrev pub all_live : (TransactionId → Option Kept) → List TransactionId → Bool
+all_live live ds = list_all (λ t. is_some (live t)) ds
+
+-- 16 ids, all live
+pub record DrewLive (live : TransactionId → Option Kept) (ds : List TransactionId) : Type 0 where
+  pub count : length ds ≡ 16
+  pub all : all_live live ds ≡ true
+
+-- at most 16 ids: live ones, and then one that isn't
+pub record DrewUnused (live : TransactionId → Option Kept) (ds : List TransactionId)
+    (t : TransactionId) : Type 0 where
+  pub parts : (before : List TransactionId) × (ds ≡ before ++ t ∷ [])
+      × (all_live live before ≡ true)
+  pub count : length ds ≤ 16
+  pub unused : live t ≡ None

@@ -1,0 +1,87 @@
+-- A run step by step: the record that it has made so far, what each step leaves that was answered,
+-- and what one leaves that stopped it.
+use Rattle.std.specs.Prelude.{◌≡◌, ℕ, ◌+◌, ◌-◌, ◌^◌, ◌≤◌, ◌⊎◌, min, Bool, Option, Some, Result, Ok, Err, List}
+use Rattle.amqp_below_ids.specs.Drawn.{DrawnIds}
+use Rattle.amqp_below_ids.specs.Ids.{Drew}
+use Rattle.amqp_resource_record.specs.declared.entry.Entry.{Entry}
+use Rattle.amqp_resource_held.specs.declared.held.Held.{Held}
+use Rattle.amqp_resource_record.specs.declared.reply.Reply.{Reply}
+use Rattle.amqp_txn_types.specs.Counts.{Rose}
+use Rattle.amqp_txn_types.specs.declared.delivery.SessionStopReason.{SessionStopReason}
+use Rattle.amqp_resource_record.specs.declared.step.Step.{Step}
+use Rattle.amqp_resource_record.specs.declared.stop.StepError.{StepError}
+use Rattle.amqp_resource_record.specs.declared.stop.Stop.{Stop}
+use Rattle.amqp_resource_record.specs.declared.stop.StopCode.{StopCode}
+use Rattle.amqp_below_layer.specs.Told.{Told}
+use Rattle.amqp_txn_types.specs.declared.id.TransactionId.{TransactionId}
+use Rattle.amqp_resource_record.specs.Opened.{attach_refused_count, opens, refuses}
+use Rattle.amqp_resource_record.specs.Entries.{drawn_of}
+use Rattle.amqp_resource_record.specs.Work.{pairs}
+use Rattle.amqp_txn_types.specs.Growing.{grown}
+use Rattle.amqp_resource_record.specs.Vetoed.{veto_count, vetoes}
+use Rattle.amqp_resource_record.specs.declared.stop.Stop.TheVariants as stops
+use Rattle.amqp_resource_record.specs.declared.stop.StepError.TheVariants as errors
+use Rattle.amqp_resource_held.specs.Held.{Stands}
+use Rattle.amqp_resource_session.specs.Steps.{IfEnded, IfRefused, IfVeto, IsFirstStop, OnNoCall, StopsSurely, ended_by}
+use Rattle.amqp_resource_session.specs.Stepping.{StepRecords}
+use Rattle.amqp_resource_session.specs.Session.{StopAfter}
+
+-- a run so far: the session stands for its record, below took, opened, refused and vetoed what the
+-- record says, after what it had before, each refusal and veto that was answered was counted, and the
+-- source gave its ids
+pub record Ran (old new : Told) (before after : ℕ → TransactionId) (h : Held) (r : List Entry)
+    : Type 0 where
+  pub stands : Stands h r
+  pub taken : new.taken ≡ grown old.taken (pairs r)
+  pub opened : new.opened ≡ grown old.opened (opens r)
+  pub refused : new.refused ≡ grown old.refused (refuses r)
+  pub vetoed : new.reviews.vetoed ≡ grown old.reviews.vetoed (vetoes r)
+  pub rose : min (old.refusals + attach_refused_count r) (2 ^ 64 - 1) ≤ new.refusals
+  pub vetoes_rose : min (old.reviews.vetoes + veto_count r) (2 ^ 64 - 1) ≤ new.reviews.vetoes
+  pub later : old.refusals ≤ new.refusals
+  pub counted : old.reviews.vetoes ≤ new.reviews.vetoes
+  pub fixed : new.fixed ≡ old.fixed
+  pub drew : Drew before after (drawn_of r)
+
+-- a step that was answered: its clauses by the record, with this reply
+abbrev pub answered : DrawnIds → Reply → Result (DrawnIds × Reply) StepError
+answered d reply = Ok (d, reply)
+
+pub record Stepped (ids : ℕ → TransactionId) (g : Held) (old new : Told) (r : List Entry)
+    (s : Step) (d : DrawnIds) (reply : Reply) : Type 0 where
+  pub by : StepRecords old new ids g r s (answered d reply)
+  pub veto : IfVeto reply (Rose old.reviews.vetoes new.reviews.vetoes)
+  pub later : old.refusals ≤ new.refusals
+  pub counted : old.reviews.vetoes ≤ new.reviews.vetoes
+  pub fixed : new.fixed ≡ old.fixed
+
+-- the stop and the number handed by its error
+abbrev pub stop_by : StepError → Stop
+stop_by (errors.Fault error handed) = stops.Fault error
+stop_by (errors.Ended reason) = stops.Ended reason
+stop_by (errors.Stopped code) = stops.Done
+stop_by errors.NoMemory = stops.NoMemory
+
+-- how many of its frames were handed
+abbrev pub handed_of : StepError → ℕ
+handed_of (errors.Fault error handed) = handed
+handed_of _ = 0
+
+-- a step that stopped the run: its clauses by the record, with this error
+abbrev pub failed : StepError → Result (DrawnIds × Reply) StepError
+failed error = Err error
+
+pub record Broke (ids : ℕ → TransactionId) (sure : Bool) (g : Held) (old new : Told)
+    (r : List Entry) (s : Step) (error : StepError) (kept : Option StopCode) : Type 0 where
+  pub by : StepRecords old new ids g r s (failed error)
+  pub first : IsFirstStop error
+  pub surely : IfRefused (failed error) (λ e n. StopsSurely sure s n)
+  pub counted : old.reviews.vetoes ≤ new.reviews.vetoes
+  pub rose : IfRefused (failed error) (λ e n. Rose old.refusals new.refusals)
+  pub ended : (reason : SessionStopReason) → ended_by s ≡ Some reason
+      → (failed error ≡ Err (errors.Ended reason)) ⊎ (failed error ≡ Err errors.NoMemory)
+  pub ended_only : IfEnded (failed error) (λ reason. ended_by s ≡ Some reason)
+  pub own : OnNoCall s (failed error) (new ≡ old)
+  pub later : old.refusals ≤ new.refusals
+  pub fixed : new.fixed ≡ old.fixed
+  pub stops : StopAfter (failed error) kept

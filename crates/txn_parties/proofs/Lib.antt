@@ -1,0 +1,10 @@
+pub mod Once
+pub mod Living
+pub mod Wires
+pub mod Turning
+pub mod Agreeing
+pub mod Owning
+pub mod Agreed
+pub mod Taking
+pub mod Joining
+pub mod Rows

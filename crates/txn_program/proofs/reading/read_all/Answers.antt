@@ -1,6 +1,0 @@
-use Rattle.std.proofs.Common.{arith}
-use Rattle.txn_program.proofs.Streaming.{too_long}
-use Rattle.txn_program.proofs.reading.read_all.Goals as goal
-
-pub returns : goal.returns
-returns g c = record { found = too_long _ _ _ c.loop-chunk.invariant.octets (omega arith) }

@@ -1,8 +1,0 @@
-use Rattle.std.proofs.Common.{◌≡◌, ◌++◌, take}
-use Rattle.std.specs.Prelude.{string_bytes}
-use Rattle.std.specs.List.{flat_map}
-use Rattle.txn_program.specs.Report.{taken_line}
-use Rattle.txn_program.proofs.reporting.put_taken.Given as goal
-
-abbrev pub invariant-loop-exchange : goal.invariant-loop-exchange
-invariant-loop-exchange l = string_bytes l.out ≡ string_bytes l.fn.out ++ flat_map taken_line (take l.exchange-index l.taken)

@@ -1,0 +1,36 @@
+-- The commands of the program, and the one contract of its top calls, by cases of the command.
+use Rattle.std.specs.Prelude.{ℕ, Option, Some, None, List}
+use Rattle.amqp_below_layer.specs.Told.{Told}
+use Rattle.amqp_below_recorder.specs.declared.recorder.Recorder.{Recorder}
+use Rattle.amqp_below_streams.specs.Streams.{SinkTold, SourceTold}
+use Rattle.txn_program_runs.specs.RunWords.{run_command_of, IsWithin as IsRunWithin}
+use Rattle.txn_program_runs.specs.Serving.{ServesRun}
+use Rattle.txn_program_runs.specs.declared.run_words.RunCommand.{RunCommand}
+use Rattle.txn_program_runs.specs.declared.step_runs.Ran.{Ran}
+use Rattle.txn_program.specs.declared.commands.Command.{Command}
+use Rattle.txn_program.specs.declared.commands.Command.TheVariants as commands
+
+-- a command of runs
+abbrev pub of_run : Option RunCommand → Option Command
+of_run None = None
+of_run (Some command) = Some (commands.Run command)
+
+-- the command that the arguments give
+abbrev pub command_of : List (List ℕ) → Option Command
+command_of arguments = of_run (run_command_of arguments)
+
+-- a command stays within the limits of the table
+abbrev pub IsWithin : Option Command → Type 0
+IsWithin None = Unit {0}
+IsWithin (Some (commands.Run command)) = IsRunWithin (Some command)
+
+-- a call for a command, none for arguments outside the table: over a recorder, of which `told` says
+-- what it tells, with what the source tells before and after, and the sink
+abbrev pub Serves : {S : Type 0} → (Recorder S → Told) → Option Command → Recorder S → SourceTold
+    → SourceTold → SinkTold → SinkTold → Ran S → Type 0
+-- outside the table: usage, as of a run
+Serves told None below input left output written ran =
+    ServesRun told None below input left output written ran
+-- `run`, `listen` and `make`
+Serves told (Some (commands.Run command)) below input left output written ran =
+    ServesRun told (Some command) below input left output written ran
