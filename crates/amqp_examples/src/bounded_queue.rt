@@ -30,10 +30,10 @@ impl Model for BoundedQueue {
     ghost Value = { Bounded };
 
     ghost view = { λ queue. record {
-        messages = queue.messages;
-        limit = queue.limit;
-        refusals = queue.refusals;
-        vetoes = queue.vetoes;
+      messages = queue.messages;
+      limit = queue.limit;
+      refusals = queue.refusals;
+      vetoes = queue.vetoes;
     } };
 
     ghost invariant = { λ queue. length queue.messages ≤ queue.limit };

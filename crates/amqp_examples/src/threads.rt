@@ -28,5 +28,9 @@ pub fn serve_both<R: Threads + Sync>(
     ensures first { IsLegal result.0.entries }
     ensures second { IsLegal result.1.entries }
 {
-    join(rt, move || serve(alloc, first), move || serve(alloc, second))
+    join(
+        rt,
+        move || serve(alloc, first),
+        move || serve(alloc, second),
+    )
 }
