@@ -7,7 +7,7 @@ ghost use Rattle.amqp_txn_types.specs.Frames.{is_transfer};
 use amqp_below_layer::{LayerBelow, SessionInnerError, Tells, Verdict};
 use amqp_txn_types::{
     Attach, Detach, Disposition, Flow, Frame, Frames, Items, NoMemory, Payload, SessionState,
-    Transfer, count_refusal, refuse,
+    Transfer, count_one, refuse,
 };
 use std::alloc::Global;
 use std::marker::Model;
@@ -143,7 +143,7 @@ impl LayerBelow for BoundedQueue {
         if message_count(frames.as_slice()) <= self.room() {
             return Ok(Verdict::Accept);
         }
-        count_refusal(&mut self.vetoes);
+        count_one(&mut self.vetoes);
         Ok(Verdict::Veto)
     }
 
