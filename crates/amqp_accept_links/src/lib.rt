@@ -29,12 +29,12 @@
 //!             no memory     refused: Alloc     flow refused: the handle is freed, Session
 //! ```
 //!
-//! Below stand the types of `amqp_txn_types`, the sessions of `amqp_below_sessions` and the links of
-//! `amqp_links`. The promise that this crate carries: a settle mode that isn't supported becomes the
-//! fallback; the local termini, the attach that answers the peer's and the flow are exactly those
-//! that the acceptor's fields say, with the answer of the caller's rule; each refusal has its cause;
-//! a link that is accepted from a queue leaves that queue without its first attach, whatever the
-//! session. 'The standard' is OASIS AMQP 1.0.
+//! Below stand the types of `amqp_txn_types`, the sessions of `amqp_below_sessions` and the links
+//! of `amqp_links`. The promise that this crate carries: a settle mode that isn't supported becomes
+//! the fallback; the local termini, the attach that answers the peer's and the flow are exactly
+//! those that the acceptor's fields say, with the answer of the caller's rule; each refusal has its
+//! cause; a link that is accepted from a queue leaves that queue without its first attach, whatever
+//! the session. 'The standard' is OASIS AMQP 1.0.
 #![tactic(auto)]
 
 mod builder;

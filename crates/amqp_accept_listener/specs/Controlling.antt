@@ -89,8 +89,8 @@ OpensControl told names allocates flows frees old new held held_now opening resu
     × (result ≡ control_answer opened))
     ⊎ Unasked old new held held_now faults.NoMemory result
 
--- the attach of a control link through a listener: one whose target is no coordinator is refused; an
--- Err is counted
+-- the attach of a control link through a listener: one whose target is no coordinator is refused;
+-- an Err is counted
 pub record HearsControl {S : Type 0} (told : S → Told) (kept : S → Kept) (names : S → Names)
     (allocates : S → S → Text → Relay → InputHandle → Result OutputHandle AllocLinkError → Type 0)
     (flows : S → S → LinkFlow → Result Flow SessionInnerError → Type 0)

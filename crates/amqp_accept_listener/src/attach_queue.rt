@@ -49,8 +49,8 @@ impl AttachQueue {
         self.closed
     }
 
-    /// Has an attach wait after those that do. Where memory runs out, the only error, it is dropped,
-    /// and the queue is as it was.
+    /// Has an attach wait after those that do. Where memory runs out, the only error, it is
+    /// dropped, and the queue is as it was.
     pub fn push(&mut self, attach: Attach) -> Result<(), NoMemory>
         ensures ok { OnOk result (self.new ≡ with_last self.old attach) }
         ensures err { OnErr result (self.new ≡ self.old) }

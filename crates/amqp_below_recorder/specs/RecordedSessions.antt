@@ -1,6 +1,6 @@
 -- What the calls of a recorder leave of the session in it: the laws of `Session` for a recorder.
 use Rattle.std.specs.Prelude.{◌≡◌, Bool, Result, Ok, Err, List}
-use Rattle.std.proofs.Common.{ap, inr}
+use Rattle.std.proofs.Common.{ap, inl, inr}
 use Rattle.amqp_txn_types.specs.declared.performatives.Attach.{Attach}
 use Rattle.amqp_txn_types.specs.declared.performatives.Frame.{Frame}
 use Rattle.amqp_below_layer.specs.declared.inner_error.SessionInnerError.{SessionInnerError}
@@ -24,31 +24,37 @@ module _ {S : Type 0} (told : S → Told) (kept : S → Kept) (names : S → Nam
     at = λ output. ap (λ s. (names s).at output) same;
   }
 
-  -- a call that a recorder refused, or whose answer it couldn't keep, leaves what the layer in it
-  -- left, or all
-  refused-left : (old new : S) (Done : Type 0)
+  module _ (old new : S) (Done : Type 0)
       (Inner KeptLeft : Result (List Frame) SessionInnerError → Type 0)
-      → ((answer : Result (List Frame) SessionInnerError) → kept new ≡ kept old
+      (untouched : (answer : Result (List Frame) SessionInnerError) → kept new ≡ kept old
       → KeptLeft answer)
-      → ((answer : Result (List Frame) SessionInnerError) → KeptLeft answer
+      (uncopied : (answer : Result (List Frame) SessionInnerError) → KeptLeft answer
       → KeptLeft (Err faults.NoMemory))
-      → ((answer : Result (List Frame) SessionInnerError) → Inner answer
-      → KeptLeft answer × LeftBy Done (SameNames (names old) (names new)) answer)
-      → (planned : Planned) (error : SessionInnerError) (rose : Bool)
-      → WhyErr Inner (new ≡ old) planned error rose
-      → KeptLeft (Err error) × LeftBy Done (SameNames (names old) (names new)) (Err error)
-  refused-left old new Done Inner KeptLeft untouched uncopied law planned _ _ (planned_so is_planned same) =
-      (untouched (Err faults.IllegalState) (ap kept same), names-same old new same)
-  refused-left old new Done Inner KeptLeft untouched uncopied law planned _ _ (no_room same) =
-      (untouched (Err faults.NoMemory) (ap kept same), inr (names-same old new same))
-  refused-left old new Done Inner KeptLeft untouched uncopied law planned _ _ (passed error no_plan inner) =
-      law (Err error) inner
-  refused-left old new Done Inner KeptLeft untouched uncopied law planned _ _ (error_uncopied error no_plan inner) =
-      let left = law (Err error) inner in
-      (uncopied (Err error) left.0, left-uncopied Done (SameNames (names old) (names new)) (Err error) left.1)
-  refused-left old new Done Inner KeptLeft untouched uncopied law planned _ _ (given_uncopied given some no_plan inner) =
-      let left = law (Ok given) inner in
-      (uncopied (Ok given) left.0, left-uncopied Done (SameNames (names old) (names new)) (Ok given) left.1)
+      (law : (answer : Result (List Frame) SessionInnerError) → Inner answer
+      → KeptLeft answer × LeftBy Done (SameNames (names old) (names new)) answer) where
+    -- what was kept where the answer could not be copied
+    copy-left : (answer : Result (List Frame) SessionInnerError) → Inner answer
+        → KeptLeft (Err faults.NoMemory)
+        × LeftBy Done (SameNames (names old) (names new)) (Err faults.NoMemory)
+    copy-left answer inner =
+        let left = law answer inner in (
+          uncopied answer left.0,
+          left-uncopied Done (SameNames (names old) (names new)) answer left.1,
+        )
+
+    -- a call that a recorder refused, or whose answer it couldn't keep, leaves what the layer in
+    -- it left, or all
+    refused-left : (planned : Planned) (error : SessionInnerError) (rose : Bool)
+        → WhyErr Inner (new ≡ old) planned error rose
+        → KeptLeft (Err error) × LeftBy Done (SameNames (names old) (names new)) (Err error)
+    refused-left planned _ _ (planned_so is_planned same) =
+        (untouched (Err faults.IllegalState) (ap kept same), names-same old new same)
+    refused-left planned _ _ (no_room same) =
+        (untouched (Err faults.NoMemory) (ap kept same), inr (names-same old new same))
+    refused-left planned _ _ (passed error no_plan inner) = law (Err error) inner
+    refused-left planned _ _ (error_uncopied error no_plan inner) = copy-left (Err error) inner
+    refused-left planned _ _ (given_uncopied given some no_plan inner) =
+        copy-left (Ok given) inner
 
   -- an incoming frame call
   pub recorded-leaves : (at_once : Bool)

@@ -75,7 +75,8 @@ abbrev pub FrameQueues : Queue → Queue → Frame → Type 0
 FrameQueues old new (frames.Attach attach) = (new ≡ old) ⊎ (new ≡ with_last old attach)
 FrameQueues old new frame = new ≡ old
 
--- what an incoming frame call leaves of what a session keeps: all but the queue, to which it may add
+-- what an incoming frame call leaves of what a session keeps: all but the queue, to which it may
+-- add
 pub record LeavesKept (before after : Kept) (frame : Frame)
     (result : Result (List Frame) SessionInnerError) : Type 0 where
   pub others : after ≡ with_queue before after.queue

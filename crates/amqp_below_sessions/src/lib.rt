@@ -20,9 +20,10 @@
 //! session.on_incoming_attach(attach)?;
 //! ```
 //!
-//! Below stand the types of `amqp_txn_types`, the layer of `amqp_below_layer` and the ids of `amqp_below_ids`.
-//! The promise that this crate carries: a plain session answers each call by its table.
-//! 'The standard' is OASIS AMQP 1.0.
+//! Below stand the types of `amqp_txn_types`, the layer of `amqp_below_layer` and the ids of
+//! `amqp_below_ids`. The promise that this crate carries: a plain session answers each call by its
+//! table; no call of any session but an attach that comes and those on the queue changes the queue
+//! of a listener. 'The standard' is OASIS AMQP 1.0.
 #![tactic(auto)]
 
 mod attach_errors;

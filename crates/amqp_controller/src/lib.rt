@@ -1,27 +1,116 @@
 //! The controlling side of transactions: what a client declares, does and ends.
 //!
-//! One name for what stands in four crates, as a client uses it:
+//! One name for what stands in these crates, as a client uses it:
 //!
 //! | crate | has |
 //! |---|---|
+//! | `amqp_links` | the ends of links that all calls take, and what their calls answer |
 //! | `amqp_controller_calls` | declares, discharges and abandons on a control link that is lent |
 //! | `amqp_controller_posting` | posts and retirements under a transaction |
 //! | `amqp_controller_transactions` | the controller over a lock, and transactions that borrow or own one |
 //! | `amqp_controller_acquisition` | deliveries that are acquired under a transaction |
 //!
-//! A client in ten lines:
+//! A client attaches its control link over a session, and sends the attach that it is given; once
+//! the peer's has come it has its controller:
 //!
 //! ```text
-//! let (attaching, attach) = Controller::attach(alloc, &mut session, name)?; // send the attach
-//! let Progress::Ready(Ok(controller)) = attaching.poll(&mut session) else { .. };
-//! let declaring = Transaction::declare(&controller, &rt, None)?;
-//! let Progress::Ready(Ok(transaction)) = declaring.poll(&rt) else { .. };
-//! let post = transaction.post(&mut sender, sendable)?;
-//! let Progress::Ready(Ok(Outcome::Accepted)) = post.poll(&mut sender) else { .. };
-//! let Ok(commit) = transaction.commit(&rt) else { .. };
-//! let Progress::Ready(Ok(())) = commit.poll(&rt) else { .. };
-//! let Ok(()) = controller.close(&rt) else { .. };
+//! /// Asks for a control link: the attach is to be sent, and the wait to be polled.
+//! fn attach<S: Session>(
+//!     alloc: Global,
+//!     session: &mut S,
+//!     name: Text,
+//! ) -> Result<(Attaching, Attach), SenderAttachError> {
+//!     Controller::attach(alloc, session, name)
+//! }
+//!
+//! /// Looks once for the peer's attach: the controller, or `None` where the session stopped. A wait
+//! /// that goes on is polled again later.
+//! fn poll_attach<S: Session>(
+//!     session: &mut S,
+//!     attaching: Attaching,
+//! ) -> Progress<Attaching, Option<Controller<WireSender>>> {
+//!     match attaching.poll(session) {
+//!         Progress::Pending(attaching) => Progress::Pending(attaching),
+//!         Progress::Ready(Ok(controller)) => Progress::Ready(Some(controller)),
+//!         Progress::Ready(Err(_error)) => Progress::Ready(None),
+//!     }
+//! }
 //! ```
+//!
+//! Then it posts a message under a transaction, and commits that:
+//!
+//! ```text
+//! /// Posts a message under a transaction of its own: whether that was committed.
+//! fn post_and_commit<L: SenderLink, S: SenderLink, R: Wait>(
+//!     rt: &R,
+//!     controller: &Controller<L>,
+//!     sender: &mut S,
+//!     sendable: Sendable,
+//! ) -> Result<bool, ControllerSendError> {
+//!     let transaction = match Transaction::declare(controller, rt, None)?.poll(rt) {
+//!         Progress::Ready(declared) => declared?,
+//!         Progress::Pending(_declaring) => return Ok(false),
+//!     };
+//!     if is_accepted(&transaction, sender, sendable) {
+//!         commit(rt, transaction)
+//!     } else {
+//!         drop(transaction.abandon(rt));
+//!         Ok(false)
+//!     }
+//! }
+//!
+//! /// Posts a message under the transaction, and looks once whether it was accepted.
+//! fn is_accepted<T: TransactionPosting, S: SenderLink>(
+//!     transaction: &T,
+//!     sender: &mut S,
+//!     sendable: Sendable,
+//! ) -> bool {
+//!     match transaction.post(sender, sendable) {
+//!         Ok(post) => post.poll(sender) == Progress::Ready(Ok(Outcome::Accepted)),
+//!         Err(_error) => false,
+//!     }
+//! }
+//!
+//! /// Commits the transaction, and looks once whether that was accepted; else it is given up.
+//! fn commit<T: TransactionDischarge, R: Wait>(rt: &R, transaction: T) -> Result<bool, T::Error> {
+//!     match transaction.commit(rt) {
+//!         Err((transaction, error)) => {
+//!             drop(transaction.abandon(rt));
+//!             Err(error)
+//!         }
+//!         Ok(commit) => match commit.poll(rt) {
+//!             Progress::Ready(Ok(())) => Ok(true),
+//!             Progress::Ready(Err((transaction, error))) => {
+//!                 drop(transaction.abandon(rt));
+//!                 Err(error)
+//!             }
+//!             Progress::Pending(commit) => {
+//!                 drop(commit.into_value().abandon(rt));
+//!                 Ok(false)
+//!             }
+//!         },
+//!     }
+//! }
+//! ```
+//!
+//! Answers have come before they are polled here. A client that waits keeps what `Pending` hands
+//! back, and polls that once more frames have come.
+//!
+//! For one who comes from `fe2o3-amqp`:
+//!
+//! - A transaction isn't `Drop`: nothing is rolled back by dropping one, and the check refuses a
+//!   function that lets one go. So there is no `?` while one is held by value. The work stands in a
+//!   function that borrows it, as `is_accepted` above, and the `match` that holds it ends it in each
+//!   of its ways out. [`Discharging::into_value`] gives back one whose answer is still out.
+//! - Nothing is async. [`Poll`] and [`Progress`] aren't std's: no waker is kept, and whoever moves
+//!   the frames polls again.
+//! - Calls over a [`Controller`] take a runtime, since they take its lock. One that is made while
+//!   the guard of [`Controller::link`] lives waits for ever: bind what is read by a `let`, and drop
+//!   the guard.
+//! - [`Controller::attach`] and its poll need the session itself, so whoever runs it lends it for
+//!   both. [`Controller::new`] takes any [`SenderLink`], so a link of one's own needs no session.
+//! - A commit that the coordinator answered by a rollback of its own hands the transaction back with
+//!   `is_rolled_back`: it isn't discharged, and giving it up puts nothing.
 //!
 //! The life of a transaction on this side:
 //!
@@ -40,6 +129,7 @@
 //! What is proved of each call stands with it. This crate has nothing of its own.
 #![tactic(auto)]
 
+pub use amqp_below_sessions::{AllocLinkError, SenderAttachError, Session};
 pub use amqp_controller_acquisition::{
     AcquisitionDischarging, TransactionAcquisition, TransactionExt, TxnAcquisition, TxnIdKey,
     acquire_on_link, clean_up_on_link,
@@ -56,4 +146,9 @@ pub use amqp_controller_transactions::{
     Attaching, Begun, Controller, ControllerBuilder, DEFAULT_ROLLBACK_ON_DROP_TRIALS, Declaring,
     Discharging, OwnedDeclareError, OwnedDeclaring, OwnedDeclaringOn, OwnedDischargeError,
     OwnedTransaction, Transaction, TransactionDischarge,
+};
+pub use amqp_links::{
+    Answer, Delivery, DeliveryInfo, DetachError, DispositionError, FlowError,
+    IllegalLinkStateError, LinkStateError, Poll, Progress, ReceiverLink, RecvError, SendError,
+    Sendable, SenderLink, Sent, WireReceiver, WireSender,
 };

@@ -9,19 +9,73 @@
 //! | [`acquire_on_link`], [`clean_up_on_link`] | what both do to a receiver that is lent |
 //! | [`TxnIdKey`] | the key by which the properties name it |
 //!
-//! A client that passes messages on, each under a transaction of its own:
+//! A client that passes messages on, each under a transaction of its own. What borrows the
+//! acquisition may use `?`; what holds it ends it in each way out, since it isn't `Drop`:
 //!
 //! ```text
-//! let declaring = Transaction::declare(&controller, &rt, None)?;
-//! let Progress::Ready(Ok(transaction)) = declaring.poll(&rt) else { .. };
-//! let Ok(mut acquisition) = transaction.acquire(alloc, &mut receiver, 1) else { .. };
-//! let Poll::Ready(Ok(delivery)) = acquisition.recv() else { .. };
-//! let post = acquisition.txn().post(&mut sender, sendable_of(&delivery))?;
-//! acquisition.accept(&delivery.info)?;
-//! let Progress::Ready(Ok(Outcome::Accepted)) = post.poll(&mut sender) else { .. };
-//! let Ok(commit) = acquisition.commit(&rt) else { .. };
-//! let Progress::Ready(Ok(())) = commit.poll(&rt) else { .. };
+//! /// Receives a delivery and posts it on: the outcome of the post, or `None` where nothing came.
+//! fn pass_on<T: TransactionAcquisition + TransactionPosting, R: ReceiverLink, L: SenderLink>(
+//!     acquisition: &mut TxnAcquisition<'_, T, R>,
+//!     sender: &mut L,
+//! ) -> Option<Outcome> {
+//!     let Poll::Ready(Ok(delivery)) = acquisition.recv() else {
+//!         return None;
+//!     };
+//!     let sendable = Sendable {
+//!         payload: delivery.payload,
+//!         message_format: 0,
+//!         settled: None,
+//!     };
+//!     let post = acquisition.txn().post(sender, sendable).ok()?;
+//!     acquisition.accept(&delivery.info).ok()?;
+//!     match post.poll(sender) {
+//!         Progress::Ready(outcome) => outcome.ok(),
+//!         Progress::Pending(_post) => None,
+//!     }
+//! }
+//!
+//! /// Passes one delivery on under the transaction: whether that was committed.
+//! fn relay_once<L: SenderLink, R: ReceiverLink, S: SenderLink, W: Wait>(
+//!     rt: &W,
+//!     alloc: Global,
+//!     transaction: Transaction<'_, L>,
+//!     receiver: &mut R,
+//!     sender: &mut S,
+//! ) -> bool {
+//!     let mut acquisition = match transaction.acquire(alloc, receiver, 1) {
+//!         Ok(acquisition) => acquisition,
+//!         Err((transaction, _error)) => {
+//!             drop(transaction.abandon(rt));
+//!             return false;
+//!         }
+//!     };
+//!     if pass_on(&mut acquisition, sender) != Some(Outcome::Accepted) {
+//!         drop(acquisition.abandon(rt));
+//!         return false;
+//!     }
+//!     let commit = match acquisition.commit(rt) {
+//!         Ok(commit) => commit,
+//!         Err((acquisition, _error)) => {
+//!             drop(acquisition.abandon(rt));
+//!             return false;
+//!         }
+//!     };
+//!     match commit.poll(rt) {
+//!         Progress::Ready(Ok(())) => true,
+//!         Progress::Ready(Err((acquisition, _error))) => {
+//!             drop(acquisition.abandon(rt));
+//!             false
+//!         }
+//!         Progress::Pending(commit) => {
+//!             drop(commit.into_value().abandon(rt));
+//!             false
+//!         }
+//!     }
+//! }
 //! ```
+//!
+//! Answers have come before they are polled here. A client that waits keeps what `Pending` hands
+//! back, and polls that once more frames have come.
 //!
 //! Below stand the transactions of `amqp_controller_transactions` and the work under them of `amqp_controller_posting`.
 //! The promise that this crate carries: an acquisition adds the one property `txn-id` and puts one
@@ -29,10 +83,10 @@
 //! each refusal hands back the transaction or the acquisition; each call of an acquisition makes
 //! the calls of its receiver that its docs name, and passes their answers on; its end is what the
 //! control link answered to a commit or a rollback of its transaction. Where a receiver is gone
-//! from the answer, as in a refused `acquire` or an `abandon`, that these calls were made is
-//! proved, and that no other followed isn't: a contract can't name that receiver. Nor can one say
-//! what a link under a lock holds, so that a discharge is put after the flow of the cleanup isn't
-//! proved either. 'The standard' is OASIS AMQP 1.0.
+//! from the answer, as in a refused `acquire`, an `abandon` or an end, that these calls were made
+//! is proved, and that no other followed is only tested: a contract can't name that receiver. Nor
+//! can one say what a link under a lock holds: where a cleanup failed no discharge is awaited, and
+//! that none was put before it is only tested. 'The standard' is OASIS AMQP 1.0.
 #![tactic(auto)]
 
 mod acquiring;

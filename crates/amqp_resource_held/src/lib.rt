@@ -1,5 +1,5 @@
-//! What a session of part 4 of the standard (OASIS AMQP 1.0) keeps for its live transactions: the live
-//! ids with their frames, and the open control links with the ids that each declared.
+//! What a session of part 4 of the standard (OASIS AMQP 1.0) keeps for its live transactions: the
+//! live ids with their frames, and the open control links with the ids that each declared.
 //!
 //! [`Held`] is this value, and each function here is one change of it: a link is opened or ends, an
 //! id is declared or ends, with its frames dropped or taken out in order. None calls a layer below.
@@ -16,8 +16,8 @@
 //! held.work.compact(&mut looks);
 //! ```
 //!
-//! Below stand the record, whose definitions look back over the entries of a session, and the log of
-//! the work. The promise that this crate carries: what is kept has a view, which ids are live, on
+//! Below stand the record, whose definitions look back over the entries of a session, and the log
+//! of the work. The promise that this crate carries: what is kept has a view, which ids are live, on
 //! which link and with which frames, and each change says what becomes of it; and lemmas that are
 //! public say that the view after an entry is that of the record with this entry.
 #![tactic(auto)]

@@ -27,8 +27,8 @@ use Rattle.amqp_resource_session.specs.Stepping.{StepRecords}
 use Rattle.amqp_resource_session.specs.Session.{StopAfter}
 
 -- a run so far: the session stands for its record, below took, opened, refused and vetoed what the
--- record says, after what it had before, each refusal and veto that was answered was counted, and the
--- source gave its ids
+-- record says, after what it had before, each refusal and veto that was answered was counted, and
+-- the source gave its ids
 pub record Ran (old new : Told) (before after : ℕ → TransactionId) (h : Held) (r : List Entry)
     : Type 0 where
   pub stands : Stands h r

@@ -70,8 +70,8 @@ frame_count_of x = frame_count x.held.work
 abbrev pub opened_of : {S : Type 0} → TxnSession S → ℕ
 opened_of x = x.held.opened
 
--- what the session keeps fits together, and its log owes no more looks than it keeps frames, as in a
--- new one; each call of its own leaves it so
+-- what the session keeps fits together, and its log owes no more looks than it keeps frames, as in
+-- a new one; each call of its own leaves it so
 abbrev pub FitsTogether : {S : Type 0} → TxnSession S → Type 0
 FitsTogether x = Fits (held_of x) × (owed_of x ≤ frame_count_of x)
 

@@ -129,8 +129,8 @@ pub fn discharge_step<S: LayerBelow, L: Ledger>(
 ) -> Result<(Drawn, Reply), StepError>
     requires message { message_of payload.now ≡ Some (messages.Discharge discharge) }
     requires opened { is_in held.old.links.entries link ≡ true }
-    ensures leaves { StepLeaves S.told S.sure S.review_gives S.check_gives held.old held.new below.old
-        below.new (steps.Control link payload.now) result }
+    ensures leaves { StepLeaves S.told S.sure S.review_gives S.check_gives held.old held.new
+        below.old below.new (steps.Control link payload.now) result }
     ensures draws { IfOk result (λ out. out.0 ≡ nothing_drawn) }
     ensures pays { Pays held.old.work held.new.work looks.old looks.new
         (unless_no_memory result (frames_ended held.old (steps.Control link payload.now))) 0 }

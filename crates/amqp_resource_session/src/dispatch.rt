@@ -31,8 +31,8 @@ fn control_step<S: LayerBelow, G: IdSource, L: Ledger>(
     ids: &mut G,
     looks: &mut Looks<L>,
 ) -> Result<(Drawn, Reply), StepError>
-    ensures leaves { StepLeaves S.told S.sure S.review_gives S.check_gives held.old held.new below.old
-        below.new (steps.Control link payload.now) result }
+    ensures leaves { StepLeaves S.told S.sure S.review_gives S.check_gives held.old held.new
+        below.old below.new (steps.Control link payload.now) result }
     ensures draws { StepDraws G.next G.start ids.old ids.new result }
     ensures pays { Pays held.old.work held.new.work looks.old looks.new
         (unless_no_memory result (frames_ended held.old (steps.Control link payload.now))) 0 }
@@ -68,8 +68,8 @@ fn step_by_kind<S: LayerBelow, G: IdSource, L: Ledger>(
     looks: &mut Looks<L>,
 ) -> Result<(Drawn, Reply), StepError>
     requires room { held.old.opened < 2 ^ 64 - 1 }
-    ensures leaves { StepLeaves S.told S.sure S.review_gives S.check_gives held.old held.new below.old
-        below.new step.now result }
+    ensures leaves { StepLeaves S.told S.sure S.review_gives S.check_gives held.old held.new
+        below.old below.new step.now result }
     ensures draws { StepDraws G.next G.start ids.old ids.new result }
     ensures pays { Pays held.old.work held.new.work looks.old looks.new
         (unless_no_memory result (frames_ended held.old step.now)) (frames_added step.now) }
@@ -96,8 +96,8 @@ pub fn take_step<S: LayerBelow, G: IdSource, L: Ledger>(
     looks: &mut Looks<L>,
 ) -> Result<(Drawn, Reply), StepError>
     requires room { held.old.opened < 2 ^ 64 - 1 }
-    ensures leaves { StepLeaves S.told S.sure S.review_gives S.check_gives held.old held.new below.old
-        below.new step.now result }
+    ensures leaves { StepLeaves S.told S.sure S.review_gives S.check_gives held.old held.new
+        below.old below.new step.now result }
     ensures draws { StepDraws G.next G.start ids.old ids.new result }
     ensures pays { Pays held.old.work held.new.work looks.old looks.new
         (unless_no_memory result (frames_ended held.old step.now)) (frames_added step.now) }

@@ -71,8 +71,8 @@ fn fill_in(entry: &mut Entry, drawn: Drawn, reply: Reply)
 ///
 /// # Requires
 ///
-/// That the session is fresh: no id is live, no link was opened, no look is owed, it hasn't stopped,
-/// and the layer below is Mapped.
+/// That the session is fresh: no id is live, no link was opened, no look is owed, it hasn't
+/// stopped, and the layer below is Mapped.
 pub fn drive<S: LayerBelow, G: IdSource>(
     session: &mut TxnSession<S>,
     steps: Steps,

@@ -32,8 +32,8 @@ fn plain_step<S: LayerBelow>(
     frame: &Frame,
 ) -> Result<(Drawn, Reply), StepError>
     requires { is_plain_frame frame.now ≡ true }
-    ensures leaves { StepLeaves S.told S.sure S.review_gives S.check_gives held.now held.now below.old
-        below.new (steps.Frame frame.now) result }
+    ensures leaves { StepLeaves S.told S.sure S.review_gives S.check_gives held.now held.now
+        below.old below.new (steps.Frame frame.now) result }
     ensures draws { IfOk result (λ out. out.0 ≡ nothing_drawn) }
 {
     let Ok(copy) = frame.try_clone() else {
@@ -148,8 +148,8 @@ fn post_step<S: LayerBelow>(
     id: TransactionId,
 ) -> Result<(Drawn, Reply), StepError>
     requires { txn frame.now ≡ Some id }
-    ensures leaves { StepLeaves S.told S.sure S.review_gives S.check_gives held.old held.new below.old
-        below.new (steps.Frame frame.now) result }
+    ensures leaves { StepLeaves S.told S.sure S.review_gives S.check_gives held.old held.new
+        below.old below.new (steps.Frame frame.now) result }
     ensures draws { IfOk result (λ out. out.0 ≡ nothing_drawn) }
     ensures counts { Adds held.old.work held.new.work 1 }
 {
@@ -216,8 +216,8 @@ fn attach_step<S: LayerBelow>(
 ) -> Result<(Drawn, Reply), StepError>
     requires coordinator { attaches_coordinator attach.now ≡ true }
     requires room { held.old.opened < 2 ^ 64 - 1 }
-    ensures leaves { StepLeaves S.told S.sure S.review_gives S.check_gives held.old held.new below.old
-        below.new (steps.Frame (frames.Attach attach.now)) result }
+    ensures leaves { StepLeaves S.told S.sure S.review_gives S.check_gives held.old held.new
+        below.old below.new (steps.Frame (frames.Attach attach.now)) result }
     ensures draws { IfOk result (λ out. out.0 ≡ nothing_drawn) }
     ensures counts { Adds held.old.work held.new.work 0 }
 {
@@ -257,8 +257,8 @@ pub fn frame_step<S: LayerBelow>(
     frame: &Frame,
 ) -> Result<(Drawn, Reply), StepError>
     requires room { held.old.opened < 2 ^ 64 - 1 }
-    ensures leaves { StepLeaves S.told S.sure S.review_gives S.check_gives held.old held.new below.old
-        below.new (steps.Frame frame.now) result }
+    ensures leaves { StepLeaves S.told S.sure S.review_gives S.check_gives held.old held.new
+        below.old below.new (steps.Frame frame.now) result }
     ensures draws { IfOk result (λ out. out.0 ≡ nothing_drawn) }
     ensures counts { Adds held.old.work held.new.work (frames_added (steps.Frame frame.now)) }
 {

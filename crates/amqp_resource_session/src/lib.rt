@@ -23,9 +23,9 @@
 //! `step_counted` count the looks into it.
 //!
 //! Below stand the types, the codec of control messages, the log of arrivals, what a session keeps,
-//! the traits of the outside, the coordinator, which asks a session by these calls, and the record with its
-//! definitions, which look back over the entries of a session and know nothing of what it keeps.
-//! What a user of a session needs of them is passed on. The promise that this crate carries: a step
+//! the traits of the outside, the coordinator, which asks a session by these calls, and the record
+//! with its definitions, which look back over the entries of a session and know nothing of what it
+//! keeps. What a user of a session needs of them is passed on. The promise that this crate carries: a step
 //! answers by the record, and a run is its record. The layer below has taken exactly the work of
 //! the record, each accepted commit's frames whole and in order and nothing of a rollback or of a
 //! vetoed commit, followed, only where it refused, by the first frames of the next step's.

@@ -77,8 +77,8 @@ impl<S: LayerBelow> TxnSession<S> {
         }
     }
 
-    /// Whether no id is live, no link was opened so far, no look is owed, the session hasn't stopped
-    /// and the layer below is mapped.
+    /// Whether no id is live, no link was opened so far, no look is owed, the session hasn't
+    /// stopped and the layer below is mapped.
     pub fn is_fresh(&self) -> bool
         ensures { IsTrue result ↔ IsFresh S.told self.now }
     {
@@ -161,8 +161,8 @@ impl<S: LayerBelow> TxnSession<S> {
         ids: &mut G,
     ) -> Result<(Drawn16, Reply), StepError>
         requires { stop_of self.old ≡ None → opened_of self.old < 2 ^ 64 - 1 }
-        ensures { StepSays S.told S.sure S.review_gives S.check_gives G.next G.start self.old self.new ids.old
-            ids.new step.now result }
+        ensures { StepSays S.told S.sure S.review_gives S.check_gives G.next G.start self.old
+            self.new ids.old ids.new step.now result }
     {
         self.step_blank::<G, Brand>(step, ids, Blank::new(1))
     }
@@ -178,8 +178,8 @@ impl<S: LayerBelow> TxnSession<S> {
         requires name { blank.name ≡ L.name }
         requires parts { blank.parts ≡ L.parts }
         requires some { 0 < blank.parts }
-        ensures { StepSays S.told S.sure S.review_gives S.check_gives G.next G.start self.old self.new ids.old
-            ids.new step.now result }
+        ensures { StepSays S.told S.sure S.review_gives S.check_gives G.next G.start self.old
+            self.new ids.old ids.new step.now result }
     {
         let mut looks = Looks::<L>::new(blank);
         self.step_counted(step, ids, &mut looks)
@@ -197,8 +197,8 @@ impl<S: LayerBelow> TxnSession<S> {
         looks: &mut Looks<L>,
     ) -> Result<(Drawn16, Reply), StepError>
         requires room { stop_of self.old ≡ None → opened_of self.old < 2 ^ 64 - 1 }
-        ensures says { StepSays S.told S.sure S.review_gives S.check_gives G.next G.start self.old self.new
-            ids.old ids.new step.now result }
+        ensures says { StepSays S.told S.sure S.review_gives S.check_gives G.next G.start self.old
+            self.new ids.old ids.new step.now result }
         // The looks of the step and those owed after it are at most those owed before it and two
         // for each frame that it ends, and a step that ran out of memory ends none. While the
         // session hasn't stopped, no more are owed than frames are kept.

@@ -4,4 +4,6 @@
 #[cfg(test)]
 mod codec_tests;
 #[cfg(test)]
+mod constructor_tests;
+#[cfg(test)]
 mod tests;

@@ -25,19 +25,17 @@
 //! let item = take(rt, &queue, &mut server);
 //! ```
 //!
-//! It stands on `crossbeam_queue`. The rule: of each sender, the places that were taken and then
-//! those in the queue are 0, 1, 2 and so on, up to the number that it has put. The promise that
-//! this crate carries: each call keeps the rule, and tells the holder of a pass what follows from
-//! it.
+//! It stands on `crossbeam_queue`, and on `txn_gate` for what a sender passes before it puts an
+//! item. The rule: of each sender, the places that were taken and then those in the queue are 0, 1,
+//! 2 and so on, up to the number that it has put. The promise that this crate carries: each call
+//! keeps the rule, and tells the holder of a pass what follows from it.
 #![tactic(auto)]
 
-mod gate;
 mod item;
 mod passes;
 mod queue;
 mod rule;
 
-pub use gate::{Gate, OpenGate};
 pub use item::{Item, View};
 pub use passes::{count_items, give_first, give_second, open_queue, take_in_first, take_in_second};
 pub use queue::{put, put_all, take};

@@ -4,11 +4,11 @@ ghost use Rattle.std.specs.Prelude.{◌≡◌, ◌<◌, ◌≤◌, true};
 ghost use Rattle.crossbeam_queue.specs.Passes.{view, IsPassOf};
 ghost use Rattle.txn_mailbox_queue.specs.Order.{count, len_of, may, put as put_of, put_one, sender_view, took};
 
-use crate::gate::Gate;
 use crate::item::Item;
 use crate::rule::{Lengths, Puts, Queue, Seat, Takes};
 use std::sync::Wait;
 use std::thread;
+use txn_gate::Gate;
 
 /// Puts one item, as soon as there is room.
 ///
@@ -33,6 +33,11 @@ pub fn put<L: Lengths, R: Wait>(rt: &R, queue: &Queue<L>, pass: &mut Seat, item:
     unreachable!()
 }
 
+/// The turn in which a sender puts the item of a place: from 1 on, up to 2^32 - 1.
+fn turn_of(place: usize) -> u32 {
+    u32::try_from(place).unwrap_or(u32::MAX).saturating_add(1)
+}
+
 /// Puts a sender's items of the places 0 up to, but not with, `len`, in order. It passes the gate
 /// before each.
 ///
@@ -53,7 +58,7 @@ pub fn put_all<L: Lengths, R: Wait, H: Gate>(
     ensures { IsPassOf queue.now result × (view result ≡ sender_view sender len) }
 {
     for place in 0..len {
-        gate.pass(sender, place + 1);
+        gate.pass(u32::from(sender), turn_of(place));
         put(rt, queue, &mut pass, Item { sender, place });
     }
     pass

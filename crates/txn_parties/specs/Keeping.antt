@@ -46,7 +46,8 @@ Agrees (Took t s) id v = (id ≡ Some t) × (v ≡ Some hearings.Committed)
 Agrees (Spent t s) id v = (id ≡ Some t) × (v ≡ Some hearings.Committed → ⊥)
 
 -- what is so of one transaction
-pub record One (first : List Entry) (came : List (Item × Entry)) (x : ℕ) (life : Life) : Type 0 where
+pub record One (first : List Entry) (came : List (Item × Entry)) (x : ℕ) (life : Life)
+    : Type 0 where
   pub holds : Holds (first ++ entries_of came) life
   pub spans : Spans (length first) x (length (first ++ entries_of came)) (items_of came) life
   pub marks : Marks x (items_of came) life

@@ -29,7 +29,7 @@ span_from n x t (i ∷ list) =
 
 -- span: the places of the frames of the transaction with this id (4.4, Transactional Work). Item
 -- number i has the place that follows the attaches and i other items. A frame that was put under
--- the id after the end of its link isn't among them, but may be in a later transaction's of this id.
+-- the id after the end of its link isn't among them; a later transaction of this id may have it.
 abbrev pub span : Exchange → ℕ → TransactionId → List ℕ
 span w x t = span_from (length w.first) x t (forward w)
 

@@ -14,8 +14,8 @@ use Rattle.txn_parties.specs.Spans.{drawn_on}
 abbrev pub all_steps : Exchange → List Step
 all_steps w = steps_of w.first ++ map step_of (forward w)
 
--- the frames at these places, each stripped of its transaction (4.4.1, Transactional Posting; 4.4.2,
--- Transactional Retirement)
+-- the frames at these places, each stripped of its transaction (4.4.1, Transactional Posting;
+-- 4.4.2, Transactional Retirement)
 abbrev pub frames_drawn : Exchange → List ℕ → List Frame
 frames_drawn w places = map stripped (frames_at (all_steps w) places)
 

@@ -1,4 +1,4 @@
-//! Laws of two parties, for the reader: functions that do nothing, and whose contracts are the laws.
+//! Laws of two parties, for the reader: functions that do nothing, whose contracts are the laws.
 
 ghost use Rattle.std.specs.Prelude.{◌≡◌, Bool, Option, None, List, [], ◌∷◌, ◌++◌, length, take};
 ghost use Rattle.std.specs.List.{zip};
