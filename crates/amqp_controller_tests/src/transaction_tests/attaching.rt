@@ -5,10 +5,8 @@ use crate::transaction_tests::links::{assert_put, illegal};
 use crate::transaction_tests::values::{
     GLOBAL_DECLARE, declaration, end, id, name, passed, pending, ready, refused, same,
 };
-use amqp_below_layer::LayerBelow;
-use amqp_below_sessions::{
-    AllocLinkError, PlainSession, SenderAttachError, Session, SessionInnerError,
-};
+use amqp_below_layer::{LayerBelow, SessionInnerError};
+use amqp_below_sessions::{AllocLinkError, PlainSession, SenderAttachError, Session};
 use amqp_controller_calls::{Abandoned, TransactionBase};
 use amqp_controller_transactions::{
     Attaching, Controller, OwnedDeclareError, OwnedTransaction, TransactionDischarge,

@@ -1,0 +1,3 @@
+pub mod NodeIds
+pub mod Bounded
+pub mod BoundedLaws
