@@ -20,7 +20,7 @@
 //! | [`ListenerSessionEndpoint`] | a session from whose queue links are accepted |
 //! | [`ConnectionEnd`], [`MemoryConnection`] | the end of a connection, and one in memory |
 //! | [`Poll`] | what `accept` answers; it isn't std's |
-//! | [`SenderAttachError`], [`ReceiverAttachError`], [`AllocLinkError`] | why a link isn't attached |
+//! | [`SenderAttachError`], [`ReceiverAttachError`], [`AllocLinkError`] | why there is no link |
 //! | [`BeginError`] | why a session isn't begun |
 //!
 //! The links of a session that an acceptor of sessions accepted, which an engine runs (both are of
@@ -28,12 +28,12 @@
 //!
 //! ```text
 //! let acceptor = LinkAcceptor::builder().credit_mode(CreditMode::Auto(10)).build();
-//! let turn = engine.on_incoming(channel, frame)?; // an attach waits in the queue now
+//! let turn = engine.on_incoming(frame)?; // after an attach: it waits in the queue now
 //! let mut handle = SessionHandle::new(engine.session_mut());
 //! match acceptor.accept(alloc, &mut handle) {
 //!     Poll::Pending => {}                           // no attach waits
 //!     Poll::Ready(Ok((endpoint, frames))) => { .. } // the link's end; send the frames
-//!     Poll::Ready(Err(AcceptorAttachError::SessionStopped(reason))) => { .. } // no more will come
+//!     Poll::Ready(Err(AcceptorAttachError::SessionStopped(reason))) => { .. } // it stopped
 //!     Poll::Ready(Err(error)) => { .. }             // this link isn't accepted, the next may be
 //! }
 //! ```

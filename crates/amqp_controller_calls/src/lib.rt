@@ -10,11 +10,31 @@
 //! lends.
 //!
 //! ```text
-//! let declare = declare_on_link(alloc, &mut link, None)?;
-//! let Progress::Ready(Ok(declared)) = declare.poll(&mut link) else { .. };
-//! let commit = discharge_on_link(alloc, &mut link, &declared.txn_id, Some(false))?;
-//! let Progress::Ready(Ok(Accepted)) = commit.poll(&mut link) else { .. };
+//! /// Declares a transaction on a control link and commits it: whether the commit was accepted. What
+//! /// wasn't answered yet is given up with one look.
+//! fn commit_on_link<L: SenderLink>(
+//!     alloc: Global,
+//!     link: &mut L,
+//! ) -> Result<bool, ControllerSendError> {
+//!     let declared = match declare_on_link(alloc, link, None)?.poll(link) {
+//!         Progress::Ready(declared) => declared?,
+//!         Progress::Pending(_declare) => return Ok(false),
+//!     };
+//!     match discharge_on_link(alloc, link, &declared.txn_id, Some(false))?.poll(link) {
+//!         Progress::Ready(accepted) => {
+//!             accepted?;
+//!             Ok(true)
+//!         }
+//!         Progress::Pending(_commit) => {
+//!             drop(abandon_on_link(alloc, link, &declared.txn_id, 1));
+//!             Ok(false)
+//!         }
+//!     }
+//! }
 //! ```
+//!
+//! Answers have come before they are polled here. A client that waits keeps what `Pending` hands
+//! back, and polls that once more frames have come.
 //!
 //! Below stand the messages of `amqp_txn_codec` and the links of `amqp_links`. The promise that
 //! this crate carries: each call makes one send of its one message, in its canonical spelling,

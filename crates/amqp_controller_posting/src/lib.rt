@@ -7,10 +7,20 @@
 //! | [`PostResult`] | that outcome, or why there is none ([`PostError`]) |
 //! | [`TransactionRetirement`] | the outcomes of a received delivery under a transaction |
 //!
+//! The work borrows its transaction, so `?` is as usual here:
+//!
 //! ```text
-//! let post = transaction.post(&mut sender, sendable)?;
-//! let Progress::Ready(Ok(Outcome::Accepted)) = post.poll(&mut sender) else { .. };
-//! transaction.accept(&mut receiver, &delivery.info)?;
+//! /// Posts a message: its outcome, or `None` where that is still out.
+//! fn post_once<T: TransactionPosting, L: SenderLink>(
+//!     transaction: &T,
+//!     sender: &mut L,
+//!     sendable: Sendable,
+//! ) -> Result<Option<Outcome>, PostError> {
+//!     match transaction.post(sender, sendable)?.poll(sender) {
+//!         Progress::Ready(outcome) => Ok(Some(outcome?)),
+//!         Progress::Pending(_post) => Ok(None),
+//!     }
+//! }
 //! ```
 //!
 //! A transaction is any type with `TransactionBase` of `amqp_controller_calls`; links are those of

@@ -11,6 +11,7 @@ use Rattle.amqp_txn_types.specs.declared.small.Role.TheVariants as roles
 use Rattle.amqp_txn_types.specs.declared.small.SenderSettleMode.{SenderSettleMode}
 use Rattle.amqp_txn_types.specs.declared.text.Text.{Text}
 use Rattle.amqp_txn_types.specs.Counts.{Rose}
+use Rattle.amqp_txn_types.specs.Plain.{plain_attach, plain_source}
 use Rattle.amqp_below_layer.specs.declared.inner_error.SessionInnerError.{SessionInnerError}
 use Rattle.amqp_below_layer.specs.Told.{Steady, Told}
 use Rattle.amqp_below_sessions.specs.declared.relay.NameState.{NameState}
@@ -52,26 +53,13 @@ end_of wanted output = record {
 
 -- the attach of a control link (part 4, section 4.5.1: its target is the coordinator)
 abbrev pub attach_of : Wanted → OutputHandle → Attach
-attach_of wanted output = record {
-  name = wanted.name;
-  handle = record { 0 = output.0 };
-  role = roles.Sender;
-  snd_settle_mode = wanted.sender_settle_mode;
-  rcv_settle_mode = receivers.First;
-  source = Some (record {
-    address = None;
-    dynamic = false;
-    dynamic_node_properties = None;
-    outcomes = None;
-    capabilities = None;
-  });
-  target = Some (targets.Coordinator wanted.coordinator);
-  initial_delivery_count = Some 0;
-  max_message_size = None;
-  offered_capabilities = None;
-  desired_capabilities = None;
-  properties = None;
-}
+attach_of wanted output =
+    record (plain_attach wanted.name (record { 0 = output.0 }) roles.Sender) {
+      snd_settle_mode = wanted.sender_settle_mode;
+      source = Some plain_source;
+      target = Some (targets.Coordinator wanted.coordinator);
+      initial_delivery_count = Some 0;
+    }
 
 -- what allocating a link, the check of its attach and freeing it answer and leave of a session
 abbrev pub Allocates : Type 0 → Type 1

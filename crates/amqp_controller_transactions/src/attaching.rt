@@ -55,13 +55,13 @@ impl Attaching {
         }
         match session.session_stop_reason() {
             None => Progress::Pending(self),
-            Some(reason) => Progress::Ready(Err(stopped(reason))),
+            Some(reason) => Progress::Ready(Err(name_stop(reason))),
         }
     }
 }
 
 /// Why a link isn't attached where its session stopped.
-fn stopped(reason: &SessionStopReason) -> SenderAttachError
+fn name_stop(reason: &SessionStopReason) -> SenderAttachError
     ensures { IsStopped reason.now result }
 {
     match reason.try_clone() {

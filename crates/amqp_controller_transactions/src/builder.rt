@@ -202,24 +202,9 @@ fn attach_of(wanted: ControllerBuilder, output: OutputHandle) -> Attach
         sender_settle_mode,
         alloc: _,
     } = wanted;
-    Attach {
-        name,
-        handle: Handle(output.0),
-        role: Role::Sender,
-        snd_settle_mode: sender_settle_mode,
-        rcv_settle_mode: ReceiverSettleMode::First,
-        source: Some(Source {
-            address: None,
-            dynamic: false,
-            dynamic_node_properties: None,
-            outcomes: None,
-            capabilities: None,
-        }),
-        target: Some(TargetArchetype::Coordinator(coordinator)),
-        initial_delivery_count: Some(0),
-        max_message_size: None,
-        offered_capabilities: None,
-        desired_capabilities: None,
-        properties: None,
-    }
+    Attach::new(name, Handle(output.0), Role::Sender)
+        .snd_settle_mode(sender_settle_mode)
+        .source(Source::default())
+        .target(TargetArchetype::Coordinator(coordinator))
+        .initial_delivery_count(0)
 }

@@ -10,15 +10,47 @@
 //!
 //! Calls of this crate that take the runtime take the lock; each makes one call of
 //! `amqp_controller_calls` under it, and lets the lock go. A poll takes it anew, so two transactions
-//! over one controller are polled in any order.
+//! over one controller are polled in any order. A call that is made while the guard of
+//! [`Controller::link`] lives waits for ever: drop the guard first.
 //!
 //! ```text
-//! let controller = Controller::new(alloc, link);
-//! let declaring = Transaction::declare(&controller, &rt, None)?;
-//! let Progress::Ready(Ok(transaction)) = declaring.poll(&rt) else { .. };
-//! let Ok(commit) = transaction.commit(&rt) else { .. };
-//! let Progress::Ready(Ok(())) = commit.poll(&rt) else { .. };
+//! /// Declares a transaction and commits it: whether the commit was accepted.
+//! fn commit_once<L: SenderLink, R: Wait>(
+//!     rt: &R,
+//!     controller: &Controller<L>,
+//! ) -> Result<bool, ControllerSendError> {
+//!     let transaction = match Transaction::declare(controller, rt, None)?.poll(rt) {
+//!         Progress::Ready(declared) => declared?,
+//!         Progress::Pending(_declaring) => return Ok(false),
+//!     };
+//!     let commit = match transaction.commit(rt) {
+//!         Ok(commit) => commit,
+//!         Err((transaction, error)) => {
+//!             drop(transaction.abandon(rt));
+//!             return Err(error);
+//!         }
+//!     };
+//!     match commit.poll(rt) {
+//!         Progress::Ready(Ok(())) => Ok(true),
+//!         Progress::Ready(Err((transaction, error))) => {
+//!             drop(transaction.abandon(rt));
+//!             Err(error)
+//!         }
+//!         Progress::Pending(commit) => {
+//!             drop(commit.into_value().abandon(rt));
+//!             Ok(false)
+//!         }
+//!     }
+//! }
 //! ```
+//!
+//! Answers have come before they are polled here. A client that waits keeps what `Pending` hands
+//! back, and polls that once more frames have come.
+//!
+//! **A transaction isn't `Drop`**: nothing is rolled back by dropping one, and the check refuses a
+//! function that lets one go. So there is no `?` while one is held by value. Do the work in a
+//! function that borrows it, where `?` is as usual, and end it by a `match`, each of whose ways out
+//! commits it, rolls it back or abandons it.
 //!
 //! The life of a transaction on this side:
 //!
@@ -34,11 +66,12 @@
 //!                                               discharged ─── spend ──▶ gone
 //! ```
 //!
-//! A transaction must be spent: no value of it is let go but at the end of this diagram. Below
-//! stand the calls on a lent link, of `amqp_controller_calls`. The promise that this crate carries is
-//! what values show: a transaction is marked discharged exactly by a poll that is `Ready(Ok)`, the
-//! poll of a discharged one is `Ready(Ok)` or the error of the close of its link, and each refusal
-//! hands back the value or the controller. No contract can name what a link under a lock is before
+//! A poll that reads that the coordinator rolled the transaction back marks it so: it is then given
+//! up without a rollback, and may still be committed again. Below stand the calls on a lent link, of
+//! `amqp_controller_calls`. The promise that this crate carries is what values show: a transaction
+//! is marked discharged exactly by a poll that is `Ready(Ok)`, and rolled back exactly by one that
+//! reads so; the poll of a discharged one is `Ready(Ok)` or the error of the close of its link, and
+//! each refusal hands back the value or the controller. No contract can name what a link under a lock is before
 //! a call and after it. So a call over the lock promises that there are two values of the link
 //! between which it made its one call, with the answer that it passes on: that makes it the answer
 //! of a link, and of that call. That it makes no other call, and that a discharged transaction

@@ -151,7 +151,7 @@ fn put_declare<R: Wait>(
             let awaited = Awaited::Declare(declaring);
             Progress::Pending(OwnedDeclaring { awaited })
         }
-        Err((controller, error)) => undeclared(controller, error),
+        Err((controller, error)) => fail_declare(controller, error),
     }
 }
 
@@ -167,12 +167,12 @@ fn poll_declare<R: Wait>(rt: &R, declaring: OwnedDeclaringOn<WireSender>) -> Dec
             Progress::Pending(OwnedDeclaring { awaited })
         }
         Progress::Ready(Ok(transaction)) => Progress::Ready(Ok(transaction)),
-        Progress::Ready(Err((controller, error))) => undeclared(controller, error),
+        Progress::Ready(Err((controller, error))) => fail_declare(controller, error),
     }
 }
 
 /// A declare that failed, with the controller of its link handed back.
-fn undeclared(controller: Controller<WireSender>, error: ControllerSendError) -> DeclareProgress
+fn fail_declare(controller: Controller<WireSender>, error: ControllerSendError) -> DeclareProgress
     ensures { result ≡ waits.Ready (Err (Some controller, declares.ControllerSendError error)) }
 {
     let error = OwnedDeclareError::ControllerSendError(error);

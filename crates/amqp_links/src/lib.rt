@@ -8,6 +8,10 @@
 //! | [`SenderLink`] | the end that sends messages and hears what became of them | [`WireSender`] |
 //! | [`ReceiverLink`] | the end that receives messages and disposes of them | [`WireReceiver`] |
 //!
+//! A call answers at once, and its caller asks again where the answer is still out: [`Poll`] is what
+//! a look finds, and [`Progress`] what the poll of a wait finds that is taken by value. Neither is
+//! std's: no waker is kept, nothing is woken, and whoever moves the frames polls again.
+//!
 //! A link tells, in contracts, what was put on it, what stands ready to be heard, and a count of
 //! its faults; each call says what it does to them. A wire keeps what was put for its owner to
 //! read, and hears what its owner fills in:

@@ -1,6 +1,7 @@
 //! An answer that may still be out.
 
-/// What a look for an answer finds.
+/// What a look for an answer finds. It isn't std's `Poll`: no waker is kept, and whoever looked in
+/// vain looks again once more frames have come.
 #[derive(Debug, Drop, PartialEq)]
 pub enum Poll<T> {
     /// It has come.

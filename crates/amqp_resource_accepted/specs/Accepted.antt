@@ -16,7 +16,7 @@ use Rattle.amqp_accept_links.specs.Receivers.{IsDefaultReceiver}
 use Rattle.amqp_accept_listener.specs.declared.listener.ListenerSession.{ListenerSession}
 use Rattle.amqp_accept_listener.specs.Listening.{control_of, held_of, inner_of, own_of, queue_of}
 use Rattle.amqp_resource_session.specs.declared.session.TxnSession.{TxnSession}
-use Rattle.amqp_resource_session.specs.Session.{FitsTogether, StandsFor, below_of, refusals_of as own_refusals_of, stop_of as code_of, vetoes_of as own_vetoes_of}
+use Rattle.amqp_resource_session.specs.Session.{FitsTogether, StandsFor, below_of, owed_of, refusals_of as own_refusals_of, stop_of as code_of, vetoes_of as own_vetoes_of}
 use Rattle.amqp_engine_builder.specs.declared.builder.Builder.{Builder}
 use Rattle.amqp_engine_builder.specs.Builders.{begin_built}
 use Rattle.amqp_resource_accepted.specs.declared.accepted.AcceptedSession.{AcceptedSession}
@@ -60,6 +60,7 @@ pub record IsTransacting (Control : ControlLinkAcceptor → Type 0)
   pub listening : IsListening Control (below_of session) begin begun channel
   pub stands : StandsFor session []
   pub fits : FitsTogether session
+  pub owed : owed_of session ≡ 0
   pub runs : code_of session ≡ None
   pub own : own_refusals_of session ≡ 0
   pub vetoes : own_vetoes_of session ≡ 0

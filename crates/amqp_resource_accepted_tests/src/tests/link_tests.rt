@@ -15,7 +15,7 @@ use std::alloc::Global;
 use std::process::Abort;
 
 /// What accepting a link answers.
-type Accepted = Poll<Result<(LinkEndpoint, Frames), AcceptorAttachError>>;
+pub type Accepted = Poll<Result<(LinkEndpoint, Frames), AcceptorAttachError>>;
 
 /// What an acceptor of links answers for the attach that waits longest.
 pub fn accept_link<S: ListenerSessionEndpoint>(
