@@ -14,13 +14,8 @@ use std::alloc::Global;
 /// The engine of a session that does transactions.
 pub type Engine = SessionEngine<Listening>;
 
-/// A session that was accepted.
-pub fn accepted(alloc: Global) -> Option<Engine> {
-    let acceptor = transactional();
-    let answer = acceptor.accept_incoming_session(alloc, incoming(), OutgoingChannel(4));
-    drop(acceptor);
-    let (session, begin) = answer.ok()?;
-    drop(begin);
+/// The engine of a session that does transactions, where it is one.
+pub fn transactional_engine(session: AcceptedSession) -> Option<Engine> {
     match session {
         AcceptedSession::Transactional(engine) => Some(engine),
         AcceptedSession::Plain(engine) => {
@@ -28,6 +23,16 @@ pub fn accepted(alloc: Global) -> Option<Engine> {
             None
         }
     }
+}
+
+/// A session that was accepted.
+pub fn accepted(alloc: Global) -> Option<Engine> {
+    let acceptor = transactional();
+    let answer = acceptor.accept_incoming_session(alloc, incoming(), OutgoingChannel(4));
+    drop(acceptor);
+    let (session, begin) = answer.ok()?;
+    drop(begin);
+    transactional_engine(session)
 }
 
 /// What the engine answers to a frame.

@@ -1,13 +1,12 @@
 //! The links of a session that was accepted: from the peer's begin and attaches to a post that is
 //! committed.
 
-use crate::tests::engine_calls::{Engine, asked, committed, given_for};
-use crate::tests::test_values::{connection, transactional, transfer};
+use crate::tests::engine_calls::{Engine, asked, committed, given_for, transactional_engine};
+use crate::tests::test_values::{connection, session_of, transactional, transfer};
 use amqp_accept_links::{AcceptorAttachError, LinkAcceptor, LinkEndpoint, SessionHandle};
 use amqp_below_sessions::ListenerSessionEndpoint;
 use amqp_engine_events::{SessionControl, SessionEngine};
 use amqp_links::Poll;
-use amqp_resource_accepted::*;
 use amqp_resource_session::numbered_id;
 use amqp_test_values::{control_attach, sender_attach, under};
 use amqp_txn_types::{Frame, Frames, OutputHandle, Text, TransactionId};
@@ -37,16 +36,7 @@ fn accept_session(alloc: Global) -> Option<Engine> {
     let answer = acceptor.accept(alloc, &mut connection);
     drop(acceptor);
     drop(connection);
-    match answer {
-        Poll::Ready(Ok((AcceptedSession::Transactional(engine), begin))) => {
-            drop(begin);
-            Some(engine)
-        }
-        other => {
-            drop(other);
-            None
-        }
-    }
+    transactional_engine(session_of(answer)?)
 }
 
 /// How many frames are to be sent for the attach of the peer's control link.

@@ -1,7 +1,7 @@
 //! What accepting a link answers once its session stopped, and who ended it closed its queue.
 
 use crate::tests::link_tests::accept_link;
-use crate::tests::test_values::connection;
+use crate::tests::test_values::{connection, session_of};
 use amqp_accept_links::{AcceptorAttachError, LinkAcceptor, SessionHandle};
 use amqp_accept_listener::ListenerSession;
 use amqp_below_layer::SessionInnerError;
@@ -15,6 +15,17 @@ use std::alloc::Global;
 /// The engine of a session that does no transactions.
 type Engine = SessionEngine<ListenerSession<PlainSession>>;
 
+/// The engine of a session that does no transactions, where it is one.
+fn plain_engine(session: AcceptedSession) -> Option<Engine> {
+    match session {
+        AcceptedSession::Plain(engine) => Some(engine),
+        AcceptedSession::Transactional(engine) => {
+            drop(engine);
+            None
+        }
+    }
+}
+
 /// The session that waits at a connection, accepted.
 fn accept_session(alloc: Global) -> Option<Engine> {
     let acceptor = SessionAcceptor::new();
@@ -22,16 +33,7 @@ fn accept_session(alloc: Global) -> Option<Engine> {
     let answer = acceptor.accept(alloc, &mut connection);
     drop(acceptor);
     drop(connection);
-    match answer {
-        Poll::Ready(Ok((AcceptedSession::Plain(engine), begin))) => {
-            drop(begin);
-            Some(engine)
-        }
-        other => {
-            drop(other);
-            None
-        }
-    }
+    plain_engine(session_of(answer)?)
 }
 
 /// Whether accepting a link answers that the session stopped for this reason.

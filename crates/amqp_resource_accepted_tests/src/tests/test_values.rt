@@ -45,6 +45,23 @@ pub fn transactional() -> SessionAcceptor {
         .build()
 }
 
+/// The session that was accepted, where one was.
+pub fn session_of(
+    answer: Poll<Result<(AcceptedSession, Begin), BeginError>>,
+) -> Option<AcceptedSession> {
+    match answer {
+        Poll::Pending => None,
+        Poll::Ready(Ok((session, begin))) => {
+            drop(begin);
+            Some(session)
+        }
+        Poll::Ready(Err(error)) => {
+            drop(error);
+            None
+        }
+    }
+}
+
 /// What an acceptor answers, in a word.
 pub fn word(answer: Poll<Result<(AcceptedSession, Begin), BeginError>>) -> &'static str {
     match answer {
