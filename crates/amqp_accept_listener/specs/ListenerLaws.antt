@@ -92,7 +92,7 @@ module _ {S : Type 0} (told : S → Told) (kept : S → Kept) (names : S → Nam
     queued-leaves old new state before after attach (Ok given) same stays queues = record {
       kept = record {
         others = ap (λ s. with_queue (kept s) after) same;
-        queue = inr queues.2;
+        queue = inr (queues.0, queues.2);
       };
       names = attaches-leaves (at_once || is_coordinator_attach (frames.Attach attach)) (names old)
           (names new) attach.name (attaches-same old new attach.name same stays);

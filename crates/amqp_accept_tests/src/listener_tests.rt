@@ -211,6 +211,20 @@ fn a_control_link_is_answered(rt: HostRuntime) {
 }
 
 #[test]
+fn a_link_to_no_coordinator_is_no_control_link(rt: HostRuntime) {
+    let alloc = rt.alloc();
+    let mut listener = listener(alloc);
+    let name = Text::from_str(alloc, "c").expect(&rt, "an Ok");
+    let attach = sender_attach(name, 5, None);
+    let answer = listener.on_control_attach(&attach);
+    drop(attach);
+    assert!(rt; refuses(answer, SessionInnerError::IllegalState));
+    assert!(rt; is_known(alloc, &listener, "c", NameState::Unknown));
+    assert!(rt; gives(attach_control(alloc, &mut listener), 2));
+    drop(listener);
+}
+
+#[test]
 fn a_listener_does_no_transactions(rt: HostRuntime) {
     let mut listener = listener(rt.alloc());
     let id = TransactionId::from([7; 16]);

@@ -63,15 +63,13 @@ own_of r = r.refusals
 abbrev pub own_vetoes_of : {S : Type 0} → Recorder S → ℕ
 own_vetoes_of r = r.vetoes
 
--- a recorder that is Mapped, had no incoming frame call and no attach of a control link, and vetoed
--- nothing
+-- a recorder that is Mapped, and had no incoming frame call and no attach of a control link
 pub record IsFresh (unused : Bool) (told : Told) : Type 0 where
   pub no_call : unused ≡ true
   pub mapped : told.fixed.state ≡ session_states.Mapped
   pub taken : told.taken ≡ Some []
   pub opened : told.opened ≡ Some []
   pub refused : told.refused ≡ Some []
-  pub vetoed : told.reviews.vetoed ≡ Some []
 
 -- the plans of a recorder are set to these, and all else is kept
 pub record SetsPlans {S : Type 0} (old new : Recorder S) (refusing starving : List ℕ) : Type 0 where

@@ -147,8 +147,8 @@ impl<S: LayerBelow> Recorder<S> {
         &self.vetoed
     }
 
-    /// Whether the layer is Mapped, had no incoming frame call and no attach of a control link, and
-    /// vetoed nothing.
+    /// Whether the layer is Mapped, and had no incoming frame call and no attach of a control link.
+    /// It may have been asked for reviews.
     pub fn is_fresh(&self) -> bool
         ensures { IsTrue result
             ↔ IsFresh (is_unused self.now) (⟦<Recorder<S> as Tells>⟧.told self.now) }
@@ -158,7 +158,6 @@ impl<S: LayerBelow> Recorder<S> {
             && self.exchanges.len() == 0
             && self.opened.len() == 0
             && self.refused.len() == 0
-            && self.vetoed.len() == 0
     }
 
     /// The frame through the layer in it. Room for what is kept is made first.

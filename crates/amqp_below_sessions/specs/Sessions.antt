@@ -1,5 +1,5 @@
 -- What the calls of a session do to what it tells and keeps.
-use Rattle.std.specs.Prelude.{◌≡◌, ◌≤◌, ◌⊎◌, Bool, List, Option, Some, None, Result, Ok, Err, OnErr}
+use Rattle.std.specs.Prelude.{◌≡◌, ◌≤◌, ◌⊎◌, Bool, false, List, Option, Some, None, Result, Ok, Err, OnErr}
 use Rattle.std.proofs.Common.{ap, inl, refl, subst, sym, ◌∙◌}
 use Rattle.amqp_txn_types.specs.declared.small.SessionState.{SessionState}
 use Rattle.amqp_txn_types.specs.declared.small.OutgoingChannel.{OutgoingChannel}
@@ -70,9 +70,10 @@ pub record Leaves (before after : Kept) (old new : Names) : Type 0 where
   pub kept : after ≡ before
   pub names : SameNames old new
 
--- the queue once a frame was taken: an attach may wait in it now, as the last
+-- the queue once a frame was taken: an attach may wait in it now, as the last, unless it is closed
 abbrev pub FrameQueues : Queue → Queue → Frame → Type 0
-FrameQueues old new (frames.Attach attach) = (new ≡ old) ⊎ (new ≡ with_last old attach)
+FrameQueues old new (frames.Attach attach) =
+    (new ≡ old) ⊎ ((old.closed ≡ false) × (new ≡ with_last old attach))
 FrameQueues old new frame = new ≡ old
 
 -- what an incoming frame call leaves of what a session keeps: all but the queue, to which it may

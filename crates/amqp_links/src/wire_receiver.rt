@@ -129,6 +129,21 @@ impl WireReceiver {
         }
     }
 
+    /// Fills in a delivery, to be given after those that wait.
+    ///
+    /// # Errors
+    ///
+    /// Returns [`NoMemory`] where memory runs out; the wire is as it was then.
+    pub fn append_delivery(&mut self, delivery: Delivery) -> Result<(), NoMemory>
+        ensures ok { OnOk result (self.new ≡ delivered self.old delivery) }
+        ensures err { OnErr result (self.new ≡ self.old) }
+    {
+        match self.deliver(delivery) {
+            Ok(()) => Ok(()),
+            Err((_, error)) => Err(error),
+        }
+    }
+
     /// Puts a message, in a call that was counted. Out of memory counts as a fault.
     fn put_message(&mut self, message: ReceiverMessage) -> Result<(), IllegalLinkStateError>
         ensures fails { OnErr result (result ≡ Err link_errors.NoMemory) }

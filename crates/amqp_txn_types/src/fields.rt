@@ -112,7 +112,7 @@ impl Fields {
     }
 
     /// The value under the key; `None` where no pair has it.
-    pub fn value_of(&self, key: &str) -> Option<&Value>
+    pub fn value_of(&self, key: &Symbol) -> Option<&Value>
         ensures { option_copied result ≡ lookup (pointwise nat_eq key.now) self.now }
     {
         match self.map.as_ref() {
@@ -122,7 +122,7 @@ impl Fields {
     }
 
     /// Whether a pair has the key.
-    pub fn contains_key(&self, key: &str) -> bool
+    pub fn contains_key(&self, key: &Symbol) -> bool
         ensures { result ≡ is_some (lookup (pointwise nat_eq key.now) self.now) }
     {
         self.value_of(key).is_some()

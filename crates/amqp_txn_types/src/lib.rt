@@ -47,7 +47,7 @@ mod text;
 pub use binary::Binary;
 pub use calls::Calls;
 pub use capability::TxnCapability;
-pub use counts::{count_answer, count_one, count_refusal, refuse};
+pub use counts::{count_answer, count_one, refuse};
 pub use delivery::{
     ConnectionStopReason, Declared, DeliveryState, Error, ErrorCondition, Modified, Outcome,
     Rejected, SessionStopReason, TransactionalState,

@@ -3,13 +3,12 @@
 ghost use Rattle.std.specs.Prelude.{◌≡◌, ◌↔◌, List, [], ◌++◌, ℕ, length, slice_get, IsTrue, OnOk, OnErr, IfOk, IfErr, nat_eq, string_bytes};
 ghost use Rattle.std.specs.Char.{encode_utf8};
 ghost use Rattle.std.specs.Hash as fed;
-ghost use Rattle.std.specs.Cmp.Lexicographic.{bytes_decides, pointwise, nat_list_eq_equiv};
+ghost use Rattle.std.specs.Cmp.Lexicographic.{pointwise, nat_list_eq_equiv};
 ghost use Rattle.std.specs.Cmp.{partial_equiv_from_equiv};
 ghost use Rattle.std.specs.Cmp.Rules.{hashing};
 ghost use Rattle.std.proofs.Common.{ap, rules};
 
 use crate::items::{NoMemory, TryClone};
-use indexmap::Equivalent;
 use std::alloc::Global;
 use std::fmt;
 use std::hash::{Hash, Hasher};
@@ -282,18 +281,5 @@ impl Hash for Symbol {
 
     fn hash<H: Hasher>(&self, state: &mut H) {
         self.text.hash(state);
-    }
-}
-
-/// A text stands for the symbol of the same octets, where a map is asked for a key.
-impl Equivalent<Symbol> for &str {
-    ghost equivalent = { λ text symbol. pointwise nat_eq text.now symbol };
-
-    ghost respects_hash = { λ text symbol same. ap fed.str ((bytes_decides text.now symbol).0 same) };
-
-    ghost respects_eq = { λ text x y. nat_list_eq_equiv.congr text.now x y };
-
-    fn equivalent(&self, symbol: &Symbol) -> bool {
-        *self == symbol.as_str()
     }
 }

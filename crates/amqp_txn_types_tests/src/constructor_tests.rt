@@ -61,9 +61,11 @@ fn octets_grow_by_one(rt: HostRuntime) {
 fn fields_are_looked_up_by_their_keys(rt: HostRuntime) {
     let mut fields = Fields::new(rt.alloc());
     let key = Symbol::from_str(rt.alloc(), "txn-id").expect(&rt, "an Ok");
+    let again = Symbol::from_str(rt.alloc(), "txn-id").expect(&rt, "an Ok");
+    let other = Symbol::from_str(rt.alloc(), "txn").expect(&rt, "an Ok");
     fields.set(key, Value::Uint(7)).expect(&rt, "an Ok");
-    assert!(rt; fields.contains_key("txn-id"));
-    assert!(rt; fields.value_of("txn-id").is_some());
-    assert!(rt; !fields.contains_key("txn"));
-    drop(fields);
+    assert!(rt; fields.contains_key(&again));
+    assert!(rt; fields.value_of(&again).is_some());
+    assert!(rt; !fields.contains_key(&other));
+    drop((fields, again, other));
 }

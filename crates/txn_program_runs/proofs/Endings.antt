@@ -1,6 +1,7 @@
 -- How a run ends during which the layer below counted no refusal.
 use Rattle.std.proofs.Common.{◌≡◌, ℕ, zero, suc, ◌+◌, ◌-◌, ◌≤◌, ◌^◌, ◌⊎◌, inl, inr, Bool, true, false, cond, Option, Some, None, List, ◌∷◌, refl, arith}
 use Rattle.std.specs.Prelude.{min, IfSome, IsSome}
+use Rattle.amqp_txn_types.specs.declared.performatives.Frame.{Frame}
 use Rattle.amqp_below_layer.specs.declared.inner_error.SessionInnerError.TheVariants as faults
 use Rattle.amqp_below_ids.specs.Ids.{AreNext}
 use Rattle.amqp_resource_record.specs.declared.step.Step.{Step}
@@ -84,13 +85,13 @@ never_stops count r few legal drawn none s rest left (inr ends) =
     not_none (ended_by s) (made_goes_on count few r legal drawn none s rest left).1 ends
 
 -- so where nothing was refused, it goes to its end
-pub made_run-ends : (count : ℕ) (o : Option Driven) (told : Told) (before now status : ℕ) → count ≤ 20000
-    → IfSome o (λ driven. IsRun (ids_from 1) (made count) told driven)
+pub made_run-ends : (count : ℕ) (o : Option Driven) (vetoed : Option (List (List Frame))) (told : Told) (before now status : ℕ) → count ≤ 20000
+    → IfSome o (λ driven. IsRun (ids_from 1) (made count) vetoed told driven)
     → IfSome o (λ driven. RunRose before now driven.entries driven.stop)
     → NoneRose before now → RunEnds (made count) o status → MadeEnds status
-made_run-ends count None told before now status few run rose quiet ends = inl ends
-made_run-ends count (Some driven) told before now status few run rose quiet (inl is) = inl is
-made_run-ends count (Some driven) told before now status few run rose quiet (inr (inl every)) = inr every.0
-made_run-ends count (Some driven) told before now status few run rose quiet (inr (inr stopped)) =
+made_run-ends count None vetoed told before now status few run rose quiet ends = inl ends
+made_run-ends count (Some driven) vetoed told before now status few run rose quiet (inl is) = inl is
+made_run-ends count (Some driven) vetoed told before now status few run rose quiet (inr (inl every)) = inr every.0
+made_run-ends count (Some driven) vetoed told before now status few run rose quiet (inr (inr stopped)) =
     let none = none_refused before now driven.entries driven.stop rose quiet in
     absurd (never_stops count driven.entries few run.legal run.drawn none.0 stopped.1.0 stopped.1.1 stopped.1.2 stopped.1.3)

@@ -3,6 +3,7 @@ use Rattle.std.specs.Prelude.{ℕ, ◌≡◌, ◌↔◌, ◌++◌, Option, Some,
 use Rattle.txn_program_edges.specs.Unserved.{line_text}
 use Rattle.amqp_txn_types.specs.declared.id.TransactionId.{TransactionId}
 use Rattle.amqp_txn_types.specs.declared.performatives.Frame.{Frame}
+use Rattle.amqp_txn_types.specs.Growing.{grown}
 use Rattle.amqp_below_layer.specs.declared.inner_error.SessionInnerError.TheVariants as faults
 use Rattle.amqp_below_layer.specs.Told.{Fixed, Told}
 use Rattle.amqp_below_ids.specs.Ids.{AreNext}
@@ -153,10 +154,10 @@ pub record Untouched (before after : Told) : Type 0 where
 
 -- ---- a run and its record
 
--- a legal run over a front of the steps, with the ids of that source, and what the layer below has
--- then taken, opened, refused and vetoed of it
-pub record IsRun (ids : ℕ → TransactionId) (steps : List Step) (below : Told)
-    (driven : Driven) : Type 0 where
+-- a legal run over a front of the steps, with the ids of that source, and what the layer below,
+-- which had vetoed that much `before`, has then taken, opened, refused and vetoed of it
+pub record IsRun (ids : ℕ → TransactionId) (steps : List Step)
+    (before : Option (List (List Frame))) (below : Told) (driven : Driven) : Type 0 where
   -- the record is legal, for the id source
   pub legal : IsLegal driven.entries
   pub drawn : AreNext ids 0 (drawn_of driven.entries)
@@ -171,8 +172,9 @@ pub record IsRun (ids : ℕ → TransactionId) (steps : List Step) (below : Told
   pub taken : RunTook (Some []) below.taken steps driven.entries driven.stop driven.handed
   pub opened : below.opened ≡ Some (opens driven.entries)
   pub refused : RunRefused (Some []) below.refused steps driven.entries driven.stop driven.handed
-  -- vetoed is, for each commit that was rolled back instead, what it would have handed
-  pub vetoed : below.reviews.vetoed ≡ Some (vetoes driven.entries)
+  -- vetoed is, after what was before, for each commit that was rolled back instead, what it would
+  -- have handed
+  pub vetoed : below.reviews.vetoed ≡ grown before (vetoes driven.entries)
 
 -- the input was read whole and each of its lines is a step, and of these steps the fact holds
 abbrev pub IsSpelledBy : Reading → (List Step → Type 0) → Type 0

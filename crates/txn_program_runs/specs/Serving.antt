@@ -32,7 +32,8 @@ pub record Runs {S : Type 0} (output written : SinkTold) (told : Recorder S → 
   pub status : EndsWith output.faults written.faults (status_by ran.driven) ran.status
   -- where steps were driven, the record is a legal run over a front of the steps that are asked
   -- for, and the layer below has taken exactly its work
-  pub runs : IfSome ran.driven (λ driven. Of (λ ids steps. IsRun ids steps (told ran.below) driven))
+  pub runs : IfSome ran.driven (λ driven.
+      Of (λ ids steps. IsRun ids steps before.reviews.vetoed (told ran.below) driven))
   -- where none were, nothing was taken
   pub untouched : IsNone ran.driven → Untouched before (told ran.below)
   -- each refusal was counted, and without one, and without a fault of the sink, a run stops at

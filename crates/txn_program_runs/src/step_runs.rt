@@ -257,8 +257,9 @@ fn drive_steps<S: LayerBelow, G: IdSource>(
     below: Recorder<S>,
 ) -> Run<S>
     requires fresh { IsFresh (is_unused below) (⟦<Recorder<S> as Tells>⟧.told below) }
-    ensures record { IsRun (G.next ids.old) steps (⟦<Recorder<S> as Tells>⟧.told result.below)
-        result.driven }
+    ensures record { IsRun (G.next ids.old) steps
+        (⟦<Recorder<S> as Tells>⟧.told below).reviews.vetoed
+        (⟦<Recorder<S> as Tells>⟧.told result.below) result.driven }
     ensures rose { RunRose (⟦<Recorder<S> as Tells>⟧.told below).refusals
         (⟦<Recorder<S> as Tells>⟧.told result.below).refusals
         result.driven.entries result.driven.stop }

@@ -130,7 +130,8 @@ impl Coordinator {
 
 impl Attach {
     /// The attach without termini, by which the sender may settle or not, and the receiver settles at
-    /// once.
+    /// once. One whose role is the sender's is complete only with an
+    /// [`initial_delivery_count`](Attach::initial_delivery_count), which the standard asks for.
     ///
     /// Part 2 of the standard, section 2.7.3 (attach), whose defaults the modes are.
     pub fn new(name: Text, handle: Handle, role: Role) -> Self

@@ -15,7 +15,7 @@ returns g c =
         rose = run.rose;
         vetoes_rose = run.vetoes_rose;
         completes =
-            λ quiet written. made_run-ends c.args.count c.run_steps.result.driven _ _ _ c.run_steps.result.status
+            λ quiet written. made_run-ends c.args.count c.run_steps.result.driven _ _ _ _ c.run_steps.result.status
             c.requires.few these run.rose quiet (rw c.in-Ok.ensures at (run.completes quiet written));
         text = run.text;
         entries = run.entries;
