@@ -15,30 +15,30 @@ pub type Answer = Result<Option<DeliveryState>, LinkStateError>;
 /// count of faults rose in the call, or stands at its last value, 2^64 - 1.
 pub trait SenderLink {
     ghost use Rattle.std.specs.Prelude.{Bool, Option, Result};
-    ghost use Rattle.amqp_txn_types.specs.declared.delivery.DeliveryState.{DeliveryState as State};
-    ghost use Rattle.amqp_txn_types.specs.declared.delivery.Error.{Error as Cause};
-    ghost use Rattle.amqp_txn_types.specs.declared.small.Token.{Token as Number};
-    ghost use Rattle.amqp_links.specs.declared.errors.DetachError.{DetachError as Unclosed};
-    ghost use Rattle.amqp_links.specs.declared.errors.SendError.{SendError as Unsent};
-    ghost use Rattle.amqp_links.specs.declared.poll.Poll.{Poll as Found};
-    ghost use Rattle.amqp_links.specs.declared.sendable.Sendable.{Sendable as Message};
-    ghost use Rattle.amqp_links.specs.declared.sendable.Sent.{Sent as HowSent};
-    ghost use Rattle.amqp_links.specs.Sending.{Answer as Told, SenderTold, Sends, Looks, Closes};
+    ghost use Rattle.amqp_txn_types.specs.declared.delivery.DeliveryState.{DeliveryState};
+    ghost use Rattle.amqp_txn_types.specs.declared.delivery.Error.{Error};
+    ghost use Rattle.amqp_txn_types.specs.declared.small.Token.{Token};
+    ghost use Rattle.amqp_links.specs.declared.errors.DetachError.{DetachError};
+    ghost use Rattle.amqp_links.specs.declared.errors.SendError.{SendError};
+    ghost use Rattle.amqp_links.specs.declared.poll.Poll.{Poll};
+    ghost use Rattle.amqp_links.specs.declared.sendable.Sendable.{Sendable};
+    ghost use Rattle.amqp_links.specs.declared.sendable.Sent.{Sent};
+    ghost use Rattle.amqp_links.specs.Sending.{Answer, SenderTold, Sends, Looks, Closes};
 
     /// What the link tells: what was put, which answers stand ready, and how often it failed.
     ghost told: { Self → SenderTold };
 
     /// What one send answers and leaves of this link, beside what the link tells.
-    ghost send_gives: { Self → Self → Message → Option State → Bool → Result HowSent Unsent
+    ghost send_gives: { Self → Self → Sendable → Option DeliveryState → Bool → Result Sent SendError
         → Type 0 } = { λ _ _ _ _ _ _. Unit {0} };
 
     /// What one look answers and leaves of this link, beside what the link tells. A call over
     /// every link that promises this of the link before and after it made one look, and no other
     /// call; of one link it says as much as that link says here.
-    ghost outcome_gives: { Self → Self → Number → Found Told → Type 0 } = { λ _ _ _ _. Unit {0} };
+    ghost outcome_gives: { Self → Self → Token → Poll Answer → Type 0 } = { λ _ _ _ _. Unit {0} };
 
     /// What one close answers and leaves of this link, beside what the link tells.
-    ghost close_gives: { Self → Self → Option Cause → Result Unit Unclosed
+    ghost close_gives: { Self → Self → Option Error → Result Unit DetachError
         → Type 0 } = { λ _ _ _ _. Unit {0} };
 
     /// Sends a message, with the state that its transfer says.

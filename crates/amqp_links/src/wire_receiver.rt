@@ -42,9 +42,9 @@ pub struct WireReceiver {
 
 impl Model for WireReceiver {
     ghost use Rattle.amqp_links.specs.Receiving.{HasDistinctKeys};
-    ghost use Rattle.amqp_links.specs.ReceiverWire.{ReceiverWire as WireValue};
+    ghost use Rattle.amqp_links.specs.ReceiverWire.{ReceiverWire};
 
-    ghost Value = { WireValue };
+    ghost Value = { ReceiverWire };
 
     ghost view = { λ w. record {
       end = w.end;

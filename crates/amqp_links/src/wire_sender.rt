@@ -7,7 +7,7 @@ ghost use Rattle.amqp_links.specs.declared.errors.SendError.TheVariants as send_
 ghost use Rattle.amqp_links.specs.Answers.{answer_in, is_awaited};
 ghost use Rattle.amqp_txn_types.specs.Calls.{is_failing};
 ghost use Rattle.amqp_links.specs.Calls.{FailsAsListed};
-ghost use Rattle.amqp_links.specs.Sending.{Sends, Looks, Closes as ClosesLink, sent_after};
+ghost use Rattle.amqp_links.specs.Sending.{Sends, Looks, Closes, sent_after};
 ghost use Rattle.amqp_links.specs.SenderWire.{SenderWire, sender_tells, after_send, after_close, answered, filled_at, given_at, looked, with_failing, with_message, ClosesOnWire, SendsOnWire};
 
 use crate::answer_slot::AnswerSlot;
@@ -39,9 +39,9 @@ pub struct WireSender {
 impl Model for WireSender {
     ghost use Rattle.std.specs.Prelude.{◌≡◌, length};
     ghost use Rattle.amqp_links.specs.Sending.{unsettled_count};
-    ghost use Rattle.amqp_links.specs.SenderWire.{SenderWire as WireValue};
+    ghost use Rattle.amqp_links.specs.SenderWire.{SenderWire};
 
-    ghost Value = { WireValue };
+    ghost Value = { SenderWire };
 
     ghost view = { λ w. record {
       end = w.end;
@@ -235,7 +235,7 @@ impl SenderLink for WireSender {
     }
 
     fn close(&mut self, error: Option<Error>) -> Result<(), DetachError>
-        ensures told { ClosesLink (sender_tells self.old) (sender_tells self.new) result }
+        ensures told { Closes (sender_tells self.old) (sender_tells self.new) result }
         ensures fails { FailsAsListed (is_failing self.old.calls)
             detach_errors.IllegalState detach_errors.NoMemory result }
         ensures wire { self.new ≡ after_close self.old error result }
