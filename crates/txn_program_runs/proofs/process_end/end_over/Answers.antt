@@ -3,7 +3,7 @@ use Rattle.txn_program_runs.proofs.process_end.end_over.Goals as goal
 
 -- the run is that of the arguments
 pub returns-in-Ok : goal.returns-in-Ok
-returns-in-Ok g c = rw (c.in-Ok.is, c.as_slice.ensures) c.serve_over-ran.ensures
+returns-in-Ok g c = rw c.in-Ok.is (rw c.as_slice.ensures at c.serve_over-ran.ensures)
 
 -- nothing was read
 pub returns-in-Err : goal.returns-in-Err
