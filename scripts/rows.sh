@@ -1,9 +1,15 @@
 #!/usr/bin/env bash
 # Runs each example through the program, and compares what it writes and the status that it ends with.
-# The one word, if any, is another program to run in place of txn_program; or it is --unproved, and the
-# examples run through the sources as they are, which are compiled once for each main.
+# The one word, if any, is another program to run in place of txn_program, whose words must all be
+# built; or it is --unproved, and the examples run through the sources as they are, which are compiled
+# once for each main.
 top=$(cd "$(dirname "$(readlink -f "$0")")/.." && pwd) || exit 1
 program=${1:-$top/txn_program}
+if [ $# -eq 0 ]; then
+  for word in run listen; do
+    "$program" --which "$word" >/dev/null || exit 1
+  done
+fi
 failed=0
 count=0
 
@@ -29,6 +35,7 @@ compare() {
 run_unproved() {
   local main=$1 which=$2 folder words example name line
   folder=$(mktemp -d) || exit 1
+  trap 'rm -rf "$folder"' EXIT
   for words in "$top"/examples/*.words; do
     example=${words%.words}
     name=${example##*/}
@@ -39,6 +46,7 @@ run_unproved() {
     text_of "$example.report" "" | head -n -1 >"$folder/$name.stdout"
   done
   (cd "$top/crates/$main" && rt try --seconds 600 --cases "$folder") </dev/null >"$folder/.told" 2>&1
+  grep -q '^case=' "$folder/.told" || tail -n 20 "$folder/.told"
   for words in "$folder"/*.args; do
     name=${words##*/}
     name=${name%.args}

@@ -15,19 +15,20 @@ use amqp_below_streams::{ByteSink, ByteSource};
 use amqp_txn_types::{Items, Text};
 use std::alloc::{Alloc, Global};
 use std::io;
+use std::mem::ManuallyDrop;
 use std::process::ExitCode;
 use txn_program_edges::{StdSink, StdSource};
 use txn_program_process::{Fault, arguments};
-use txn_program_runs::{Layer, end_over};
+use txn_program_runs::{Layer, Ran, end_over};
 
-/// Serves the arguments over a layer that takes everything, and returns the status that the process
-/// ends with.
+/// Serves the arguments over a layer that takes everything, and returns the run: the process ends
+/// with its status.
 fn end_of<I: ByteSource, O: ByteSink>(
     alloc: Global,
     arguments: Result<Items<Text>, Fault>,
     input: &mut I,
     output: &mut O,
-) -> u8
+) -> Ran<OpenSession>
     ensures { EndsOverNew ⟦<Recorder<OpenSession> as Tells>⟧.told (λ _. Unit {0}) layers.Open
         arguments (source_of I.rest I.faults input.old) (source_of I.rest I.faults input.new)
         (sink_of O.written O.faults O.spare output.old)
@@ -40,5 +41,8 @@ fn end_of<I: ByteSource, O: ByteSink>(
 fn main(rt: HostRuntime) -> ExitCode {
     let mut input = StdSource::new(rt.reader());
     let mut output = StdSink::new(io::writer(&rt));
-    ExitCode::from(end_of(rt.alloc(), arguments(&rt), &mut input, &mut output))
+    let ran = end_of(rt.alloc(), arguments(&rt), &mut input, &mut output);
+    // The run isn't taken apart: the process gives all its memory back at once.
+    let ran = ManuallyDrop::new(ran);
+    ExitCode::from(ran.status)
 }

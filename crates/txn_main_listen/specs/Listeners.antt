@@ -8,7 +8,7 @@ use Rattle.amqp_accept_links.specs.Receivers.{IsDefaultReceiver}
 use Rattle.amqp_accept_links.specs.Senders.{IsDefaultSender}
 use Rattle.amqp_accept_at_once.specs.AtOnce.{Acceptor, acceptor_of, listener_of, own_of as accepting_own}
 use Rattle.amqp_accept_at_once.specs.declared.accepting.AcceptingListener.{AcceptingListener}
-use Rattle.amqp_accept_listener.specs.Listening.{control_of, held_of, inner_of as session_of, own_of, queue_of}
+use Rattle.amqp_accept_listener.specs.Listening.{control_of, held_of, inner_of, own_of, queue_of}
 use Rattle.amqp_accept_listener.specs.declared.listener.ListenerSession.{ListenerSession}
 use Rattle.amqp_engine_builder.specs.Builders.{IsNew, begin_built, default_builder}
 
@@ -21,7 +21,7 @@ pub record IsDefaultAcceptor (acceptor : Acceptor) : Type 0 where
 -- a Mapped session of the default builder that is listened on, with the default acceptor for
 -- control links, of which nothing has come
 pub record IsNewSession (listener : ListenerSession PlainSession) : Type 0 where
-  pub session : IsNew (session_of listener) (record { 0 = 0 }) states.Mapped
+  pub session : IsNew (inner_of listener) (record { 0 = 0 }) states.Mapped
       (begin_built default_builder)
   pub shared : (control_of listener).shared ≡ default_shared
   pub receiver : IsDefaultReceiver (control_of listener).receiver

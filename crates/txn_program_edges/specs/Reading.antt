@@ -3,8 +3,8 @@ use Rattle.std.specs.Prelude.{ℕ, ◌≡◌, ◌≤◌, ◌<◌, ◌+◌, ◌++
 use Rattle.amqp_below_streams.specs.Streams.{SourceTold}
 use Rattle.amqp_txn_types.specs.Counts.{Rose}
 use Rattle.txn_program_edges.specs.declared.std_streams.StdSource.{StdSource}
-use Rattle.txn_program_edges.specs.declared.reading.Reading.{Reading}
-use Rattle.txn_program_edges.specs.declared.reading.Reading.TheVariants as readings
+use Rattle.txn_program_edges.specs.declared.input.Reading.{Reading}
+use Rattle.txn_program_edges.specs.declared.input.Reading.TheVariants as readings
 
 -- what a source tells, by its two members
 abbrev pub source_of : {I : Type 0} → (I → Option (List ℕ)) → (I → ℕ) → I → SourceTold

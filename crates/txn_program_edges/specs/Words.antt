@@ -19,7 +19,7 @@ each kind (word ∷ words) = do
 
 -- 1 to 64 of them
 abbrev pub some_few : {A : Type 0} → List A → Option (List A)
-some_few xs = if nat_le 1 (length xs) && nat_le (length xs) 64 then Some xs else None
+some_few items = if nat_le 1 (length items) && nat_le (length items) 64 then Some items else None
 
 -- ID: 32 hexadecimal digits
 abbrev pub id_of : List ℕ → Option TransactionId
@@ -28,7 +28,7 @@ id_of word = octets_of word >>= between 16 16
 -- a number other than 0
 abbrev pub from_one : Option ℕ → Option ℕ
 from_one None = None
-from_one (Some n) = if n == 0 then None else Some n
+from_one (Some number) = if number == 0 then None else Some number
 
 -- a number from 1 up to a limit
 abbrev pub count_of : ℕ → List ℕ → Option ℕ
@@ -40,7 +40,7 @@ call_of word = count_of 18446744073709551615 word
 
 -- LIST: 1 to 64 numbers, parted by commas
 abbrev pub call_list_of : List ℕ → Option (List ℕ)
-call_list_of word = each call_of (slice_split (λ b. b == 44) word) >>= some_few
+call_list_of word = each call_of (slice_split (λ octet. octet == 44) word) >>= some_few
 
 -- ID ID ..
 abbrev pub id_list_of : List (List ℕ) → Option (List TransactionId)

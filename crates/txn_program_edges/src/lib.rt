@@ -23,15 +23,15 @@
 //! whole text, a front of it where the sink failed, or nothing where memory ran out.
 #![tactic(auto)]
 
-mod reading;
+mod input;
+mod output;
 pub mod status;
 mod std_streams;
 mod unserved;
 mod words;
-mod writing;
 
-pub use reading::{Reading, read_up_to};
+pub use input::{Reading, read_up_to};
+pub use output::{write_all, write_and_end};
 pub use std_streams::{StdSink, StdSource};
 pub use unserved::{Unserved, end_unserved};
 pub use words::{Ids, TransactionIds, call_list_of, count_of, id_list_of, id_of, id_words};
-pub use writing::{write_all, write_and_end};

@@ -41,7 +41,7 @@ impl<R: Read> ByteSource for StdSource<R> {
 
     ghost rest = { λ _. None };
 
-    ghost faults = { λ s. s.faults };
+    ghost faults = { λ source. source.faults };
 
     fn read(&mut self, buf: &mut [u8]) -> Result<usize, Failed>
         ensures told { Reads None None (source_faults_of self.old) (source_faults_of self.new)
@@ -110,9 +110,9 @@ impl<W: Write> ByteSink for StdSink<W> {
 
     ghost written = { λ _. None };
 
-    ghost faults = { λ s. s.faults };
+    ghost faults = { λ sink. sink.faults };
 
-    ghost spare = { λ s. s.spare };
+    ghost spare = { λ sink. sink.spare };
 
     fn reserve(&mut self, more: usize) -> Result<(), NoMemory>
         ensures told { Reserves None None (sink_faults_of self.old) (sink_faults_of self.new)

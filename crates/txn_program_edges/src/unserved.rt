@@ -4,8 +4,8 @@ ghost use Rattle.std.specs.Prelude.{◌≡◌, IfOk, string_bytes};
 ghost use Rattle.txn_program_edges.specs.Unserved.{line_text, unserved_status, unserved_text};
 ghost use Rattle.txn_program_edges.specs.Writing.{EndsWith, Wrote};
 
+use crate::output::write_and_end;
 use crate::status;
-use crate::writing::write_and_end;
 use amqp_below_streams::ByteSink;
 use amqp_txn_types::NoMemory;
 use std::alloc::Global;

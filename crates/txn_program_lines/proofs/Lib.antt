@@ -1,5 +1,5 @@
 pub mod Feeds
 pub mod Names
 pub mod Numbers
-pub mod Pieces
+pub mod PieceLemmas
 pub mod Spelling

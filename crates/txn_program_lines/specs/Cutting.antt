@@ -6,7 +6,7 @@ use Rattle.std.specs.List.{slice_split}
 -- the pieces of octets that are left, none where nothing is left
 abbrev pub pieces_left : ℕ → Option (Bor (List ℕ)) → List (List ℕ)
 pieces_left separator None = []
-pieces_left separator (Some octets) = slice_split (λ b. b == separator) octets.now
+pieces_left separator (Some octets) = slice_split (λ octet. octet == separator) octets.now
 
 -- pieces without a last one that is empty
 abbrev pub without_last_empty : List (List ℕ) → List (List ℕ)
@@ -16,8 +16,8 @@ without_last_empty (piece ∷ pieces) = piece ∷ without_last_empty pieces
 
 -- the lines: each ends at a line feed, and a last one without it isn't empty
 abbrev pub lines_of : List ℕ → List (List ℕ)
-lines_of octets = without_last_empty (slice_split (λ b. b == 10) octets)
+lines_of octets = without_last_empty (slice_split (λ octet. octet == 10) octets)
 
 -- the words of a line, parted by one space each
 abbrev pub words_of : List ℕ → List (List ℕ)
-words_of line = slice_split (λ b. b == 32) line
+words_of line = slice_split (λ octet. octet == 32) line

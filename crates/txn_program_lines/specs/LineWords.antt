@@ -13,14 +13,14 @@ use Rattle.amqp_txn_types.specs.declared.delivery.Outcome.TheVariants as outcome
 -- what is read goes on to the next reading; where there is nothing, nothing comes after it
 infixl 10 ◌>>=◌
 abbrev pub ◌>>=◌ : {A B : Type 0} → Option A → (A → Option B) → Option B
-(Some x) >>= f = f x
-None >>= f = None
+(Some meaning) >>= next = next meaning
+None >>= next = None
 
 -- an octet of a name: a letter, a digit, `-`, `_` or `.`
 abbrev pub is_name_octet : ℕ → Bool
-is_name_octet b =
-    (nat_le 97 b && nat_le b 122) || (nat_le 65 b && nat_le b 90) || is_ascii_digit b
-    || b == 45 || b == 95 || b == 46
+is_name_octet octet =
+    (nat_le 97 octet && nat_le octet 122) || (nat_le 65 octet && nat_le octet 90)
+    || is_ascii_digit octet || octet == 45 || octet == 95 || octet == 46
 
 -- a name: 1 to 64 octets of names
 abbrev pub is_name : List ℕ → Bool
@@ -30,25 +30,27 @@ is_name word = nat_le 1 (length word) && nat_le (length word) 64 && list_all is_
 abbrev pub name_of : List ℕ → Option (List ℕ)
 name_of word = if is_name word then Some word else None
 
--- the number that more digits make of n
+-- the number that more digits make of what those before them made
 abbrev pub number_after : ℕ → List ℕ → Option ℕ
-number_after n [] = Some n
-number_after n (d ∷ ds) = if is_ascii_digit d then number_after (10 * n + (d - 48)) ds else None
+number_after number [] = Some number
+number_after number (digit ∷ digits) =
+    if is_ascii_digit digit then number_after (10 * number + (digit - 48)) digits else None
 
 -- a zero stands alone
 abbrev pub zero_alone : List ℕ → Option ℕ
 zero_alone [] = Some 0
-zero_alone (d ∷ ds) = None
+zero_alone (digit ∷ digits) = None
 
 -- a decimal number without leading zeros
 abbrev pub decimal_of : List ℕ → Option ℕ
 decimal_of [] = None
-decimal_of (d ∷ ds) = if d == 48 then zero_alone ds else number_after 0 (d ∷ ds)
+decimal_of (digit ∷ digits) =
+    if digit == 48 then zero_alone digits else number_after 0 (digit ∷ digits)
 
 -- a number up to a limit
 abbrev pub at_most : ℕ → Option ℕ → Option ℕ
 at_most limit None = None
-at_most limit (Some n) = if nat_le n limit then Some n else None
+at_most limit (Some number) = if nat_le number limit then Some number else None
 
 -- H, N and FIRST
 abbrev pub u32_of : List ℕ → Option ℕ
@@ -92,7 +94,7 @@ outcome_of word =
 -- something, where a word means it
 abbrev pub some_of : {A : Type 0} → Option A → Option (Option A)
 some_of None = None
-some_of (Some x) = Some (Some x)
+some_of (Some meaning) = Some (Some meaning)
 
 -- a word of a kind, or `-` for none: ID, LAST, SET and OUT
 abbrev pub optional : {A : Type 0} → (List ℕ → Option A) → List ℕ → Option (Option A)
@@ -114,7 +116,7 @@ txn_id_of word = octets_of word >>= between 1 32
 -- at least one octet
 abbrev pub some_octets : List ℕ → Option (List ℕ)
 some_octets [] = None
-some_octets (b ∷ bs) = Some (b ∷ bs)
+some_octets (octet ∷ octets) = Some (octet ∷ octets)
 
 -- PAYLOAD
 abbrev pub payload_of : List ℕ → Option (List ℕ)

@@ -123,12 +123,12 @@ flow_of (Some link) = record {
 -- the four octets of a delivery's number, as its tag
 abbrev pub tag_of : Option ℕ → Option (List ℕ)
 tag_of None = None
-tag_of (Some n) = Some (to_be_bytes w32 n)
+tag_of (Some number) = Some (to_be_bytes w32 number)
 
 -- a delivery that has a number has a message format
 abbrev pub format_of : Option ℕ → Option ℕ
 format_of None = None
-format_of (Some n) = Some 0
+format_of (Some number) = Some 0
 
 -- a transfer of that delivery
 abbrev pub transfer_of : Delivery → Option DeliveryState → Transfer

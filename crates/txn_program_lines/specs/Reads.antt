@@ -14,7 +14,7 @@ words_left octets = pieces_left 32 octets
 
 -- what was read, seen by view, is what stands there, unless memory ran out
 abbrev pub Reads : {X Y : Type 0} → (X → Y) → Result X Unread → Option Y → Type 0
-Reads view (Ok x) read = read ≡ Some (view x)
+Reads view (Ok found) read = read ≡ Some (view found)
 Reads view (Err unread.OutsideTable) read = read ≡ None
 Reads view (Err unread.NoMemory) read = Unit {0}
 

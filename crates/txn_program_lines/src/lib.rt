@@ -19,15 +19,14 @@
 //! that this crate carries: octets spell exactly the steps that the table of lines says, a line each.
 #![tactic(auto)]
 
-mod cutting;
 mod frame_lines;
 mod line_words;
 mod numbered_lines;
+mod pieces;
 mod spelled_steps;
 mod step_lines;
 mod unread;
 
-pub use cutting::{cut_at, cut_line};
 pub use frame_lines::{
     attach_line, attach_of, detach_line, disposition_line, disposition_of, flow_line, flow_of,
     frame_of_words, link_flow_line, link_line, post_line, retire_line, state_of, state_under,
@@ -39,6 +38,7 @@ pub use line_words::{
     payload_of, role_at, role_of, txn_id_of, u32_at, u32_of, u64_at, word_at,
 };
 pub use numbered_lines::{LineReader, SpellError, first_line, read_lines};
+pub use pieces::{cut_at, cut_line};
 pub use spelled_steps::spells;
 pub use step_lines::{control_line, link_end_line, step_of_line, step_of_words};
 pub use unread::Unread;

@@ -7,7 +7,7 @@ ghost use Rattle.txn_program_lines.specs.LineWords.{at_most, bool_of, decimal_of
 ghost use Rattle.txn_program_lines.specs.Lines.{deliveries_at, delivery_at, ended, next, word_at};
 ghost use Rattle.txn_program_lines.specs.Reads.{Reads, words_left};
 
-use crate::cutting::cut_at;
+use crate::pieces::cut_at;
 use crate::unread::Unread;
 use amqp_txn_types::{Modified, Outcome, Payload, Rejected, Role, TransactionId};
 use hex::FromHexError;

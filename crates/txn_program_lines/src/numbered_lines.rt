@@ -5,7 +5,7 @@ ghost use Rattle.txn_program_lines.specs.Cutting.{lines_of};
 ghost use Rattle.txn_program_lines.specs.Numbered.{lines_after};
 ghost use Rattle.txn_program_lines.specs.Reads.{ReadsLines};
 
-use crate::cutting::cut_line;
+use crate::pieces::cut_line;
 use crate::unread::Unread;
 use std::alloc::Global;
 use thiserror::Error as ThisError;
@@ -14,7 +14,7 @@ use thiserror::Error as ThisError;
 #[derive(Clone, Copy, Debug, PartialEq, Eq, ThisError)]
 pub enum SpellError {
     /// The line of that number, counted from 1, is the first that is outside the table.
-    #[error("not a step: line {0}")]
+    #[error("line {0} is outside the table")]
     Line(usize),
     /// An allocation failed.
     #[error("out of memory")]
@@ -40,8 +40,9 @@ pub trait LineReader {
 /// # Errors
 ///
 /// - `Line` exactly where a line is outside the reader's table: the number of the first such line.
-///   The reader has read the lines before it.
 /// - `NoMemory` where memory runs out.
+///
+/// What the reader holds after an error isn't promised.
 pub fn read_lines<L: LineReader>(
     alloc: Global,
     octets: &[u8],

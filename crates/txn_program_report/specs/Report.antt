@@ -38,7 +38,7 @@ spaced (word ∷ words) = 32 ∷ (word ++ spaced words)
 -- a number, or `-` for none
 abbrev pub number_word : Option ℕ → List ℕ
 number_word None = codes "-"
-number_word (Some n) = decimal n
+number_word (Some number) = decimal number
 
 -- a handle, or `-` for none
 abbrev pub handle_word : Option Handle → List ℕ
@@ -63,7 +63,7 @@ role_word roles.Receiver = codes "receiver"
 -- octets in hexadecimal digits, or `-` for none
 abbrev pub payload_word : List ℕ → List ℕ
 payload_word [] = codes "-"
-payload_word (b ∷ bs) = encode_lower (b ∷ bs)
+payload_word (octet ∷ octets) = encode_lower (octet ∷ octets)
 
 -- an outcome
 abbrev pub outcome_word : Outcome → List ℕ
@@ -86,8 +86,9 @@ state_word (states.Rejected rejected) = codes "rejected"
 state_word states.Released = codes "released"
 state_word (states.Modified modified) = codes "modified"
 state_word (states.Declared declared) = codes "declared:" ++ encode_lower declared.txn_id
-state_word (states.TransactionalState t) =
-    codes "txn:" ++ (encode_lower t.txn_id ++ (codes ":" ++ optional_outcome_word t.outcome))
+state_word (states.TransactionalState under) =
+    codes "txn:"
+    ++ (encode_lower under.txn_id ++ (codes ":" ++ optional_outcome_word under.outcome))
 
 -- a delivery state, or `-` for none
 abbrev pub optional_state_word : Option DeliveryState → List ℕ
@@ -96,23 +97,27 @@ optional_state_word (Some state) = state_word state
 
 -- the words of a disposition
 abbrev pub disposition_words : Disposition → List ℕ
-disposition_words d =
-    spaced (role_word d.role ∷ decimal d.first ∷ number_word d.last ∷ bool_word d.settled
-    ∷ optional_state_word d.state ∷ [])
+disposition_words disposition =
+    spaced (role_word disposition.role ∷ decimal disposition.first
+    ∷ number_word disposition.last ∷ bool_word disposition.settled
+    ∷ optional_state_word disposition.state ∷ [])
 
 -- a frame: its name, and a word for each of its fields that is shown
 unfoldable pub frame_text : Frame → List ℕ
-frame_text (frames.Attach a) =
-    codes "attach" ++ spaced (a.name ∷ decimal a.handle.0 ∷ role_word a.role ∷ [])
-frame_text (frames.Flow f) =
-    codes "flow" ++ spaced (handle_word f.handle ∷ number_word f.link_credit ∷ [])
-frame_text (frames.Transfer t payload) =
+frame_text (frames.Attach attach) =
+    codes "attach"
+    ++ spaced (attach.name ∷ decimal attach.handle.0 ∷ role_word attach.role ∷ [])
+frame_text (frames.Flow flow) =
+    codes "flow" ++ spaced (handle_word flow.handle ∷ number_word flow.link_credit ∷ [])
+frame_text (frames.Transfer transfer payload) =
     codes "transfer"
-    ++ spaced (decimal t.handle.0 ∷ number_word t.delivery_id ∷ settled_word t.settled
-    ∷ optional_state_word t.state ∷ payload_word payload ∷ [])
-frame_text (frames.Disposition d) = codes "disposition" ++ disposition_words d
-frame_text (frames.Detach d) =
-    codes "detach" ++ spaced (decimal d.handle.0 ∷ bool_word d.closed ∷ [])
+    ++ spaced (decimal transfer.handle.0 ∷ number_word transfer.delivery_id
+    ∷ settled_word transfer.settled ∷ optional_state_word transfer.state
+    ∷ payload_word payload ∷ [])
+frame_text (frames.Disposition disposition) =
+    codes "disposition" ++ disposition_words disposition
+frame_text (frames.Detach detach) =
+    codes "detach" ++ spaced (decimal detach.handle.0 ∷ bool_word detach.closed ∷ [])
 
 -- a condition of a transaction
 abbrev pub error_word : TransactionError → List ℕ

@@ -3,7 +3,7 @@ use Rattle.std.proofs.Common.{◌≡◌, ℕ, ◌⊎◌, inl, inr, Option, Some,
 use Rattle.amqp_below_layer.specs.Told.{Told}
 use Rattle.amqp_below_recorder.specs.declared.recorder.Recorder.{Recorder}
 use Rattle.amqp_below_streams.specs.Streams.{SinkTold, SourceTold}
-use Rattle.txn_program_edges.specs.declared.reading.Reading.TheVariants as readings
+use Rattle.txn_program_edges.specs.declared.input.Reading.TheVariants as readings
 use Rattle.txn_program_edges.proofs.Streaming.{wrote_nothing}
 use Rattle.txn_program_runs.specs.Completing.{Completes}
 use Rattle.txn_program_runs.specs.Running.{ReadFor}

@@ -9,8 +9,8 @@ use Rattle.amqp_resource_session.specs.Drive.{NextStep}
 use Rattle.amqp_resource_session.specs.Steps.{UnderDead, ended_by}
 use Rattle.amqp_resource_held.specs.Views.{view_of_record}
 use Rattle.txn_program_lines.specs.Lines.{input_steps}
-use Rattle.txn_program_edges.specs.declared.reading.Reading.{Reading}
-use Rattle.txn_program_edges.specs.declared.reading.Reading.TheVariants as readings
+use Rattle.txn_program_edges.specs.declared.input.Reading.{Reading}
+use Rattle.txn_program_edges.specs.declared.input.Reading.TheVariants as readings
 use Rattle.txn_program_runs.specs.declared.run_words.RunCommand.{RunCommand}
 use Rattle.txn_program_runs.specs.declared.run_words.RunCommand.TheVariants as commands
 
@@ -20,7 +20,7 @@ NoneRose before now = Rose before now → ⊥
 
 -- after the record, the step is an end, or a frame under an id that isn't live
 abbrev pub StopsRun : List Entry → Step → Type 0
-StopsRun r s = UnderDead (view_of_record r) s ⊎ IsSome (ended_by s)
+StopsRun entries step = UnderDead (view_of_record entries) step ⊎ IsSome (ended_by step)
 
 -- every step has its entry
 abbrev pub EveryStep : List Step → Driven → ℕ → Type 0

@@ -92,7 +92,8 @@ step_ends_by rollback step reply = false
 
 -- how many accepted discharges were rollbacks, or else commits
 abbrev pub ends_count : Bool → List Entry → ℕ
-ends_count rollback entries = count_by (λ (e : Entry). step_ends_by rollback e.step e.reply) entries
+ends_count rollback entries =
+    count_by (λ (entry : Entry). step_ends_by rollback entry.step entry.reply) entries
 
 -- the text, a line each: how many entries there are, accepted commits and rollbacks among them, and
 -- frames that were taken

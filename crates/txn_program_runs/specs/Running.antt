@@ -22,8 +22,8 @@ use Rattle.txn_program_lines.specs.Lines.{input_steps}
 use Rattle.txn_program_runs.specs.Made.{made, made_text}
 use Rattle.txn_program_edges.specs.Reading.{Finds}
 use Rattle.txn_program_runs.specs.declared.step_runs.TheConstants.{INPUT_LIMIT}
-use Rattle.txn_program_edges.specs.declared.reading.Reading.{Reading}
-use Rattle.txn_program_edges.specs.declared.reading.Reading.TheVariants as readings
+use Rattle.txn_program_edges.specs.declared.input.Reading.{Reading}
+use Rattle.txn_program_edges.specs.declared.input.Reading.TheVariants as readings
 use Rattle.txn_program_report.specs.Report.{report_text}
 use Rattle.txn_program_runs.specs.declared.step_runs.Written.{Written}
 use Rattle.txn_program_runs.specs.declared.step_runs.Written.TheVariants as kinds
@@ -178,15 +178,15 @@ pub record IsRun (ids : ℕ → TransactionId) (steps : List Step)
 
 -- the input was read whole and each of its lines is a step, and of these steps the fact holds
 abbrev pub IsSpelledBy : Reading → (List Step → Type 0) → Type 0
-IsSpelledBy readings.Fault P = ⊥
-IsSpelledBy readings.TooLong P = ⊥
-IsSpelledBy (readings.Whole octets) P = IsOkAnd (input_steps octets) P
+IsSpelledBy readings.Fault Fact = ⊥
+IsSpelledBy readings.TooLong Fact = ⊥
+IsSpelledBy (readings.Whole octets) Fact = IsOkAnd (input_steps octets) Fact
 
 -- the steps that the words ask for, with the ids that declares draw: a run of the input, of which
 -- every line is a step, with the ids of the words, or a made run with the numbers from 1
 abbrev pub IsRunOf :
     Option RunCommand → Reading → ((ℕ → TransactionId) → List Step → Type 0) → Type 0
-IsRunOf None reading P = ⊥
-IsRunOf (Some (commands.Run layer plans ids)) reading P =
-    IsSpelledBy reading (P (stream_of_ids ids))
-IsRunOf (Some (commands.Make count)) reading P = P (ids_from 1) (made count)
+IsRunOf None reading Fact = ⊥
+IsRunOf (Some (commands.Run layer plans ids)) reading Fact =
+    IsSpelledBy reading (Fact (stream_of_ids ids))
+IsRunOf (Some (commands.Make count)) reading Fact = Fact (ids_from 1) (made count)

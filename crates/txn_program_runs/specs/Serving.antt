@@ -14,7 +14,7 @@ use Rattle.txn_program_runs.specs.declared.step_runs.TheConstants.{INPUT_LIMIT}
 use Rattle.txn_program_runs.specs.Running.{IsRun, IsRunOf, IsSpelledBy, PlansLeft, ReadFor, Untouched, driven_status, input_status, input_text, run_text, spelled_status, spelled_text, status_of, summary_text, written_text}
 use Rattle.txn_program_runs.specs.Completing.{Completes, InputEnds, MadeEnds, NoneRose, RunEnds, SpelledEnds}
 use Rattle.txn_program_edges.specs.Writing.{EndsWith, Wrote}
-use Rattle.txn_program_edges.specs.declared.reading.Reading.{Reading}
+use Rattle.txn_program_edges.specs.declared.input.Reading.{Reading}
 use Rattle.txn_program_runs.specs.declared.step_runs.Ran.{Ran}
 use Rattle.txn_program_runs.specs.declared.step_runs.Written.{Written}
 use Rattle.txn_program_runs.specs.declared.run_words.RunCommand.{RunCommand}
@@ -70,21 +70,21 @@ DrivesNothing output written told below status text ran =
 abbrev pub RunsSteps : {S : Type 0} → SinkTold → SinkTold → (Recorder S → Told) → Recorder S
     → (ℕ → TransactionId) → List Step → Written → Ran S → Type 0
 RunsSteps output written told below ids steps what ran =
-    RunsAsPlanned output written told below driven_status (λ P. P ids steps) (RunEnds steps)
+    RunsAsPlanned output written told below driven_status (λ Fact. Fact ids steps) (RunEnds steps)
     (run_text what) ran
 
 -- a run of that many made transactions
 abbrev pub RunsMade : {S : Type 0} → SinkTold → SinkTold → (Recorder S → Told) → Recorder S
     → ℕ → Ran S → Type 0
 RunsMade output written told below count ran =
-    RunsAsPlanned output written told below driven_status (λ P. P (ids_from 1) (made count))
+    RunsAsPlanned output written told below driven_status (λ Fact. Fact (ids_from 1) (made count))
     (λ driven status. MadeEnds status) summary_text ran
 
 -- a run of what the octets of an input spell
 abbrev pub RunsSpelled : {S : Type 0} → SinkTold → SinkTold → (Recorder S → Told) → Recorder S
     → (ℕ → TransactionId) → Result (List Step) ℕ → Ran S → Type 0
 RunsSpelled output written told below ids spelled ran =
-    RunsAsPlanned output written told below (spelled_status spelled) (λ P. IsOkAnd spelled (P ids))
+    RunsAsPlanned output written told below (spelled_status spelled) (λ Fact. IsOkAnd spelled (Fact ids))
     (SpelledEnds spelled) (spelled_text spelled) ran
 
 -- a run of what the reading of the input found
@@ -92,7 +92,7 @@ abbrev pub RunsReading : {S : Type 0} → SinkTold → SinkTold → (Recorder S 
     → (ℕ → TransactionId) → Reading → Ran S → Type 0
 RunsReading output written told below ids reading ran =
     RunsAsPlanned output written told below (input_status reading)
-    (λ P. IsSpelledBy reading (P ids)) (InputEnds reading) (input_text reading) ran
+    (λ Fact. IsSpelledBy reading (Fact ids)) (InputEnds reading) (input_text reading) ran
 
 -- a run of the input: what the reading of it found, and what was made of that
 pub record RunsInput {S : Type 0} (input left : SourceTold) (output written : SinkTold)

@@ -1,4 +1,4 @@
-//! A run of a process: what it ends with.
+//! The run of a process.
 
 ghost use Rattle.amqp_below_recorder.specs.Recording.{IsFresh, is_unused};
 ghost use Rattle.txn_program_edges.specs.Reading.{source_of};
@@ -7,30 +7,28 @@ ghost use Rattle.txn_program_runs.specs.Ends.{EndsOver};
 
 use crate::run_command::serve_over;
 use crate::run_words::Layer;
+use crate::step_runs::{Ran, end};
 use amqp_below_layer::{LayerBelow, Tells};
 use amqp_below_recorder::Recorder;
 use amqp_below_streams::{ByteSink, ByteSource};
 use amqp_txn_types::{Items, Text};
 use std::alloc::Global;
-use std::mem::ManuallyDrop;
 use txn_program_process::{Fault, end_at_fault};
 
-/// Does what the arguments of a process ask for of that layer, and returns the status that the
-/// process ends with. Where there are no arguments, the text of why is written.
-///
-/// The record of the run isn't taken apart: the process gives all its memory back at once.
+/// Does what the arguments of a process ask of that layer, and returns the run: the process ends
+/// with its status. Where there are no arguments, the text of why is written.
 ///
 /// # Requires
 ///
 /// The recorder is fresh, as [`Recorder::is_fresh`] tests.
-pub fn end_over<S: LayerBelow + Send + Drop, I: ByteSource, O: ByteSink>(
+pub fn end_over<S: LayerBelow + Send, I: ByteSource, O: ByteSink>(
     alloc: Global,
     arguments: Result<Items<Text>, Fault>,
     layer: Layer,
     below: Recorder<S>,
     input: &mut I,
     output: &mut O,
-) -> u8
+) -> Ran<S>
     requires { IsFresh (is_unused below) (⟦<Recorder<S> as Tells>⟧.told below) }
     ensures { EndsOver ⟦<Recorder<S> as Tells>⟧.told layer arguments below
         (source_of I.rest I.faults input.old) (source_of I.rest I.faults input.new)
@@ -40,13 +38,9 @@ pub fn end_over<S: LayerBelow + Send + Drop, I: ByteSource, O: ByteSink>(
     match arguments {
         Ok(arguments) => {
             let ran = serve_over(alloc, arguments.as_slice(), layer, below, input, output);
-            let ran = ManuallyDrop::new(ran);
             drop(arguments);
-            ran.status
+            ran
         }
-        Err(fault) => {
-            drop(below);
-            end_at_fault(fault, output)
-        }
+        Err(fault) => end(end_at_fault(fault, output), None, below),
     }
 }

@@ -52,7 +52,7 @@ pub enum Written {
 }
 
 /// Ends a call with that status.
-fn end<S: LayerBelow>(status: u8, driven: Option<Driven>, below: Recorder<S>) -> Ran<S>
+pub(crate) fn end<S: LayerBelow>(status: u8, driven: Option<Driven>, below: Recorder<S>) -> Ran<S>
     ensures { result
         ≡ record { status = status; driven = driven; entries = None; below = below } }
 {

@@ -17,7 +17,9 @@ fn ends_so(alloc: Global, arguments: Result<Items<Text>, Fault>, text: &str) -> 
     let below = Recorder::new(alloc, OpenSession::new(alloc));
     let mut source = SureSource::new(Binary::new(alloc));
     let mut sink = SureSink::new(alloc);
-    let status = end_over(alloc, arguments, Layer::Open, below, &mut source, &mut sink);
+    let ran = end_over(alloc, arguments, Layer::Open, below, &mut source, &mut sink);
+    let status = ran.status;
+    drop(ran);
     let written = sink.as_slice() == text.as_bytes();
     drop(source);
     drop(sink);

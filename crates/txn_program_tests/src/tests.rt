@@ -2,7 +2,7 @@
 
 mod changed_tests;
 mod long_run_tests;
-mod refusing_tests;
+mod refusal_tests;
 mod run_tests;
 mod stream_tests;
 mod worked_tests;
@@ -136,8 +136,8 @@ fn an_empty_run_has_a_report(rt: HostRuntime) -> Result<(), Fail> {
 }
 
 #[test]
-fn a_bad_line_is_told_as_the_program_tells_it(rt: HostRuntime) -> Result<(), Fail> {
+fn a_bad_line_is_told_by_its_number(rt: HostRuntime) -> Result<(), Fail> {
     let text = format!(in rt.alloc(); "{}", SpellError::Line(2))?;
-    assert_eq!(rt; text.as_str(), "not a step: line 2");
+    assert_eq!(rt; text.as_str(), "line 2 is outside the table");
     Ok(())
 }

@@ -1,5 +1,5 @@
 use Rattle.std.proofs.Common.{◌==◌}
-use Rattle.txn_program_lines.proofs.Pieces.{ended-slice_split}
+use Rattle.txn_program_lines.proofs.PieceLemmas.{ended-slice_split}
 use Rattle.txn_program_lines.proofs.line_words.end_at.Goals as goal
 
 pub returns-in-Some : goal.returns-in-Some

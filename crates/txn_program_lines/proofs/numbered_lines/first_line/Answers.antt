@@ -1,4 +1,4 @@
-use Rattle.txn_program_lines.proofs.Pieces.{lines_of-last, lines_of-more}
+use Rattle.txn_program_lines.proofs.PieceLemmas.{lines_of-last, lines_of-more}
 use Rattle.txn_program_lines.proofs.numbered_lines.first_line.Goals as goal
 
 pub returns-in-None-clause-lines : goal.returns-in-None-clause-lines

@@ -3,16 +3,15 @@ use Rattle.txn_program_runs.proofs.process_end.end_over.Goals as goal
 
 -- the run is that of the arguments
 pub returns-in-Ok : goal.returns-in-Ok
-returns-in-Ok g c = rw c.in-Ok.is (record {
-  ran = c.serve_over-ran.result;
-  serves = rw c.as_slice.ensures at c.serve_over-ran.ensures;
-  status_of_run = cc (c.deref.ensures, c.new-ran.ensures);
-})
+returns-in-Ok g c = rw c.in-Ok.is (rw c.as_slice.ensures at c.serve_over-ran.ensures)
 
 -- nothing was read
 pub returns-in-Err : goal.returns-in-Err
-returns-in-Err g c = rw c.in-Err.is (record {
+returns-in-Err g c = rw (c.in-Err.is, c.end.ensures) (record {
   read = refl;
-  status_of_fault = c.end_at_fault.ensures.status;
+  status = c.end_at_fault.ensures.status;
   text = c.end_at_fault.ensures.written;
+  driven = refl;
+  entries = refl;
+  kept = refl;
 })

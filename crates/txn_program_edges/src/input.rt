@@ -1,4 +1,4 @@
-//! The reading of a whole input.
+//! The octets of an input, up to a limit.
 
 ghost use Rattle.std.specs.Prelude.{◌≡◌, ◌≤◌, ◌<◌, length, take, IfOk, OnErr};
 ghost use Rattle.amqp_txn_types.specs.Counts.{Rose};

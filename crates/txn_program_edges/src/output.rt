@@ -1,4 +1,4 @@
-//! The writing of a whole text.
+//! The text of an output.
 
 ghost use Rattle.std.specs.Prelude.{◌≡◌, ◌≤◌, length, OnOk, OnErr};
 ghost use Rattle.amqp_txn_types.specs.Counts.{Rose};

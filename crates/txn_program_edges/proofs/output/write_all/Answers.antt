@@ -1,7 +1,7 @@
 use Rattle.std.proofs.Common.{◌+◌, subst, arith}
 use Rattle.amqp_below_streams.specs.Streams.{WriteGave}
 use Rattle.txn_program_edges.proofs.Streaming.{longer-front, longer_within, rest_fits, rest-rest}
-use Rattle.txn_program_edges.proofs.writing.write_all.Goals as goal
+use Rattle.txn_program_edges.proofs.output.write_all.Goals as goal
 
 -- what the write appended, where it was Ok
 pub loop-rest-preserved : goal.loop-rest-preserved

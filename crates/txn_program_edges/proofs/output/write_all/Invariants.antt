@@ -1,6 +1,6 @@
 use Rattle.std.proofs.Common.{◌≡◌, ◌≤◌, length, take, drop, ℕ}
 use Rattle.amqp_txn_types.specs.Growing.{grown}
-use Rattle.txn_program_edges.proofs.writing.write_all.Given as goal
+use Rattle.txn_program_edges.proofs.output.write_all.Given as goal
 
 -- a front of the text was written, and the rest of it is left, for which there is room
 abbrev pub invariant-loop-rest : goal.invariant-loop-rest

@@ -1,6 +1,6 @@
 use Rattle.std.proofs.Common.{sym, ◌==◌}
-use Rattle.txn_program_lines.proofs.Pieces.{slice_split-cut, slice_split-whole}
-use Rattle.txn_program_lines.proofs.cutting.cut_line.Goals as goal
+use Rattle.txn_program_lines.proofs.PieceLemmas.{slice_split-cut, slice_split-whole}
+use Rattle.txn_program_lines.proofs.pieces.cut_line.Goals as goal
 
 pub returns-in-None-clause-pieces : goal.returns-in-None-clause-pieces
 returns-in-None-clause-pieces c = slice_split-whole (λ b. b == 10) c.args.octets.now (sym c.in-None.ensures.place)

@@ -1,4 +1,4 @@
-//! Cutting octets into pieces.
+//! The pieces of octets that are cut at a separator.
 
 ghost use Rattle.std.specs.Prelude.{◌≡◌, ◌==◌, ◌<◌, ◌∷◌, length, position, IfSome, IfNone};
 ghost use Rattle.std.specs.List.{slice_split};
@@ -9,7 +9,7 @@ use memchr::memchr;
 /// The first piece of octets that are cut at each separator, and what follows that separator;
 /// `None` where it is the last piece.
 pub fn cut_at(octets: &[u8], separator: u8) -> (&[u8], Option<&[u8]>)
-    ensures pieces { slice_split (λ b. b == separator) octets.now
+    ensures pieces { slice_split (λ octet. octet == separator) octets.now
         ≡ result.0.now ∷ pieces_left separator result.1 }
     ensures last { IfNone result.1 (result.0.now ≡ octets.now) }
     ensures shorter { IfSome result.1 (λ rest. length rest.now < length octets.now) }
@@ -25,7 +25,7 @@ pub fn cut_at(octets: &[u8], separator: u8) -> (&[u8], Option<&[u8]>)
 
 /// The place of the first separator.
 fn place_of(octets: &[u8], separator: u8) -> Option<usize>
-    ensures place { result ≡ position (λ b. b == separator) octets.now }
+    ensures place { result ≡ position (λ octet. octet == separator) octets.now }
     ensures within { IfSome result (λ place. place < length octets.now) }
 {
     octets.iter().position(|octet| *octet == separator)
@@ -34,7 +34,7 @@ fn place_of(octets: &[u8], separator: u8) -> Option<usize>
 /// The first piece of octets that are cut at each line feed, as by [`cut_at`]. A line feed is
 /// looked for in many octets at a time.
 pub fn cut_line(octets: &[u8]) -> (&[u8], Option<&[u8]>)
-    ensures pieces { slice_split (λ b. b == 10) octets.now
+    ensures pieces { slice_split (λ octet. octet == 10) octets.now
         ≡ result.0.now ∷ pieces_left 10 result.1 }
     ensures last { IfNone result.1 (result.0.now ≡ octets.now) }
     ensures shorter { IfSome result.1 (λ rest. length rest.now < length octets.now) }
@@ -50,7 +50,7 @@ pub fn cut_line(octets: &[u8]) -> (&[u8], Option<&[u8]>)
 
 /// The place of the first line feed.
 fn feed_of(octets: &[u8]) -> Option<usize>
-    ensures place { result ≡ position (λ b. b == 10) octets.now }
+    ensures place { result ≡ position (λ octet. octet == 10) octets.now }
     ensures within { IfSome result (λ place. place < length octets.now) }
 {
     memchr(b'\n', octets)

@@ -1,6 +1,6 @@
 use Rattle.std.proofs.Common.{◌≤◌, ◌+◌, ◌-◌, length}
 use Rattle.txn_program_edges.specs.Reading.{IsRead}
-use Rattle.txn_program_edges.proofs.reading.read_up_to.Given as goal
+use Rattle.txn_program_edges.proofs.input.read_up_to.Given as goal
 
 -- what was read, where it is told, is what stands in the list
 abbrev pub invariant-loop-chunk : goal.invariant-loop-chunk

@@ -1,7 +1,7 @@
 use Rattle.std.proofs.Common.{ℕ, Option, List, sym, ◌∙◌, ap, length, take}
 use Rattle.amqp_txn_types.specs.Growing.{grown}
 use Rattle.txn_program_edges.proofs.Streaming.{text_by-whole}
-use Rattle.txn_program_edges.proofs.writing.write_and_end.Goals as goal
+use Rattle.txn_program_edges.proofs.output.write_and_end.Goals as goal
 
 -- the whole text was written
 pub returns-in-Ok-clause-written : goal.returns-in-Ok-clause-written
