@@ -13,14 +13,14 @@ use Rattle.amqp_below_layer.specs.Told.{Told, refusal_of}
 use Rattle.amqp_txn_types.specs.Growing.{grown}
 use Rattle.amqp_txn_types.specs.Counts.{Rose}
 use Rattle.amqp_below_layer.specs.Windows.{WindowFits}
-use Rattle.amqp_below_layer.specs.declared.taking.TakeError.{TakeError}
+use Rattle.amqp_below_layer.specs.declared.take.TakeError.{TakeError}
 
 -- these frames were taken, whatever was given back for them
 abbrev pub TookFrames : Option (List (Frame × List Frame)) → Option (List (Frame × List Frame))
     → List Frame → Type 0
-TookFrames before now handed =
+TookFrames old new handed =
     (given : List (List Frame)) × (length given ≡ length handed)
-    × (now ≡ grown before (zip handed given))
+    × (new ≡ grown old (zip handed given))
 
 -- the frame, where it was taken
 abbrev pub taken_frames : Bool → Frame → List Frame
@@ -30,15 +30,15 @@ taken_frames false frame = []
 -- what was taken, by the answer
 abbrev pub TookAnswer : Option (List (Frame × List Frame)) → Option (List (Frame × List Frame))
     → Frame → Result Answers TakeError → Type 0
-TookAnswer before now frame (Ok a) =
-    (now ≡ grown before ((frame, a.given) ∷ [])) × WindowFits frame a
-TookAnswer before now frame (Err e) = TookFrames before now (taken_frames e.taken frame)
+TookAnswer old new frame (Ok answers) =
+    (new ≡ grown old ((frame, answers.given) ∷ [])) × WindowFits frame answers
+TookAnswer old new frame (Err refused) = TookFrames old new (taken_frames refused.taken frame)
 
 -- what was refused, by the answer: a frame that was taken has an answer of its own refused, which
 -- no list shows
 abbrev pub refused_frame : Frame → Result Answers TakeError → List Refusal
-refused_frame frame (Ok a) = []
-refused_frame frame (Err e) = cond e.taken [] (refusal_of frame e.error)
+refused_frame frame (Ok answers) = []
+refused_frame frame (Err refused) = cond refused.taken [] (refusal_of frame refused.error)
 
 -- one frame through the layer below
 pub record TakesFrame (old new : Told) (frame : Frame)
@@ -57,7 +57,8 @@ pub record TakesFrame (old new : Told) (frame : Frame)
 abbrev pub ChecksFrame : {S : Type 0}
     → (S → S → Disposition → Result Unit SessionInnerError → Type 0) → S → S → Frame
     → Result Unit SessionInnerError → Type 0
-ChecksFrame gives old new (frames.Disposition d) result = gives old new d result
+ChecksFrame gives old new (frames.Disposition disposition) result =
+    gives old new disposition result
 ChecksFrame gives old new other result = (result ≡ Ok tt) × (new ≡ old)
 
 -- each of these frames passed, in order
@@ -65,15 +66,15 @@ abbrev pub ChecksAll : {S : Type 0}
     → (S → S → Disposition → Result Unit SessionInnerError → Type 0) → S → List Frame → S → Type 0
 ChecksAll gives old [] new = new ≡ old
 ChecksAll {S} gives old (frame ∷ rest) new =
-    (m : S) × ChecksFrame gives old m frame (Ok tt) × ChecksAll gives m rest new
+    (between : S) × ChecksFrame gives old between frame (Ok tt) × ChecksAll gives between rest new
 
 -- one of these frames was refused; those before it passed
 abbrev pub ChecksTo : {S : Type 0} → (S → S → Disposition → Result Unit SessionInnerError → Type 0)
     → S → List Frame → SessionInnerError → S → Type 0
 ChecksTo {S} gives old given error new =
-    (before : List Frame) × (frame : Frame) × (after : List Frame) × (m : S)
-    × (given ≡ before ++ frame ∷ after) × ChecksAll gives old before m
-    × ChecksFrame gives m new frame (Err error)
+    (before : List Frame) × (frame : Frame) × (after : List Frame) × (between : S)
+    × (given ≡ before ++ frame ∷ after) × ChecksAll gives old before between
+    × ChecksFrame gives between new frame (Err error)
 
 -- the checks of the frames given back, by the answer
 abbrev pub ChecksGiven : {S : Type 0}
@@ -94,8 +95,9 @@ abbrev pub PassesThrough : {S : Type 0}
     → (S → S → Disposition → Result Unit SessionInnerError → Type 0)
     → (S → S → Option Flow → Type 0) → S → S → Frame → Answers → Type 0
 PassesThrough {S} incoming check window old new frame answers =
-    (m : S) × (k : S) × incoming old m frame (Ok answers.given) × ChecksAll check m answers.given k
-    × GivesWindow window (is_transfer frame) k new answers.window
+    (taken : S) × (checked : S) × incoming old taken frame (Ok answers.given)
+    × ChecksAll check taken answers.given checked
+    × GivesWindow window (is_transfer frame) checked new answers.window
 
 -- the frame was refused, or taken and then a disposition given back was refused
 abbrev pub RefusedThrough : {S : Type 0}
@@ -104,8 +106,8 @@ abbrev pub RefusedThrough : {S : Type 0}
     → SessionInnerError → Type 0
 RefusedThrough incoming check old new frame false error = incoming old new frame (Err error)
 RefusedThrough {S} incoming check old new frame true error =
-    (m : S) × (given : List Frame) × incoming old m frame (Ok given)
-    × ChecksTo check m given error new
+    (taken : S) × (given : List Frame) × incoming old taken frame (Ok given)
+    × ChecksTo check taken given error new
 
 -- one frame: the incoming call of its kind, the checks, the window, and nothing else
 abbrev pub TakesThrough : {S : Type 0}
@@ -114,5 +116,5 @@ abbrev pub TakesThrough : {S : Type 0}
     → (S → S → Option Flow → Type 0) → S → S → Frame → Result Answers TakeError → Type 0
 TakesThrough incoming check window old new frame (Ok answers) =
     PassesThrough incoming check window old new frame answers
-TakesThrough incoming check window old new frame (Err e) =
-    RefusedThrough incoming check old new frame e.taken e.error
+TakesThrough incoming check window old new frame (Err refused) =
+    RefusedThrough incoming check old new frame refused.taken refused.error

@@ -1,6 +1,6 @@
 use Rattle.std.proofs.Common.{rules, arith}
 use Rattle.amqp_below_layer.proofs.Checked.{checks-next, checks-refused}
-use Rattle.amqp_below_layer.proofs.taking.check_given.Goals as goal
+use Rattle.amqp_below_layer.proofs.take.check_given.Goals as goal
 
 -- a check refused: those before it passed
 pub returns-in_err-check_frame-clause-checks : goal.returns-in_err-check_frame-clause-checks

@@ -1,7 +1,7 @@
 use Rattle.amqp_below_layer.specs.Told.{Steady}
-use Rattle.amqp_below_layer.specs.Taking.{ChecksAll}
+use Rattle.amqp_below_layer.specs.OneFrame.{ChecksAll}
 use Rattle.std.proofs.Common.{take}
-use Rattle.amqp_below_layer.proofs.taking.check_given.Given as goal
+use Rattle.amqp_below_layer.proofs.take.check_given.Given as goal
 
 abbrev pub invariant-loop-frame : goal.invariant-loop-frame
 invariant-loop-frame g l =

@@ -1,7 +1,7 @@
 use Rattle.std.proofs.Common.{refl, sym, ◌∙◌, [], ◌∷◌, Ok, Err, arith}
 use Rattle.amqp_txn_types.proofs.Growing.{grown-nil}
 use Rattle.amqp_below_layer.proofs.Reviewed.{all-stay-on, one-wants, window-on}
-use Rattle.amqp_below_layer.proofs.taking.take_frame.Goals as goal
+use Rattle.amqp_below_layer.proofs.take.take_frame.Goals as goal
 
 -- the frame was taken, and a disposition that was given back for it was refused
 pub returns-in-Err-check_given-clause-told : goal.returns-in-Err-check_given-clause-told

@@ -4,7 +4,7 @@ ghost use Rattle.std.specs.Prelude.{◌≡◌, ◌≤◌, length, OnErr};
 ghost use Rattle.amqp_txn_types.specs.Frames.{is_transfer};
 ghost use Rattle.amqp_below_layer.specs.Told.{Checks};
 ghost use Rattle.amqp_below_layer.specs.Reviewing.{TakesOn};
-ghost use Rattle.amqp_below_layer.specs.Taking.{ChecksFrame, ChecksGiven, GivesWindow, TakesFrame, TakesThrough};
+ghost use Rattle.amqp_below_layer.specs.OneFrame.{ChecksFrame, ChecksGiven, GivesWindow, TakesFrame, TakesThrough};
 
 use crate::answers::Answers;
 use crate::incoming::on_incoming_frame;
