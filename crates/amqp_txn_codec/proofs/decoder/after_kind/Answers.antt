@@ -1,5 +1,5 @@
 use Rattle.amqp_txn_codec.proofs.Bodies.{kind-none, kind-declare, kind-discharge}
-use Rattle.amqp_txn_codec.proofs.decoding.after_kind.Goals as goal
+use Rattle.amqp_txn_codec.proofs.decoder.after_kind.Goals as goal
 
 pub returns-in-Some : goal.returns-in-Some
 returns-in-Some c = kind-declare _ _ c.in-Some.ensures

@@ -1,7 +1,7 @@
 use Rattle.std.proofs.Common.{ℕ, ◌+◌, List, arith, length-append, ap, subst, ◌∷◌, [], ◌++◌, length}
 use Rattle.amqp_txn_codec.specs.Canon.{with_id, IsWritten}
 use Rattle.amqp_txn_codec.proofs.Written.{appended}
-use Rattle.amqp_txn_codec.proofs.encoding.put_id.Goals as goal
+use Rattle.amqp_txn_codec.proofs.encoder.put_id.Goals as goal
 
 pub returns-clause-len : goal.returns-clause-len
 unfolding with_id

@@ -1,5 +1,5 @@
 use Rattle.amqp_txn_codec.specs.Sections.{body}
-use Rattle.amqp_txn_codec.proofs.decoding.after_amqp_value.Goals as goal
+use Rattle.amqp_txn_codec.proofs.decoder.after_amqp_value.Goals as goal
 
 pub returns : goal.returns
 unfolding body

@@ -15,10 +15,13 @@ use crate::section::{after_descriptor, after_leading, after_optional, after_pref
 /// list of a declare or of a discharge, and a footer or none.
 ///
 /// Parts 1 (encodings), 3 (section 3.2, message format) and 4 (section 4.5, coordination) of the
-/// standard. `NotControl` comes exactly where the octets spell no message. It takes no memory,
-/// and its stack is constant however deep values lie within values. It goes over the octets once,
-/// whatever they are: a section is walked only behind its own descriptor, and no two sections of
-/// the table share one.
+/// standard. It takes no memory, and its stack is constant however deep values lie within values.
+/// It goes over the octets once, whatever they are: a section is walked only behind its own
+/// descriptor, and no two sections of the table share one.
+///
+/// # Errors
+///
+/// `NotControl` exactly where the octets spell no message.
 pub fn decode(bytes: &[u8]) -> Result<ControlMessageBody, NotControl>
     // The message is the one that the octets spell by the grammar.
     ensures exact { (message : ControlMessageBody)

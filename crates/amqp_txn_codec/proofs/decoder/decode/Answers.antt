@@ -3,7 +3,7 @@ use Rattle.amqp_txn_codec.specs.declared.message.ControlMessageBody.{ControlMess
 use Rattle.amqp_txn_codec.specs.Messages.{SpellsMessage}
 use Rattle.amqp_txn_codec.proofs.Wholes.{walk-spells, spelled-walks, one_message}
 use Rattle.amqp_txn_codec.proofs.Readings.{spelled-read, none-read}
-use Rattle.amqp_txn_codec.proofs.decoding.decode.Goals as goal
+use Rattle.amqp_txn_codec.proofs.decoder.decode.Goals as goal
 
 pub returns-in-Some-clause-exact : goal.returns-in-Some-clause-exact
 returns-in-Some-clause-exact c = λ l.

@@ -1,5 +1,5 @@
 use Rattle.amqp_txn_codec.proofs.Bodies.{body-no_descriptor, body-no_list, body-no_kind, body-unlisted, body-found}
-use Rattle.amqp_txn_codec.proofs.decoding.after_body.Goals as goal
+use Rattle.amqp_txn_codec.proofs.decoder.after_body.Goals as goal
 
 pub returns-in_err-value : goal.returns-in_err-value
 returns-in_err-value c = rw c.from_residual-in_err-value.ensures (body-no_descriptor _ _ c.in_ok-inner.ensures c.in_err-value.ensures)

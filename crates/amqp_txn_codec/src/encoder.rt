@@ -69,8 +69,11 @@ impl ControlMessageBody {
         }
     }
 
-    /// The canonical spelling as a payload, which is read as this message. `NoMemory` comes only
-    /// where the payload can't be allocated.
+    /// The canonical spelling as a payload, which is read as this message.
+    ///
+    /// # Errors
+    ///
+    /// `NoMemory`: the payload can't be allocated.
     pub fn encode(&self, alloc: Global) -> Result<Payload, NoMemory>
         ensures text { IfOk result (λ payload. payload ≡ canon self.now) }
         ensures read { IfOk result (λ payload. message_of payload ≡ Some self.now) }

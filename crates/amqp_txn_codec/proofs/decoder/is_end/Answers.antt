@@ -1,6 +1,6 @@
 use Rattle.amqp_txn_codec.specs.Sections.{footer}
 use Rattle.amqp_txn_codec.proofs.Bodies.{end-is, end-only}
-use Rattle.amqp_txn_codec.proofs.decoding.is_end.Goals as goal
+use Rattle.amqp_txn_codec.proofs.decoder.is_end.Goals as goal
 
 pub returns : goal.returns
 unfolding footer

@@ -1,6 +1,6 @@
 use Rattle.std.proofs.Common.{sym, true≢false, ◌∙◌}
 use Rattle.amqp_txn_codec.proofs.Bodies.{spells-no_body, spells-no_end, spells-found}
-use Rattle.amqp_txn_codec.proofs.decoding.message_in.Goals as goal
+use Rattle.amqp_txn_codec.proofs.decoder.message_in.Goals as goal
 
 pub returns-in_err-declares : goal.returns-in_err-declares
 returns-in_err-declares c =
