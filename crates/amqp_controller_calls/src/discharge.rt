@@ -3,11 +3,11 @@
 ghost use Rattle.std.specs.Prelude.{◌≡◌};
 ghost use Rattle.amqp_txn_codec.specs.declared.message.ControlMessageBody.TheVariants as messages;
 ghost use Rattle.amqp_links.specs.declared.sendable.Sent.TheVariants as sendings;
-ghost use Rattle.amqp_controller_calls.specs.Sending.{OneSend, SendsControl};
-ghost use Rattle.amqp_controller_calls.specs.Polling.{LooksOnce, accepted_by, found_of, outcome_of};
+ghost use Rattle.amqp_controller_calls.specs.Sends.{OneSend, SendsControl};
+ghost use Rattle.amqp_controller_calls.specs.Polls.{LooksOnce, accepted_by, found_of, outcome_of};
 
 use crate::errors::ControllerSendError;
-use crate::sending::send_control;
+use crate::send::send_control;
 use amqp_links::{Answer, Poll, Progress, SenderLink, Sent};
 use amqp_txn_codec::{ControlMessageBody, Discharge};
 use amqp_txn_types::{Accepted, DeliveryState, TransactionId};
@@ -21,9 +21,9 @@ pub struct DischargeOnLink {
 }
 
 impl Model for DischargeOnLink {
-    ghost use Rattle.amqp_links.specs.declared.sendable.Sent.{Sent as HowSent};
+    ghost use Rattle.amqp_links.specs.declared.sendable.Sent.{Sent};
 
-    ghost Value = { HowSent };
+    ghost Value = { Sent };
 
     ghost view = { λ d. d.sent };
 

@@ -1,7 +1,7 @@
 use Rattle.std.proofs.Common.{◌≤◌}
-use Rattle.amqp_controller_calls.specs.Abandoning.{PendingLooks}
-use Rattle.amqp_controller_calls.specs.Polling.{OneLook}
-use Rattle.amqp_controller_calls.proofs.abandoning.look_up_to.Given as goal
+use Rattle.amqp_controller_calls.specs.Abandoned.{PendingLooks}
+use Rattle.amqp_controller_calls.specs.Polls.{OneLook}
+use Rattle.amqp_controller_calls.proofs.abandon.look_up_to.Given as goal
 
 -- each look so far found no answer, and the faults didn't fall
 abbrev pub invariant-loop-look : goal.invariant-loop-look

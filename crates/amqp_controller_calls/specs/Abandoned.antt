@@ -11,10 +11,10 @@ use Rattle.amqp_links.specs.declared.sendable.Sent.TheVariants as sendings
 use Rattle.amqp_links.specs.Sending.{Answer, SenderTold}
 use Rattle.amqp_controller_calls.specs.declared.errors.ControllerSendError.{ControllerSendError}
 use Rattle.amqp_controller_calls.specs.declared.errors.ControllerSendError.TheVariants as errors
-use Rattle.amqp_controller_calls.specs.declared.abandoning.Abandoned.{Abandoned}
-use Rattle.amqp_controller_calls.specs.declared.abandoning.Abandoned.TheVariants as ends
-use Rattle.amqp_controller_calls.specs.Polling.{LooksOn}
-use Rattle.amqp_controller_calls.specs.Sending.{SendsControl, SendsOn}
+use Rattle.amqp_controller_calls.specs.declared.abandon.Abandoned.{Abandoned}
+use Rattle.amqp_controller_calls.specs.declared.abandon.Abandoned.TheVariants as ends
+use Rattle.amqp_controller_calls.specs.Polls.{LooksOn}
+use Rattle.amqp_controller_calls.specs.Sends.{SendsControl, SendsOn}
 
 -- the rollback of a transaction (part 4, section 4.5.3)
 abbrev pub rollback_of : TransactionId → ControlMessageBody

@@ -3,7 +3,7 @@
 ghost use Rattle.std.specs.Prelude.{◌≡◌, ◌≤◌, IfOk};
 ghost use Rattle.amqp_links.specs.declared.sendable.Sent.TheVariants as sendings;
 ghost use Rattle.amqp_links.specs.Sending.{unsettled_count};
-ghost use Rattle.amqp_controller_calls.specs.Sending.{OneSend, SendsControl, UnsentByFault};
+ghost use Rattle.amqp_controller_calls.specs.Sends.{OneSend, SendsControl, UnsentByFault};
 
 use crate::errors::ControllerSendError;
 use amqp_links::{Sendable, SenderLink, Sent};

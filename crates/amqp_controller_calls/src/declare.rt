@@ -2,11 +2,11 @@
 
 ghost use Rattle.std.specs.Prelude.{◌≡◌};
 ghost use Rattle.amqp_txn_codec.specs.declared.message.ControlMessageBody.TheVariants as messages;
-ghost use Rattle.amqp_controller_calls.specs.Sending.{OneSend, SendsControl};
-ghost use Rattle.amqp_controller_calls.specs.Polling.{LooksOnce, declared_by, found_of, outcome_of};
+ghost use Rattle.amqp_controller_calls.specs.Sends.{OneSend, SendsControl};
+ghost use Rattle.amqp_controller_calls.specs.Polls.{LooksOnce, declared_by, found_of, outcome_of};
 
 use crate::errors::ControllerSendError;
-use crate::sending::send_control;
+use crate::send::send_control;
 use amqp_links::{Answer, Poll, Progress, SenderLink, Sent};
 use amqp_txn_codec::{ControlMessageBody, Declare};
 use amqp_txn_types::{Declared, DeliveryState, TransactionId};
@@ -20,9 +20,9 @@ pub struct DeclareOnLink {
 }
 
 impl Model for DeclareOnLink {
-    ghost use Rattle.amqp_links.specs.declared.sendable.Sent.{Sent as HowSent};
+    ghost use Rattle.amqp_links.specs.declared.sendable.Sent.{Sent};
 
-    ghost Value = { HowSent };
+    ghost Value = { Sent };
 
     ghost view = { λ d. d.sent };
 

@@ -1,13 +1,13 @@
 //! Rolling back a transaction that is given up, on a control link that is lent.
 
 ghost use Rattle.std.specs.Prelude.{◌≤◌};
-ghost use Rattle.amqp_controller_calls.specs.Abandoning.{Abandons, FailsByFault, LooksUpTo, OnFoundErr, WasTried};
+ghost use Rattle.amqp_controller_calls.specs.Abandoned.{Abandons, FailsByFault, LooksUpTo, OnFoundErr, WasTried};
 ghost use Rattle.amqp_txn_types.specs.Counts.{Rose};
-ghost use Rattle.amqp_controller_calls.specs.Polling.{OneLook};
-ghost use Rattle.amqp_controller_calls.specs.Sending.{OneSend};
+ghost use Rattle.amqp_controller_calls.specs.Polls.{OneLook};
+ghost use Rattle.amqp_controller_calls.specs.Sends.{OneSend};
 
 use crate::errors::ControllerSendError;
-use crate::sending::send_control;
+use crate::send::send_control;
 use amqp_links::{Answer, Poll, SenderLink, Sent};
 use amqp_txn_codec::{ControlMessageBody, Discharge};
 use amqp_txn_types::{DeliveryState, Token, TransactionId};

@@ -44,14 +44,14 @@ AsksToSend sends old new message result =
     × (result ≡ sent_by answer)
 
 -- there was no memory for the message's octets, and the link wasn't asked
-abbrev pub WantsMemory : {L : Type 0} → L → L → Result Sent ControllerSendError → Type 0
-WantsMemory old new result = (result ≡ Err errors.NoMemory) × (new ≡ old)
+abbrev pub OutOfMemory : {L : Type 0} → L → L → Result Sent ControllerSendError → Type 0
+OutOfMemory old new result = (result ≡ Err errors.NoMemory) × (new ≡ old)
 
 -- a control message is sent
 abbrev pub SendsControl : {L : Type 0} → SendsOn L → L → L → ControlMessageBody
     → Result Sent ControllerSendError → Type 0
 SendsControl sends old new message result =
-    AsksToSend sends old new message result ⊎ WantsMemory old new result
+    AsksToSend sends old new message result ⊎ OutOfMemory old new result
 
 -- an error, but out of memory, is a fault of the link that is counted
 abbrev pub UnsentByFault : Result Sent ControllerSendError → SenderTold → SenderTold → Type 0
