@@ -2,7 +2,7 @@ pub use Rattle.amqp_below_layer.specs.Faults
 pub use Rattle.amqp_below_layer.specs.Told
 pub use Rattle.amqp_below_layer.specs.Windows
 pub use Rattle.amqp_below_layer.specs.Inner
-pub use Rattle.amqp_below_layer.specs.Taking
+pub use Rattle.amqp_below_layer.specs.OneFrame
 pub use Rattle.amqp_below_layer.specs.Reviewing
 pub use Rattle.amqp_below_ids.specs.Ids
 pub use Rattle.amqp_below_ids.specs.Drawn

@@ -4,7 +4,7 @@ use Rattle.std.proofs.Math.Seq.{split_at, take-suc}
 use Rattle.amqp_txn_types.specs.declared.performatives.Disposition.{Disposition}
 use Rattle.amqp_txn_types.specs.declared.performatives.Frame.{Frame}
 use Rattle.amqp_below_layer.specs.declared.inner_error.SessionInnerError.{SessionInnerError}
-use Rattle.amqp_below_layer.specs.Taking.{ChecksAll, ChecksFrame, ChecksTo}
+use Rattle.amqp_below_layer.specs.OneFrame.{ChecksAll, ChecksFrame, ChecksTo}
 
 -- some frames passed, and then one more
 pub checks-snoc : {S : Type 0} (gives : S → S → Disposition → Result Unit SessionInnerError → Type 0)

@@ -6,7 +6,7 @@ use Rattle.amqp_txn_types.specs.declared.performatives.Frame.{Frame}
 use Rattle.amqp_txn_types.specs.declared.performatives.Frame.TheVariants as frames
 use Rattle.amqp_below_layer.specs.declared.inner_error.SessionInnerError.{SessionInnerError}
 use Rattle.amqp_below_layer.specs.Reviewing.{OnlyNoMemory, StaysOn}
-use Rattle.amqp_below_layer.specs.Taking.{ChecksAll, ChecksFrame, ChecksTo, GivesWindow}
+use Rattle.amqp_below_layer.specs.OneFrame.{ChecksAll, ChecksFrame, ChecksTo, GivesWindow}
 
 -- the same state takes the same frames
 takes-same : {S : Type 0} (takes : S → List Frame → Type 0) (old new : S) (list : List Frame) → new ≡ old → takes old list → takes new list

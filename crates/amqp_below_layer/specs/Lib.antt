@@ -3,4 +3,4 @@ pub mod Told
 pub mod Reviewing
 pub mod Inner
 pub mod Windows
-pub mod Taking
+pub mod OneFrame

@@ -8,7 +8,7 @@ use Rattle.amqp_txn_types.specs.Frames.{is_under_txn}
 use Rattle.amqp_below_layer.specs.Faults.{is_no_memory}
 use Rattle.amqp_below_layer.specs.declared.answers.Answers.{Answers}
 use Rattle.amqp_below_layer.specs.declared.inner_error.SessionInnerError.{SessionInnerError}
-use Rattle.amqp_below_layer.specs.declared.taking.TakeError.{TakeError}
+use Rattle.amqp_below_layer.specs.declared.take.TakeError.{TakeError}
 use Rattle.amqp_below_layer.specs.declared.verdict.Verdict.{Verdict}
 use Rattle.amqp_below_layer.specs.declared.verdict.Verdict.TheVariants as verdicts
 
@@ -16,7 +16,7 @@ use Rattle.amqp_below_layer.specs.declared.verdict.Verdict.TheVariants as verdic
 -- Transactional Work)
 abbrev pub is_bare : Frame → Bool
 is_bare (frames.Transfer transfer payload) = not (is_under_txn transfer.state)
-is_bare (frames.Disposition d) = not (is_under_txn d.state)
+is_bare (frames.Disposition disposition) = not (is_under_txn disposition.state)
 is_bare _ = false
 
 -- the one answer beside Ok is out of memory, and a sure layer doesn't give that either

@@ -6,11 +6,12 @@ use Rattle.amqp_below_layer.specs.declared.answers.Answers.{Answers}
 
 -- the window of the session is given only after a transfer
 abbrev pub WindowFits : Frame → Answers → Type 0
-WindowFits frame a = is_transfer frame ≡ false → a.window ≡ None
+WindowFits frame answers = is_transfer frame ≡ false → answers.window ≡ None
 
 -- one answer for each frame, with a window only after a transfer
 abbrev pub AllWindowsFit : List Frame → List Answers → Type 0
 AllWindowsFit [] [] = Unit {0}
-AllWindowsFit (f ∷ handed) (a ∷ answers) = WindowFits f a × AllWindowsFit handed answers
-AllWindowsFit [] (a ∷ answers) = ⊥
-AllWindowsFit (f ∷ handed) [] = ⊥
+AllWindowsFit (frame ∷ handed) (first ∷ answers) =
+    WindowFits frame first × AllWindowsFit handed answers
+AllWindowsFit [] (first ∷ answers) = ⊥
+AllWindowsFit (frame ∷ handed) [] = ⊥

@@ -21,56 +21,56 @@ pub trait LayerBelow: Tells {
     ghost use Rattle.std.specs.List.{list_all};
     ghost use Rattle.amqp_below_layer.specs.Told.{Takes, Opens, Checks, Reviews};
     ghost use Rattle.amqp_below_layer.specs.Reviewing.{GoesOn, OnAccept, StaysOn, is_bare};
-    ghost use Rattle.amqp_below_layer.specs.declared.verdict.Verdict.{Verdict as Judged};
-    ghost use Rattle.amqp_txn_types.specs.declared.items.NoMemory.{NoMemory as Full};
-    ghost use Rattle.amqp_below_layer.specs.declared.inner_error.SessionInnerError.{SessionInnerError as Fault};
-    ghost use Rattle.amqp_txn_types.specs.declared.performatives.Attach.{Attach as Opening};
-    ghost use Rattle.amqp_txn_types.specs.declared.performatives.Disposition.{Disposition as Settling};
-    ghost use Rattle.amqp_txn_types.specs.declared.performatives.Flow.{Flow as Window};
-    ghost use Rattle.amqp_txn_types.specs.declared.performatives.Frame.{Frame as Came};
+    ghost use Rattle.amqp_below_layer.specs.declared.verdict.Verdict.{Verdict};
+    ghost use Rattle.amqp_txn_types.specs.declared.items.NoMemory.{NoMemory};
+    ghost use Rattle.amqp_below_layer.specs.declared.inner_error.SessionInnerError.{SessionInnerError};
+    ghost use Rattle.amqp_txn_types.specs.declared.performatives.Attach.{Attach};
+    ghost use Rattle.amqp_txn_types.specs.declared.performatives.Disposition.{Disposition};
+    ghost use Rattle.amqp_txn_types.specs.declared.performatives.Flow.{Flow};
+    ghost use Rattle.amqp_txn_types.specs.declared.performatives.Frame.{Frame};
     ghost use Rattle.amqp_txn_types.specs.declared.performatives.Frame.TheVariants as frames;
 
     /// What an incoming frame call answers and leaves: the layer before and after, the frame, the
     /// answer.
-    ghost incoming_gives: { Self → Self → Came → Result (List Came) Fault → Type 0 };
+    ghost incoming_gives: { Self → Self → Frame → Result (List Frame) SessionInnerError → Type 0 };
 
     /// What the attach of a control link answers and leaves: the layer before and after, the
     /// attach, the answer.
-    ghost opening_gives: { Self → Self → Opening → Result (List Came) Fault → Type 0 };
+    ghost opening_gives: { Self → Self → Attach → Result (List Frame) SessionInnerError → Type 0 };
 
     /// What the check of a disposition answers and leaves: the layer before and after, the
     /// disposition, the answer.
-    ghost check_gives: { Self → Self → Settling → Result Unit Fault → Type 0 };
+    ghost check_gives: { Self → Self → Disposition → Result Unit SessionInnerError → Type 0 };
 
     /// The flow that tells the session's window, and what asking for it leaves: the layer before
     /// and after, the flow.
-    ghost window_gives: { Self → Self → Option Window → Type 0 };
+    ghost window_gives: { Self → Self → Option Flow → Type 0 };
 
     /// What a review answers and leaves: the layer before and after, the frames, the answer.
-    ghost review_gives: { Self → Self → List Came → Result Judged Full → Type 0 };
+    ghost review_gives: { Self → Self → List Frame → Result Verdict NoMemory → Type 0 };
 
     /// The layer takes these frames one after another, if memory allows.
-    ghost takes: { Self → List Came → Type 0 };
+    ghost takes: { Self → List Frame → Type 0 };
 
     /// It has the memory for the frames that it takes.
     ghost sure: { Bool };
 
     /// The incoming call of the first of some frames that it takes is Ok, and then it takes the
     /// rest; or it runs out of memory.
-    ghost goes_on: { (old new : Self) (frame : Came) (answer : Result (List Came) Fault)
+    ghost goes_on: { (old new : Self) (frame : Frame) (answer : Result (List Frame) SessionInnerError)
         → Self.incoming_gives old new frame answer
         → GoesOn Self.takes Self.sure old new frame answer };
 
     /// The check of a disposition among frames that it takes is Ok, and then it takes them still;
     /// or it runs out of memory.
-    ghost stays_on: { (old new : Self) (disposition : Settling) (answer : Result Unit Fault)
+    ghost stays_on: { (old new : Self) (disposition : Disposition) (answer : Result Unit SessionInnerError)
         → Self.check_gives old new disposition answer
         → StaysOn Self.takes Self.sure old new answer };
 
     /// Asking for the window leaves what it takes.
-    ghost window_stays_on: { (old new : Self) (flow : Option Window)
+    ghost window_stays_on: { (old new : Self) (flow : Option Flow)
         → Self.window_gives old new flow
-        → (list : List Came) → Self.takes old list → Self.takes new list };
+        → (list : List Frame) → Self.takes old list → Self.takes new list };
 
     /// The state of the session (part 2 of the standard, section 2.5.5).
     fn local_state(&self) -> SessionState

@@ -30,7 +30,7 @@ mod inner_error;
 mod layer;
 mod open;
 mod refusal;
-mod taking;
+mod take;
 mod tells;
 mod verdict;
 
@@ -40,6 +40,6 @@ pub use inner_error::SessionInnerError;
 pub use layer::LayerBelow;
 pub use open::OpenSession;
 pub use refusal::{Exchanges, Openings, Refusal, Refusals, Reviews};
-pub use taking::{TakeError, check_given, take_frame};
+pub use take::{TakeError, check_given, take_frame};
 pub use tells::Tells;
 pub use verdict::Verdict;

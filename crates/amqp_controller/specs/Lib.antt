@@ -1,6 +1,6 @@
-pub use Rattle.amqp_controller_calls.specs.Sending
-pub use Rattle.amqp_controller_calls.specs.Polling
-pub use Rattle.amqp_controller_calls.specs.Abandoning
+pub use Rattle.amqp_controller_calls.specs.Sends
+pub use Rattle.amqp_controller_calls.specs.Polls
+pub use Rattle.amqp_controller_calls.specs.Abandoned
 pub use Rattle.amqp_controller_calls.specs.Errors as SendErrors
 pub use Rattle.amqp_controller_posting.specs.Errors as PostErrors
 pub use Rattle.amqp_controller_posting.specs.Posting

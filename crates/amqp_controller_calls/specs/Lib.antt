@@ -1,4 +1,4 @@
 pub mod Errors
-pub mod Sending
-pub mod Polling
-pub mod Abandoning
+pub mod Sends
+pub mod Polls
+pub mod Abandoned

@@ -47,15 +47,15 @@
 //! [`SenderLink`]: amqp_links::SenderLink
 #![tactic(auto)]
 
-mod abandoning;
-mod declaring;
-mod discharging;
+mod abandon;
+mod declare;
+mod discharge;
 mod errors;
-mod sending;
+mod send;
 mod transaction_base;
 
-pub use abandoning::{Abandoned, abandon_on_link};
-pub use declaring::{DeclareOnLink, declare_on_link};
-pub use discharging::{DischargeOnLink, discharge_on_link};
+pub use abandon::{Abandoned, abandon_on_link};
+pub use declare::{DeclareOnLink, declare_on_link};
+pub use discharge::{DischargeOnLink, discharge_on_link};
 pub use errors::{ControllerSendError, link_state_of};
 pub use transaction_base::TransactionBase;

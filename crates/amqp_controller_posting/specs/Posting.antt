@@ -14,8 +14,8 @@ use Rattle.amqp_links.specs.Polls.{polled}
 use Rattle.amqp_links.specs.Sending.{Answer, SenderTold}
 use Rattle.amqp_links.specs.declared.progress.Progress.{Progress}
 use Rattle.amqp_links.specs.declared.progress.Progress.TheVariants as waits
-use Rattle.amqp_controller_calls.specs.Polling.{waited}
-use Rattle.amqp_controller_calls.specs.Sending.{SendsOn}
+use Rattle.amqp_controller_calls.specs.Polls.{waited}
+use Rattle.amqp_controller_calls.specs.Sends.{SendsOn}
 use Rattle.amqp_controller_posting.specs.declared.errors.PostError.{PostError}
 use Rattle.amqp_controller_posting.specs.declared.errors.PostError.TheVariants as errors
 use Rattle.amqp_controller_posting.specs.Errors.{unposted}

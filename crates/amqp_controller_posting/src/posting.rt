@@ -1,8 +1,8 @@
 //! Posts under a transaction.
 
 ghost use Rattle.std.specs.Prelude.{◌≡◌, true, false};
-ghost use Rattle.amqp_controller_calls.specs.Polling.{LooksOnce};
-ghost use Rattle.amqp_controller_calls.specs.Sending.{OneSend};
+ghost use Rattle.amqp_controller_calls.specs.Polls.{LooksOnce};
+ghost use Rattle.amqp_controller_calls.specs.Sends.{OneSend};
 ghost use Rattle.amqp_controller_posting.specs.Posting.{Posts, PostsCopy, outcome_of, post_found};
 
 use crate::errors::PostError;

@@ -3,8 +3,8 @@ use Rattle.std.specs.Prelude.{ℕ, ◌≡◌, ◌≤◌, ◌↔◌, Bool, true, 
 use Rattle.amqp_txn_types.specs.declared.id.TransactionId.{TransactionId}
 use Rattle.amqp_links.specs.declared.progress.Progress.{Progress}
 use Rattle.amqp_links.specs.declared.progress.Progress.TheVariants as waits
-use Rattle.amqp_controller_calls.specs.declared.abandoning.Abandoned.{Abandoned}
-use Rattle.amqp_controller_calls.specs.declared.abandoning.Abandoned.TheVariants as ends
+use Rattle.amqp_controller_calls.specs.declared.abandon.Abandoned.{Abandoned}
+use Rattle.amqp_controller_calls.specs.declared.abandon.Abandoned.TheVariants as ends
 use Rattle.amqp_controller_transactions.specs.declared.begun.Begun.{Begun}
 
 -- a transaction that was just declared: it isn't discharged, no rollback was read, and an abandon

@@ -6,7 +6,7 @@ use Rattle.amqp_links.specs.Sending.{SenderTold}
 use Rattle.amqp_links.specs.declared.progress.Progress.{Progress}
 use Rattle.amqp_links.specs.declared.progress.Progress.TheVariants as waits
 use Rattle.amqp_controller_calls.specs.declared.errors.ControllerSendError.{ControllerSendError}
-use Rattle.amqp_controller_calls.specs.Polling.{LooksOn, declared_by}
+use Rattle.amqp_controller_calls.specs.Polls.{LooksOn, declared_by}
 use Rattle.amqp_controller_transactions.specs.declared.begun.Begun.{Begun}
 use Rattle.amqp_controller_transactions.specs.Begun.{begun_as}
 use Rattle.amqp_controller_transactions.specs.Locked.{LooksUnder}

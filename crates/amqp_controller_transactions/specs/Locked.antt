@@ -12,11 +12,11 @@ use Rattle.amqp_links.specs.declared.sendable.Sent.{Sent}
 use Rattle.amqp_links.specs.Sending.{Closes, SenderTold}
 use Rattle.amqp_links.specs.declared.progress.Progress.{Progress}
 use Rattle.amqp_links.specs.declared.progress.Progress.TheVariants as waits
-use Rattle.amqp_controller_calls.specs.declared.abandoning.Abandoned.{Abandoned}
+use Rattle.amqp_controller_calls.specs.declared.abandon.Abandoned.{Abandoned}
 use Rattle.amqp_controller_calls.specs.declared.errors.ControllerSendError.{ControllerSendError}
-use Rattle.amqp_controller_calls.specs.Abandoning.{Abandons, FailsByFault}
-use Rattle.amqp_controller_calls.specs.Polling.{LooksOn, LooksOnce, OneLook, accepted_by, found_of}
-use Rattle.amqp_controller_calls.specs.Sending.{OneSend, SendsControl, SendsOn}
+use Rattle.amqp_controller_calls.specs.Abandoned.{Abandons, FailsByFault}
+use Rattle.amqp_controller_calls.specs.Polls.{LooksOn, LooksOnce, OneLook, accepted_by, found_of}
+use Rattle.amqp_controller_calls.specs.Sends.{OneSend, SendsControl, SendsOn}
 use Rattle.amqp_controller_transactions.specs.declared.begun.Begun.{Begun}
 
 -- a declare (part 4, section 4.5.2)

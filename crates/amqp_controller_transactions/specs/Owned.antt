@@ -15,8 +15,8 @@ use Rattle.amqp_links.specs.declared.progress.Progress.{Progress}
 use Rattle.amqp_links.specs.declared.progress.Progress.TheVariants as waits
 use Rattle.amqp_controller_calls.specs.declared.errors.ControllerSendError.{ControllerSendError}
 use Rattle.amqp_controller_calls.specs.Errors.{is_rollback}
-use Rattle.amqp_controller_calls.specs.Polling.{LooksOn}
-use Rattle.amqp_controller_calls.specs.Sending.{SendsOn}
+use Rattle.amqp_controller_calls.specs.Polls.{LooksOn}
+use Rattle.amqp_controller_calls.specs.Sends.{SendsOn}
 use Rattle.amqp_controller_transactions.specs.declared.begun.Begun.{Begun}
 use Rattle.amqp_controller_transactions.specs.declared.owned_errors.OwnedDeclareError.{OwnedDeclareError}
 use Rattle.amqp_controller_transactions.specs.declared.owned_errors.OwnedDeclareError.TheVariants as declares

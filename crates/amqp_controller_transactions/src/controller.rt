@@ -1,8 +1,8 @@
 //! The controller: a control link under a lock.
 
 ghost use Rattle.std.specs.Prelude.{◌≤◌};
-ghost use Rattle.amqp_controller_calls.specs.Abandoning.{WasTried};
-ghost use Rattle.amqp_controller_calls.specs.Polling.{accepted_by, declared_by};
+ghost use Rattle.amqp_controller_calls.specs.Abandoned.{WasTried};
+ghost use Rattle.amqp_controller_calls.specs.Polls.{accepted_by, declared_by};
 ghost use Rattle.amqp_controller_transactions.specs.Begun.{KeepsWait};
 ghost use Rattle.amqp_controller_transactions.specs.Locked.{AbandonsUnder, ClosesUnder, LooksUnder, SendsUnder, declare_of, discharge_of, error_of};
 

@@ -21,7 +21,7 @@ use std::sync::Wait;
 pub trait TransactionDischarge: Sized {
     ghost use Rattle.std.specs.Prelude.{Bool, Result};
     ghost use Rattle.amqp_links.specs.declared.progress.Progress.{Progress};
-    ghost use Rattle.amqp_controller_calls.specs.declared.abandoning.Abandoned.{Abandoned};
+    ghost use Rattle.amqp_controller_calls.specs.declared.abandon.Abandoned.{Abandoned};
     ghost use Rattle.amqp_controller_transactions.specs.declared.begun.Begun.{Begun};
 
     /// Why it isn't discharged.

@@ -1,4 +1,4 @@
-pub use Rattle.amqp_below_layer.specs.Taking
+pub use Rattle.amqp_below_layer.specs.OneFrame
 pub use Rattle.amqp_engine_events.specs.States
 pub use Rattle.amqp_engine_events.specs.Texts
 pub use Rattle.amqp_engine_events.specs.Turns

@@ -9,8 +9,8 @@ use Rattle.amqp_txn_types.specs.declared.small.IncomingChannel.{IncomingChannel}
 use Rattle.amqp_txn_types.specs.declared.small.SessionState.{SessionState}
 use Rattle.amqp_below_layer.specs.declared.answers.Answers.{Answers}
 use Rattle.amqp_below_layer.specs.declared.inner_error.SessionInnerError.{SessionInnerError}
-use Rattle.amqp_below_layer.specs.declared.taking.TakeError.{TakeError}
-use Rattle.amqp_below_layer.specs.Taking.{TakesFrame, TakesThrough}
+use Rattle.amqp_below_layer.specs.declared.take.TakeError.{TakeError}
+use Rattle.amqp_below_layer.specs.OneFrame.{TakesFrame, TakesThrough}
 use Rattle.amqp_below_layer.specs.Told.{Told}
 use Rattle.amqp_below_sessions.specs.Names.{Names}
 use Rattle.amqp_below_sessions.specs.Sessions.{Kept}

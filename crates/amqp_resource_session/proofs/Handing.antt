@@ -16,7 +16,7 @@ use Rattle.amqp_txn_types.specs.declared.items.NoMemory.{NoMemory}
 use Rattle.amqp_below_layer.specs.declared.refusal.Refusal.{Refusal}
 use Rattle.amqp_below_layer.specs.Told.{Reviews, Told, refusal_of, refused_after}
 use Rattle.amqp_below_layer.specs.declared.inner_error.SessionInnerError.{SessionInnerError}
-use Rattle.amqp_below_layer.specs.Taking.{TookFrames, taken_frames}
+use Rattle.amqp_below_layer.specs.OneFrame.{TookFrames, taken_frames}
 use Rattle.amqp_txn_types.specs.declared.small.TransactionError.{TransactionError}
 use Rattle.amqp_txn_types.specs.declared.id.TransactionId.{TransactionId}
 use Rattle.amqp_txn_types.specs.Works.{frame_of_work}

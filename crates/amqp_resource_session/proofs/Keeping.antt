@@ -17,7 +17,7 @@ use Rattle.amqp_below_layer.specs.declared.inner_error.SessionInnerError.{Sessio
 use Rattle.amqp_txn_types.specs.declared.delivery.SessionStopReason.{SessionStopReason}
 use Rattle.amqp_resource_record.specs.declared.step.Step.{Step}
 use Rattle.amqp_resource_record.specs.declared.stop.StepError.{StepError}
-use Rattle.amqp_below_layer.specs.Taking.{TakesFrame, TookFrames, taken_frames}
+use Rattle.amqp_below_layer.specs.OneFrame.{TakesFrame, TookFrames, taken_frames}
 use Rattle.amqp_txn_types.specs.declared.id.TransactionId.{TransactionId}
 use Rattle.amqp_below_layer.specs.declared.verdict.Verdict.{Verdict}
 use Rattle.amqp_txn_types.specs.Presumptive.{answered_under}
@@ -39,7 +39,7 @@ use Rattle.amqp_resource_record.specs.declared.reply.Reply.TheVariants as replie
 use Rattle.amqp_resource_record.specs.declared.reply.RejectText.TheVariants as texts
 use Rattle.amqp_resource_record.specs.declared.stop.StepError.TheVariants as errors
 use Rattle.amqp_resource_record.proofs.Whole.{plain_none}
-use Rattle.amqp_below_layer.specs.declared.taking.TakeError.{TakeError}
+use Rattle.amqp_below_layer.specs.declared.take.TakeError.{TakeError}
 use Rattle.amqp_resource_held.specs.Held.{SameHeld, Tied, ids_on, is_in, is_kept_on, unless_on}
 use Rattle.amqp_resource_held.specs.Draws.{DrewLive, DrewUnused, is_kept}
 use Rattle.amqp_resource_session.specs.Committing.{HandsAll, HandsSurely}

@@ -26,7 +26,7 @@ use Rattle.amqp_txn_codec.specs.declared.message.ControlMessageBody.TheVariants 
 use Rattle.amqp_below_layer.specs.declared.verdict.Verdict.TheVariants as verdicts
 use Rattle.amqp_txn_types.specs.declared.performatives.Disposition.{Disposition}
 use Rattle.amqp_txn_types.specs.declared.performatives.Flow.{Flow}
-use Rattle.amqp_below_layer.specs.Taking.{ChecksAll, ChecksGiven}
+use Rattle.amqp_below_layer.specs.OneFrame.{ChecksAll, ChecksGiven}
 use Rattle.amqp_txn_types.specs.Presumptive.{answered_under}
 use Rattle.amqp_resource_record.proofs.Whole.{plain_none}
 use Rattle.amqp_below_ids.proofs.Draws.{Drew-none}

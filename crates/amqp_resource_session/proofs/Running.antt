@@ -18,7 +18,7 @@ use Rattle.amqp_resource_record.specs.declared.stop.StepError.{StepError}
 use Rattle.amqp_resource_record.specs.declared.stop.Stop.{Stop}
 use Rattle.amqp_resource_record.specs.declared.stop.StopCode.{StopCode}
 use Rattle.amqp_below_layer.specs.Told.{Told}
-use Rattle.amqp_below_layer.specs.Taking.{TookFrames}
+use Rattle.amqp_below_layer.specs.OneFrame.{TookFrames}
 use Rattle.amqp_txn_types.specs.declared.id.TransactionId.{TransactionId}
 use Rattle.amqp_resource_session.specs.declared.session.TxnSession.{TxnSession}
 use Rattle.amqp_resource_record.specs.Opened.{attach_refused_count, opened_by, refused_by, refuses, is_attach_refused}

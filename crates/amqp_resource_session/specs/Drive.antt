@@ -8,7 +8,7 @@ use Rattle.amqp_below_layer.specs.declared.inner_error.SessionInnerError.{Sessio
 use Rattle.amqp_resource_record.specs.declared.step.Step.{Step}
 use Rattle.amqp_resource_record.specs.declared.stop.StepError.{StepError}
 use Rattle.amqp_resource_record.specs.declared.stop.Stop.{Stop}
-use Rattle.amqp_below_layer.specs.Taking.{TookFrames}
+use Rattle.amqp_below_layer.specs.OneFrame.{TookFrames}
 use Rattle.amqp_resource_session.specs.declared.session.TxnSession.{TxnSession}
 use Rattle.amqp_resource_record.specs.Opened.{attach_refused_count, refuses}
 use Rattle.amqp_txn_types.specs.Growing.{grown}

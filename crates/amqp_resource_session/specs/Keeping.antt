@@ -11,7 +11,7 @@ use Rattle.amqp_resource_record.specs.declared.reply.Reply.{Reply}
 use Rattle.amqp_below_layer.specs.Told.{Steady, Told}
 use Rattle.amqp_resource_record.specs.declared.step.Step.{Step}
 use Rattle.amqp_resource_record.specs.declared.stop.StepError.{StepError}
-use Rattle.amqp_below_layer.specs.Taking.{TakesFrame}
+use Rattle.amqp_below_layer.specs.OneFrame.{TakesFrame}
 use Rattle.amqp_txn_types.specs.declared.id.TransactionId.{TransactionId}
 use Rattle.amqp_txn_types.specs.Presumptive.{answered_under}
 use Rattle.amqp_txn_types.specs.Frames.{is_coordinator_attach, stripped, txn}

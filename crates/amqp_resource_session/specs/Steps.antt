@@ -14,7 +14,7 @@ use Rattle.amqp_txn_types.specs.declared.delivery.SessionStopReason.{SessionStop
 use Rattle.amqp_resource_record.specs.declared.step.Step.{Step}
 use Rattle.amqp_resource_record.specs.declared.stop.StepError.{StepError}
 use Rattle.amqp_below_layer.specs.Told.{Told, refusal_of}
-use Rattle.amqp_below_layer.specs.Taking.{TookFrames}
+use Rattle.amqp_below_layer.specs.OneFrame.{TookFrames}
 use Rattle.amqp_txn_types.specs.declared.id.TransactionId.{TransactionId}
 use Rattle.amqp_txn_types.specs.Presumptive.{answered_under}
 use Rattle.amqp_resource_record.specs.Work.{given_by, handed_by}
@@ -25,7 +25,7 @@ use Rattle.amqp_resource_record.specs.Entries.{is_veto}
 use Rattle.amqp_txn_codec.specs.Reading.{message_of}
 use Rattle.amqp_resource_record.specs.Opened.{opened_by, refused_by}
 use Rattle.amqp_resource_record.specs.Vetoed.{vetoed_by}
-use Rattle.amqp_below_layer.specs.Taking.{ChecksGiven}
+use Rattle.amqp_below_layer.specs.OneFrame.{ChecksGiven}
 use Rattle.amqp_txn_types.specs.declared.performatives.Disposition.{Disposition}
 use Rattle.amqp_txn_types.specs.declared.small.TransactionError.TheVariants as transaction_errors
 use Rattle.amqp_txn_types.specs.declared.delivery.ConnectionStopReason.{ConnectionStopReason}

@@ -23,8 +23,8 @@ canon_discharge id (Some false) = with_id 0x32 2 id (0x42 ∷ [])
 -- the canonical spelling, the one that is written: no section but the body, and descriptors by the
 -- number in one octet
 abbrev pub canon : ControlMessageBody → List ℕ
-canon (messages.Declare d) = canon_declare d.global_id
-canon (messages.Discharge d) = canon_discharge d.txn_id d.fail
+canon (messages.Declare declare) = canon_declare declare.global_id
+canon (messages.Discharge discharge) = canon_discharge discharge.txn_id discharge.fail
 
 -- the text is written at the front, and the rest stays
 abbrev pub IsWritten : List ℕ → List ℕ → List ℕ → Type 0
@@ -32,5 +32,5 @@ IsWritten text old new = new ≡ text ++ drop (length text) old
 
 -- each id that the message holds has at most 32 octets
 abbrev pub HoldsShortIds : ControlMessageBody → Type 0
-HoldsShortIds (messages.Declare d) = IfSome d.global_id (λ id. length id ≤ 32)
-HoldsShortIds (messages.Discharge d) = length d.txn_id ≤ 32
+HoldsShortIds (messages.Declare declare) = IfSome declare.global_id (λ id. length id ≤ 32)
+HoldsShortIds (messages.Discharge discharge) = length discharge.txn_id ≤ 32

@@ -30,13 +30,13 @@ cut count octets =
 -- a number in one octet, and what follows it
 unfoldable pub octet_at : List ℕ → Option (ℕ × List ℕ)
 octet_at [] = None
-octet_at (n ∷ octets) = if nat_lt n 256 then Some (n, octets) else None
+octet_at (number ∷ octets) = if nat_lt number 256 then Some (number, octets) else None
 
 -- a number in four octets, big-endian, and what follows it
 unfoldable pub number_at : List ℕ → Option (ℕ × List ℕ)
-number_at (a ∷ b ∷ c ∷ d ∷ octets) =
-    if list_all (λ octet. nat_lt octet 256) (a ∷ b ∷ c ∷ d ∷ [])
-    then Some (from_be_bytes w32 (a ∷ b ∷ c ∷ d ∷ []), octets)
+number_at (first ∷ second ∷ third ∷ fourth ∷ octets) =
+    if list_all (λ octet. nat_lt octet 256) (first ∷ second ∷ third ∷ fourth ∷ [])
+    then Some (from_be_bytes w32 (first ∷ second ∷ third ∷ fourth ∷ []), octets)
     else None
 number_at octets = None
 

@@ -24,11 +24,11 @@ width_of high =
 -- how many octets follow a constructor of this width, as far as they say it themselves; a size is
 -- big-endian and doesn't count itself
 abbrev pub octets_by : Width → List ℕ → Option ℕ
-octets_by (Fixed n) octets = Some n
+octets_by (Fixed count) octets = Some count
 octets_by OneOctet [] = None
-octets_by OneOctet (n ∷ octets) = Some (n + 1)
-octets_by FourOctets (a ∷ b ∷ c ∷ d ∷ octets) =
-    Some (from_be_bytes w32 (a ∷ b ∷ c ∷ d ∷ []) + 4)
+octets_by OneOctet (size ∷ octets) = Some (size + 1)
+octets_by FourOctets (first ∷ second ∷ third ∷ fourth ∷ octets) =
+    Some (from_be_bytes w32 (first ∷ second ∷ third ∷ fourth ∷ []) + 4)
 octets_by FourOctets octets = None
 octets_by NoValue octets = None
 

@@ -12,8 +12,8 @@ use Rattle.amqp_txn_codec.specs.Messages.{declare_list, discharge_list}
 
 -- what a reader found is so, and where it found nothing nothing is so
 abbrev pub Finds : {X : Type 0} → (X → Type 0) → Option X → Type 0
-Finds {X} IsSo None = (x : X) → IsSo x → ⊥
-Finds {X} IsSo (Some x) = IsSo x
+Finds {X} IsSo None = (found : X) → IsSo found → ⊥
+Finds {X} IsSo (Some found) = IsSo found
 
 -- behind count values at the front, rest is left
 abbrev pub LeavesAfter : ℕ → List ℕ → List ℕ → Type 0

@@ -19,15 +19,15 @@
 //! the message of a payload, and `specs/Walks.antt` is how the proofs follow the code.
 #![tactic(auto)]
 
-mod decoding;
-mod encoding;
+mod decoder;
+mod encoder;
 mod fields;
 mod laws;
 mod message;
 mod section;
 mod value;
 
-pub use decoding::decode;
+pub use decoder::decode;
 pub use laws::{
     canonical_spelling_spells, no_value_begins_another, octets_spell_one_message,
     only_a_footer_may_follow, spelled_messages_are_read,

@@ -9,7 +9,7 @@ use Rattle.amqp_txn_types.specs.declared.id.TransactionId.{TransactionId}
 use Rattle.amqp_txn_types.specs.declared.performatives.Frame.{Frame}
 use Rattle.amqp_txn_types.specs.Frames.{is_coordinator_attach, is_plain_by, is_plain_frame, stripped, txn}
 use Rattle.amqp_txn_types.proofs.Growing.{grown-grown, grown-nil}
-use Rattle.amqp_below_layer.specs.Taking.{TookFrames}
+use Rattle.amqp_below_layer.specs.OneFrame.{TookFrames}
 use Rattle.amqp_resource_record.specs.declared.entry.Entry.{Entry}
 use Rattle.amqp_resource_record.specs.declared.step.Step.{Step}
 use Rattle.amqp_resource_record.specs.declared.step.Step.TheVariants as steps

@@ -2,7 +2,7 @@
 use Rattle.std.specs.Prelude.{◌≡◌, Option, List, ◌++◌, ℕ, map}
 use Rattle.amqp_txn_types.specs.declared.performatives.Frame.{Frame}
 use Rattle.amqp_txn_types.specs.Frames.{stripped}
-use Rattle.amqp_below_layer.specs.Taking.{TookFrames}
+use Rattle.amqp_below_layer.specs.OneFrame.{TookFrames}
 use Rattle.amqp_resource_record.specs.declared.step.Step.{Step}
 use Rattle.amqp_resource_record.specs.Entries.{steps_of}
 use Rattle.amqp_resource_record.specs.Hands.{frames_at}

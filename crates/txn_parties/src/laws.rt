@@ -5,7 +5,7 @@ ghost use Rattle.std.specs.List.{zip};
 ghost use Rattle.amqp_txn_types.specs.Growing.{grown};
 ghost use Rattle.amqp_txn_types.specs.declared.id.TransactionId.{TransactionId};
 ghost use Rattle.amqp_txn_types.specs.declared.performatives.Frame.{Frame};
-ghost use Rattle.amqp_below_layer.specs.Taking.{TookFrames};
+ghost use Rattle.amqp_below_layer.specs.OneFrame.{TookFrames};
 ghost use Rattle.amqp_below_ids.specs.Drawn.{DrawnIds};
 ghost use Rattle.amqp_resource_record.specs.declared.entry.Entry.{Entry};
 ghost use Rattle.amqp_resource_record.specs.declared.reply.Reply.{Reply};

@@ -1,6 +1,6 @@
 use Rattle.std.proofs.Common.{ap, subst, ◌∙◌, ◌≡◌, zero-add, Ok, Err}
 use Rattle.amqp_txn_types.specs.declared.performatives.Frame.{Frame}
-use Rattle.amqp_below_layer.specs.Taking.{TakesFrame}
+use Rattle.amqp_below_layer.specs.OneFrame.{TakesFrame}
 use Rattle.amqp_resource_record.proofs.Whole.{plain_none}
 use Rattle.amqp_resource_session.specs.Steps.{fault_of}
 use Rattle.amqp_resource_session.proofs.Keeping.{here-plain_wanting, keeps-plain, left-plain, keeps-plain_refused, when_known}

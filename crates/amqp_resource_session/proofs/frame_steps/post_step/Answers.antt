@@ -1,5 +1,5 @@
 use Rattle.std.proofs.Common.{ap, subst, ◌∙◌, ◌≤◌, ◌≡◌, refl, List, Ok, Err, length, None}
-use Rattle.amqp_below_layer.specs.Taking.{ChecksGiven}
+use Rattle.amqp_below_layer.specs.OneFrame.{ChecksGiven}
 use Rattle.amqp_txn_types.specs.declared.performatives.Frame.{Frame}
 use Rattle.amqp_txn_types.specs.Presumptive.{answered_under}
 use Rattle.amqp_resource_log.specs.Live.{kept}
