@@ -11,4 +11,4 @@ Managed = List (TransactionId × List TxnWorkFrame)
 
 -- the work under an id, where it is held
 abbrev pub work_under : Managed → TransactionId → Option (List TxnWorkFrame)
-work_under all t = lookup (same_id t) all
+work_under all id = lookup (same_id id) all

@@ -21,15 +21,15 @@ use Rattle.amqp_resource_session.specs.Session.{FitsTogether, told_of}
 
 -- the clauses of a run of these steps, each by its name
 pub record DriveSays {S G : Type 0} (told : S → Told) (sure : Bool) (next : G → ℕ → TransactionId)
-    (starts : G → Option (ℕ → TransactionId)) (old new : TxnSession S) (before after : G)
+    (starts : G → Option (ℕ → TransactionId)) (old new : TxnSession S) (old_source new_source : G)
     (all : List Step) (result : Driven) : Type 0 where
   -- The record: each entry is an answer of those before it, to the first of the steps, with the
   -- source's next ids.
   pub legal : IsLegal result.entries
   pub at : result.at ≡ length result.entries
   pub steps : steps_of result.entries ≡ take result.at all
-  pub drew : Drew (next before) (next after) (drawn_of result.entries)
-  pub start : starts after ≡ starts before
+  pub drew : Drew (next old_source) (next new_source) (drawn_of result.entries)
+  pub start : starts new_source ≡ starts old_source
   -- The stop: Done exactly where every step has its entry, and each other one by the next step.
   pub done : (result.stop ≡ stops.Done) ↔ (steps_of result.entries ≡ all)
   pub cause : StopCause all result.entries result.stop

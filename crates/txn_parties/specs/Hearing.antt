@@ -17,7 +17,7 @@ use Rattle.txn_parties.specs.Items.{or_else}
 
 -- the delivery state that stands for a reply (4.5.5, Declared; 4.5.8, Transaction Error)
 abbrev pub state_of : Reply → ReplyState
-state_of (replies.Declared t) = states.Declared t
+state_of (replies.Declared id) = states.Declared id
 state_of (replies.Accepted echoes) = states.Accepted
 state_of (replies.Rejected error text) = states.Rejected error text
 state_of _ = states.Closed
@@ -29,15 +29,15 @@ asked_by false = asked.Commit
 
 -- what is put back for an item: the answer to a declare or a discharge, else nothing
 abbrev pub answers : Item → Reply → List Answered
-answers (items.Declare x k) reply =
-    record { txn = x; asked = asked.Declare; state = state_of reply } ∷ []
-answers (items.Discharge x k t rollback) reply =
-    record { txn = x; asked = asked_by rollback; state = state_of reply } ∷ []
+answers (items.Declare number link) reply =
+    record { txn = number; asked = asked.Declare; state = state_of reply } ∷ []
+answers (items.Discharge number link id rollback) reply =
+    record { txn = number; asked = asked_by rollback; state = state_of reply } ∷ []
 answers _ reply = []
 
 -- the id that the answer to a declare gives
 abbrev pub declared_id : Asked → ReplyState → Option TransactionId
-declared_id asked.Declare (states.Declared t) = Some t
+declared_id asked.Declare (states.Declared id) = Some id
 declared_id _ _ = None
 
 -- what the answer to a discharge says
@@ -50,17 +50,20 @@ verdict _ _ = None
 
 -- the id that the transaction was told among these answers
 abbrev pub id_in : ℕ → List Answered → Option TransactionId
-id_in x [] = None
-id_in x (a ∷ more) = or_else (cond (x == a.txn) (declared_id a.asked a.state) None) (id_in x more)
+id_in number [] = None
+id_in number (answered ∷ more) =
+    or_else (cond (number == answered.txn) (declared_id answered.asked answered.state) None)
+    (id_in number more)
 
 -- what the answer to its discharge said, where there is one among these
 abbrev pub verdict_in : ℕ → List Answered → Option Heard
-verdict_in x [] = None
-verdict_in x (a ∷ more) =
-    or_else (cond (x == a.txn) (verdict a.asked a.state) None) (verdict_in x more)
+verdict_in number [] = None
+verdict_in number (answered ∷ more) =
+    or_else (cond (number == answered.txn) (verdict answered.asked answered.state) None)
+    (verdict_in number more)
 
 -- what was heard, by the id that was told and by what its discharge was answered
 abbrev pub heard_by : Option TransactionId → Option Heard → Heard
-heard_by None v = hearings.Undeclared
-heard_by (Some t) None = hearings.Nothing
-heard_by (Some t) (Some h) = h
+heard_by None answer = hearings.Undeclared
+heard_by (Some id) None = hearings.Nothing
+heard_by (Some id) (Some heard) = heard
