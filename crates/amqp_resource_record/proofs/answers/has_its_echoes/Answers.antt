@@ -1,6 +1,6 @@
 use Rattle.std.proofs.Common.{sym, ◌∙◌}
 use Rattle.amqp_resource_record.proofs.Echoing.{echoed-commit}
-use Rattle.amqp_resource_record.proofs.answering.has_its_echoes.Goals as goal
+use Rattle.amqp_resource_record.proofs.answers.has_its_echoes.Goals as goal
 
 pub returns-else-rolls_back : goal.returns-else-rolls_back
 returns-else-rolls_back c =

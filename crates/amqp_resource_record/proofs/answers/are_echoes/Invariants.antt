@@ -2,7 +2,7 @@ use Rattle.std.proofs.Common.{drop}
 use Rattle.std.specs.Prelude.{◌↔◌}
 use Rattle.amqp_resource_record.specs.Hands.{frames_under}
 use Rattle.amqp_below_layer.specs.Windows.{AllWindowsFit}
-use Rattle.amqp_resource_record.proofs.answering.are_echoes.Given as goal
+use Rattle.amqp_resource_record.proofs.answers.are_echoes.Given as goal
 
 abbrev pub invariant-loop-entry : goal.invariant-loop-entry
 invariant-loop-entry l =

@@ -1,6 +1,6 @@
 use Rattle.std.proofs.Common.{sym, ◌∙◌}
 use Rattle.amqp_resource_record.proofs.Echoing.{vetoed-commit}
-use Rattle.amqp_resource_record.proofs.answering.may_be_vetoed.Goals as goal
+use Rattle.amqp_resource_record.proofs.answers.may_be_vetoed.Goals as goal
 
 pub returns-then-not-rolls_back : goal.returns-then-not-rolls_back
 returns-then-not-rolls_back c =

@@ -1,5 +1,5 @@
 use Rattle.amqp_resource_record.proofs.Echoing.{echoes-fit, echoes-unfit, echoes-end}
-use Rattle.amqp_resource_record.proofs.answering.are_echoes.Goals as goal
+use Rattle.amqp_resource_record.proofs.answers.are_echoes.Goals as goal
 
 pub loop-entry-preserved : goal.loop-entry-preserved
 loop-entry-preserved c =

@@ -1,6 +1,6 @@
 use Rattle.std.proofs.Common.{sym, ◌∙◌}
 use Rattle.amqp_resource_record.proofs.Drawing.{draws-other, draws-last}
-use Rattle.amqp_resource_record.proofs.answering.is_drawn_last.Goals as goal
+use Rattle.amqp_resource_record.proofs.answers.is_drawn_last.Goals as goal
 
 pub returns-then-eq : goal.returns-then-eq
 returns-then-eq c =
