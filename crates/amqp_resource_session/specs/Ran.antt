@@ -23,7 +23,7 @@ use Rattle.amqp_resource_record.specs.declared.stop.Stop.TheVariants as stops
 use Rattle.amqp_resource_record.specs.declared.stop.StepError.TheVariants as errors
 use Rattle.amqp_resource_held.specs.Held.{Stands}
 use Rattle.amqp_resource_session.specs.Steps.{IfEnded, IfRefused, IfVeto, IsFirstStop, OnNoCall, StopsSurely, ended_by}
-use Rattle.amqp_resource_session.specs.Stepping.{StepRecords}
+use Rattle.amqp_resource_session.specs.StepClauses.{StepRecords}
 use Rattle.amqp_resource_session.specs.Session.{StopAfter}
 
 -- a run so far: the session stands for its record, below took, opened, refused and vetoed what the

@@ -10,7 +10,7 @@ use Rattle.txn_parties.specs.declared.item.Item.{Item}
 use Rattle.txn_parties.specs.declared.item.Answered.{Answered}
 use Rattle.txn_parties.specs.declared.item.Halt.{Halt}
 use Rattle.txn_parties.specs.Items.{made_in}
-use Rattle.txn_parties.specs.Hearing.{answers, heard_by, id_in, verdict_in}
+use Rattle.txn_parties.specs.BackWire.{answers, heard_by, id_in, verdict_in}
 
 -- the two parties at one moment, since they began
 pub record Exchange : Type 0 where

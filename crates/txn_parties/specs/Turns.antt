@@ -31,7 +31,7 @@ use Rattle.txn_parties.specs.declared.item.Item.TheVariants as items
 use Rattle.txn_parties.specs.declared.item.Answered.{Answered}
 use Rattle.txn_parties.specs.declared.item.Halt.{Halt}
 use Rattle.txn_parties.specs.Items.{controller_in, ends_link, is_discharge, item_ends, step_of}
-use Rattle.txn_parties.specs.Hearing.{answers}
+use Rattle.txn_parties.specs.BackWire.{answers}
 use Rattle.txn_parties.specs.Exchange.{Exchange, forward, id_heard, made, record_of}
 
 -- ---- what a controller puts
