@@ -6,7 +6,7 @@ pub use Rattle.amqp_resource_session.specs.Transacting
 pub use Rattle.amqp_resource_session.specs.Keeping
 pub use Rattle.amqp_resource_session.specs.Leaving
 pub use Rattle.amqp_resource_session.specs.Session
-pub use Rattle.amqp_resource_session.specs.Stepping
+pub use Rattle.amqp_resource_session.specs.StepClauses
 pub use Rattle.amqp_resource_session.specs.Calls
 pub use Rattle.amqp_resource_session.specs.Opening
 pub use Rattle.amqp_resource_session.specs.Passing
@@ -15,7 +15,7 @@ pub use Rattle.amqp_resource_session.specs.Reviewing
 pub use Rattle.amqp_resource_session.specs.SessionLaws
 pub use Rattle.amqp_resource_session.specs.Ran
 pub use Rattle.amqp_resource_session.specs.Drive
-pub use Rattle.amqp_resource_session.specs.Driving
+pub use Rattle.amqp_resource_session.specs.DriveClauses
 pub use Rattle.amqp_resource_accepted.specs.Accepted
 pub use Rattle.amqp_resource_accepted.specs.Accepting
 pub use Rattle.amqp_resource_accepted.specs.Began
@@ -27,13 +27,13 @@ pub use Rattle.amqp_resource_held.specs.Looks
 pub use Rattle.amqp_resource_log.specs.Cells
 pub use Rattle.amqp_resource_log.specs.Index
 pub use Rattle.amqp_resource_coordinator.specs.Posts
-pub use Rattle.amqp_resource_coordinator.specs.Managing
+pub use Rattle.amqp_resource_coordinator.specs.Managed
 pub use Rattle.amqp_resource_coordinator.specs.Lends
 pub use Rattle.amqp_resource_coordinator.specs.Errors
 pub use Rattle.amqp_resource_coordinator.specs.Outcomes
-pub use Rattle.amqp_resource_coordinator.specs.Declaring
-pub use Rattle.amqp_resource_coordinator.specs.Discharging
-pub use Rattle.amqp_resource_coordinator.specs.Delivering
+pub use Rattle.amqp_resource_coordinator.specs.Declare
+pub use Rattle.amqp_resource_coordinator.specs.Discharge
+pub use Rattle.amqp_resource_coordinator.specs.Delivery
 pub use Rattle.amqp_resource_record.specs.Entries
 pub use Rattle.amqp_resource_record.specs.Links
 pub use Rattle.amqp_resource_record.specs.Live

@@ -11,16 +11,16 @@ use Rattle.amqp_txn_types.specs.Ids.{same_id}
 
 -- the id is among those held
 abbrev pub is_held : List TransactionId → TransactionId → Bool
-is_held held t = list_any (same_id t) held
+is_held held id = list_any (same_id id) held
 
 -- the id is that one
 abbrev pub is_that : Option TransactionId → TransactionId → Bool
-is_that None t = false
-is_that (Some id) t = same_id id t
+is_that None id = false
+is_that (Some own) id = same_id own id
 
 -- the id that was drawn last
 abbrev pub is_last_drawn : List TransactionId → TransactionId → Bool
-is_last_drawn ids t = is_that (slice_get ids (length ids - 1)) t
+is_last_drawn ids id = is_that (slice_get ids (length ids - 1)) id
 
 -- after a declare: an Ok adds the id that was drawn last, an Err leaves what was held
 abbrev pub AfterDeclare : {E : Type 0} → List TransactionId → List TransactionId

@@ -4,7 +4,7 @@ use Rattle.std.specs.Borrow.{Fml, MutBor, LendsSo}
 use Rattle.amqp_txn_types.specs.declared.id.TransactionId.{TransactionId}
 use Rattle.amqp_txn_types.specs.declared.frames.TxnWorkFrame.{TxnWorkFrame}
 use Rattle.amqp_txn_types.specs.Ids.{same_id}
-use Rattle.amqp_resource_coordinator.specs.Managing.{Managed, work_under}
+use Rattle.amqp_resource_coordinator.specs.Managed.{Managed, work_under}
 use Rattle.amqp_resource_coordinator.specs.contracts.transaction_manager.TransactionManager.{the_row}
 use Rattle.amqp_resource_coordinator.specs.contracts.resource_transaction.ResourceTransaction.{the_row as work_row}
 

@@ -1,9 +1,9 @@
 pub mod Posts
-pub mod Managing
+pub mod Managed
 pub mod Lends
 pub mod Errors
 pub mod Outcomes
 pub mod Held
-pub mod Declaring
-pub mod Discharging
-pub mod Delivering
+pub mod Declare
+pub mod Discharge
+pub mod Delivery

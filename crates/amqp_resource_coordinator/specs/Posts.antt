@@ -8,4 +8,4 @@ use Rattle.amqp_txn_types.specs.Presumptive.{presumed_disposition}
 
 -- the presumptive disposition of a transfer under the id
 abbrev pub presumed_of_post : TransactionId → Transfer → Option Disposition
-presumed_of_post t transfer = presumed_disposition transfer.settled transfer.delivery_id t
+presumed_of_post id transfer = presumed_disposition transfer.settled transfer.delivery_id id

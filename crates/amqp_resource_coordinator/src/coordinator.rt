@@ -2,13 +2,13 @@
 
 ghost use Rattle.std.specs.Prelude.{◌≡◌, ◌<◌, cond, true, []};
 ghost use Rattle.indexmap.specs.IndexSet.{spare};
-ghost use Rattle.amqp_txn_types.specs.declared.id.TransactionId.{TransactionId as Id};
+ghost use Rattle.amqp_txn_types.specs.declared.id.TransactionId.{TransactionId};
 ghost use Rattle.amqp_txn_types.specs.Ids.{same_id};
 ghost use Rattle.amqp_txn_codec.specs.Discharges.{is_rollback};
 ghost use Rattle.amqp_resource_coordinator.specs.Held.{AfterDeclare, AfterDischarge, is_held};
-ghost use Rattle.amqp_resource_coordinator.specs.Declaring.{Allocation, AnswersDeclare};
-ghost use Rattle.amqp_resource_coordinator.specs.Discharging.{AnswersByKind, AnswersDischarge, Commit, Rollback, discharged_by};
-ghost use Rattle.amqp_resource_coordinator.specs.Delivering.{AnswersDelivery};
+ghost use Rattle.amqp_resource_coordinator.specs.Declare.{Allocation, AnswersDeclare};
+ghost use Rattle.amqp_resource_coordinator.specs.Discharge.{AnswersByKind, AnswersDischarge, Commit, Rollback, discharged_by};
+ghost use Rattle.amqp_resource_coordinator.specs.Delivery.{AnswersDelivery};
 
 use crate::errors::{CoordinatorError, DischargeError};
 use crate::outcomes::CoordinatorReply;
@@ -34,9 +34,9 @@ pub struct TxnCoordinator {
 
 impl Model for TxnCoordinator {
     ghost use Rattle.std.specs.Prelude.{List};
-    ghost use Rattle.amqp_txn_types.specs.declared.id.TransactionId.{TransactionId as Id};
+    ghost use Rattle.amqp_txn_types.specs.declared.id.TransactionId.{TransactionId};
 
-    ghost Value = { List Id };
+    ghost Value = { List TransactionId };
 
     ghost view = { λ c. c.held.keys };
 }
@@ -158,7 +158,7 @@ impl TxnCoordinator {
 /// Holds an id, for which there is room.
 fn keep(held: &mut IndexSet<TransactionId>, txn_id: TransactionId)
     requires room { 0 < spare held.old }
-    ensures { (t : Id) → is_held held.new.keys t ≡ cond (same_id txn_id t) true
+    ensures { (t : TransactionId) → is_held held.new.keys t ≡ cond (same_id txn_id t) true
         (is_held held.old.keys t) }
 {
     match held.insert(txn_id) {

@@ -22,9 +22,9 @@ pub struct ResourceTransaction {
 
 impl Model for ResourceTransaction {
     ghost use Rattle.std.specs.Prelude.{List};
-    ghost use Rattle.amqp_txn_types.specs.declared.frames.TxnWorkFrame.{TxnWorkFrame as Work};
+    ghost use Rattle.amqp_txn_types.specs.declared.frames.TxnWorkFrame.{TxnWorkFrame};
 
-    ghost Value = { List Work };
+    ghost Value = { List TxnWorkFrame };
 
     ghost view = { λ t. t.frames.items };
 }

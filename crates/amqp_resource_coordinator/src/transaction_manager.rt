@@ -2,9 +2,9 @@
 
 ghost use Rattle.std.specs.Prelude.{◌≡◌, cond, [], None, Some, option_map, OnOk, OnErr};
 ghost use Rattle.std.specs.Borrow.{sem};
-ghost use Rattle.amqp_txn_types.specs.declared.id.TransactionId.{TransactionId as Id};
+ghost use Rattle.amqp_txn_types.specs.declared.id.TransactionId.{TransactionId};
 ghost use Rattle.amqp_txn_types.specs.Ids.{same_id};
-ghost use Rattle.amqp_resource_coordinator.specs.Managing.{work_under};
+ghost use Rattle.amqp_resource_coordinator.specs.Managed.{work_under};
 
 use crate::resource_transaction::ResourceTransaction;
 use amqp_txn_types::{NoMemory, TransactionId};
@@ -20,7 +20,7 @@ pub struct TransactionManager {
 }
 
 impl Model for TransactionManager {
-    ghost use Rattle.amqp_resource_coordinator.specs.Managing.{Managed};
+    ghost use Rattle.amqp_resource_coordinator.specs.Managed.{Managed};
 
     ghost Value = { Managed };
 
@@ -32,7 +32,7 @@ impl TransactionManager {
 
     /// No transaction. It takes no memory; later growth takes it from `alloc`.
     pub fn new(alloc: Global) -> Self
-        ensures { (t : Id) → work_under result t ≡ None }
+        ensures { (t : TransactionId) → work_under result t ≡ None }
     {
         TransactionManager {
             transactions: IndexMap::new(alloc),
@@ -47,8 +47,8 @@ impl TransactionManager {
     /// The id isn't held.
     pub fn insert(&mut self, txn_id: TransactionId) -> Result<(), NoMemory>
         requires absent { work_under self.old txn_id ≡ None }
-        ensures ok { OnOk result ((t : Id) → work_under self.new t ≡ cond (same_id txn_id t)
-            (Some []) (work_under self.old t)) }
+        ensures ok { OnOk result ((t : TransactionId) → work_under self.new t
+            ≡ cond (same_id txn_id t) (Some []) (work_under self.old t)) }
         ensures err { OnErr result (self.new ≡ self.old) }
     {
         match self
@@ -71,8 +71,8 @@ impl TransactionManager {
     /// Takes a transaction out, with its work; `None` exactly where the id isn't held.
     pub fn remove(&mut self, txn_id: &TransactionId) -> Option<ResourceTransaction>
         ensures value { result ≡ work_under self.old txn_id.now }
-        ensures removed { (t : Id) → work_under self.new t ≡ cond (same_id txn_id.now t) None
-            (work_under self.old t) }
+        ensures removed { (t : TransactionId) → work_under self.new t
+            ≡ cond (same_id txn_id.now t) None (work_under self.old t) }
     {
         self.transactions.swap_remove(txn_id)
     }

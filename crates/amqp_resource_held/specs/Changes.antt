@@ -26,23 +26,23 @@ pub record Attaches (old new : View) (link : ℕ) : Type 0 where
   pub opened : new.opened ≡ old.opened + 1
 
 -- a link is open no more, the ids that it declared aren't live, and all else stays
-pub record Closes (k : ℕ) (old new : View) : Type 0 where
-  pub live : (t : TransactionId) → new.live t ≡ unless_on k (old.live t)
-  pub links : (j : ℕ) → new.links j ≡ cond (k == j) false (old.links j)
+pub record Closes (link : ℕ) (old new : View) : Type 0 where
+  pub live : (t : TransactionId) → new.live t ≡ unless_on link (old.live t)
+  pub links : (j : ℕ) → new.links j ≡ cond (link == j) false (old.links j)
   pub opened : new.opened ≡ old.opened
 
 -- an id was declared: it is the last drawn, and the first of them that wasn't live; it has the link
 -- and no frames, and all else stays
-pub record Declares (k : ℕ) (old new : View) (drawn : List TransactionId) (id : TransactionId)
+pub record Declares (link : ℕ) (old new : View) (drawn : List TransactionId) (id : TransactionId)
     : Type 0 where
   pub unused : DrewUnused old.live drawn id
-  pub live : (t : TransactionId) → new.live t ≡ cond (same_id t id) (Some (Some k, []))
+  pub live : (t : TransactionId) → new.live t ≡ cond (same_id t id) (Some (Some link, []))
       (old.live t)
   pub links : SameLinks old new
 
 -- a live id that the link declared is live no more, and all else stays
-pub record Ends (k : ℕ) (old new : View) (id : TransactionId) : Type 0 where
-  pub held : is_held_in old k id ≡ true
+pub record Ends (link : ℕ) (old new : View) (id : TransactionId) : Type 0 where
+  pub held : is_held_in old link id ≡ true
   pub live : (t : TransactionId) → new.live t ≡ cond (same_id t id) None (old.live t)
   pub links : SameLinks old new
 
@@ -65,6 +65,6 @@ pub record Ended (old new : Held) (id : TransactionId) : Type 0 where
 
 -- what is kept fits together: the ids of each link are the live ids that were declared on it, and
 -- no open link has the number of one that is yet to be opened
-pub record Fits (h : Held) : Type 0 where
-  pub tied : Tied h
-  pub links : (k : ℕ) → h.opened ≤ k → is_in h.links.entries k ≡ false
+pub record Fits (held : Held) : Type 0 where
+  pub tied : Tied held
+  pub links : (k : ℕ) → held.opened ≤ k → is_in held.links.entries k ≡ false

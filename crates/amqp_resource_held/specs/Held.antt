@@ -20,41 +20,41 @@ OpenLinks S = List (ℕ × HashSet TransactionId S)
 
 -- what is kept, without that of one id
 abbrev pub kept_without : TransactionId → Live → TransactionId → Option Kept
-kept_without u live t = cond (same_id t u) None (kept live t)
+kept_without ended live id = cond (same_id id ended) None (kept live id)
 
 -- something is kept, and this link declared it
 abbrev pub is_kept_on : ℕ → Option Kept → Bool
-is_kept_on k None = false
-is_kept_on k (Some kept) = is_link k kept.0
+is_kept_on link None = false
+is_kept_on link (Some kept) = is_link link kept.0
 
 -- what is kept, unless it was declared on the link
 abbrev pub unless_on : ℕ → Option Kept → Option Kept
-unless_on k None = None
-unless_on k (Some kept) = cond (is_link k kept.0) None (Some kept)
+unless_on link None = None
+unless_on link (Some kept) = cond (is_link link kept.0) None (Some kept)
 
 -- the ids of an open link
 abbrev pub ids_on : {S : Type 0} → OpenLinks S → ℕ → Option (List TransactionId)
-ids_on links k = option_map keys (lookup (nat_eq k) links)
+ids_on links link = option_map keys (lookup (nat_eq link) links)
 
 -- the link is open
 abbrev pub is_in : {S : Type 0} → OpenLinks S → ℕ → Bool
-is_in links k = is_some (ids_on links k)
+is_in links link = is_some (ids_on links link)
 
 -- the id is among those of a link
 abbrev pub is_among : TransactionId → Option (List TransactionId) → Bool
-is_among t None = false
-is_among t (Some ids) = list_any (same_id t) ids
+is_among id None = false
+is_among id (Some ids) = list_any (same_id id) ids
 
 -- the ids of each link are the live ids that were declared on it
 abbrev pub Tied : Held → Type 0
-Tied h =
-    (k : ℕ) (t : TransactionId) → is_among t (ids_on h.links.entries k) ≡ is_kept_on k
-    (kept h.work t)
+Tied held =
+    (k : ℕ) (t : TransactionId) → is_among t (ids_on held.links.entries k) ≡ is_kept_on k
+    (kept held.work t)
 
 -- there is room for one more live id, and for one more id of the link
-pub record HasRoom (h : Held) (k : ℕ) : Type 0 where
-  pub live : HasPlace h.work
-  pub ids : IfSome (lookup (nat_eq k) h.links.entries) (λ ids. 0 < spare_ids ids)
+pub record HasRoom (held : Held) (link : ℕ) : Type 0 where
+  pub live : HasPlace held.work
+  pub ids : IfSome (lookup (nat_eq link) held.links.entries) (λ ids. 0 < spare_ids ids)
 
 -- what is kept is as it was
 pub record SameHeld (old new : Held) : Type 0 where
@@ -64,13 +64,13 @@ pub record SameHeld (old new : Held) : Type 0 where
 
 -- what the record says that is kept for an id: the link that declared it and its frames since
 abbrev pub kept_by : List Entry → TransactionId → Option Kept
-kept_by r t = cond (is_live r t) (Some (home r t, frames_of r t)) None
+kept_by entries id = cond (is_live entries id) (Some (home entries id, frames_of entries id)) None
 
 -- what is kept stands for the record: the record is legal, each id has what the record says, and so
 -- have the links
-pub record Stands (h : Held) (r : List Entry) : Type 0 where
-  pub legal : IsLegal r
-  pub tied : Tied h
-  pub live : (t : TransactionId) → kept h.work t ≡ kept_by r t
-  pub links : (k : ℕ) → is_in h.links.entries k ≡ is_open r k
-  pub opened : h.opened ≡ attached_count r
+pub record Stands (held : Held) (entries : List Entry) : Type 0 where
+  pub legal : IsLegal entries
+  pub tied : Tied held
+  pub live : (t : TransactionId) → kept held.work t ≡ kept_by entries t
+  pub links : (k : ℕ) → is_in held.links.entries k ≡ is_open entries k
+  pub opened : held.opened ≡ attached_count entries

@@ -21,24 +21,24 @@ frames_for work (Some ids) = sum_by (λ t. length (frames_kept (kept work t))) i
 
 -- how many frames are kept for the ids of a link
 abbrev pub frames_on : Held → ℕ → ℕ
-frames_on h k = frames_for h.work (ids_on h.links.entries k)
+frames_on held link = frames_for held.work (ids_on held.links.entries link)
 
 -- how many frames a message on an open link ends: a discharge those of its id, where that was
 -- declared on the link; one that closes the link those of all its ids; and any other none
 abbrev pub message_ends : Held → ℕ → Option ControlMessageBody → ℕ
-message_ends h k None = frames_on h k
-message_ends h k (Some (messages.Declare declare)) = 0
-message_ends h k (Some (messages.Discharge discharge)) =
-    cond (is_kept_on k (kept h.work discharge.txn_id))
-    (length (frames_kept (kept h.work discharge.txn_id))) 0
+message_ends held link None = frames_on held link
+message_ends held link (Some (messages.Declare declare)) = 0
+message_ends held link (Some (messages.Discharge discharge)) =
+    cond (is_kept_on link (kept held.work discharge.txn_id))
+    (length (frames_kept (kept held.work discharge.txn_id))) 0
 
 -- how many frames a step ends, at most: those of the id that is discharged, those of all ids of the
 -- link that ends or is closed, or none
 abbrev pub frames_ended : Held → Step → ℕ
-frames_ended h (steps.Control k payload) =
-    cond (is_in h.links.entries k) (message_ends h k (message_of payload)) 0
-frames_ended h (steps.LinkEnd k) = frames_on h k
-frames_ended h _ = 0
+frames_ended held (steps.Control link payload) =
+    cond (is_in held.links.entries link) (message_ends held link (message_of payload)) 0
+frames_ended held (steps.LinkEnd link) = frames_on held link
+frames_ended held _ = 0
 
 -- so many frames ended, and none where memory ran out
 abbrev pub unless_no_memory : {T : Type 0} → Result T StepError → ℕ → ℕ

@@ -18,23 +18,25 @@ pub record View : Type 0 where
 
 -- what a record says, looking back over its entries
 abbrev pub view_of_record : List Entry → View
-view_of_record r = record { live = kept_by r; links = is_open r; opened = attached_count r }
+view_of_record entries =
+    record { live = kept_by entries; links = is_open entries; opened = attached_count entries }
 
 -- what a session keeps
 abbrev pub view_of_held : Held → View
-view_of_held h = record { live = kept h.work; links = is_in h.links.entries; opened = h.opened }
+view_of_held held =
+    record { live = kept held.work; links = is_in held.links.entries; opened = held.opened }
 
 -- the id is live
 abbrev pub is_live_in : View → TransactionId → Bool
-is_live_in v t = is_some (v.live t)
+is_live_in view id = is_some (view.live id)
 
 -- the id is live, and this link declared it
 abbrev pub is_held_in : View → ℕ → TransactionId → Bool
-is_held_in v k t = is_kept_on k (v.live t)
+is_held_in view link id = is_kept_on link (view.live id)
 
 -- the frames under the id
 abbrev pub frames_in : View → TransactionId → List Frame
-frames_in v t = frames_kept (v.live t)
+frames_in view id = frames_kept (view.live id)
 
 -- the same of each id
 abbrev pub SameLive : View → View → Type 0

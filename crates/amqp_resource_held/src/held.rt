@@ -8,7 +8,7 @@ ghost use Rattle.std.specs.Map.{lookup};
 ghost use Rattle.std.specs.Option.{option_map};
 ghost use Rattle.std.specs.HashMap.{spare};
 ghost use Rattle.std.specs.HashSet.{spare as spare_ids};
-ghost use Rattle.amqp_txn_types.specs.declared.id.TransactionId.{TransactionId as Id};
+ghost use Rattle.amqp_txn_types.specs.declared.id.TransactionId.{TransactionId};
 ghost use Rattle.amqp_txn_types.specs.Frames.{stripped};
 ghost use Rattle.amqp_txn_types.specs.Ids.{same_id};
 ghost use Rattle.amqp_resource_log.specs.Live.{frame_count, frames_kept, home_of, kept, owed};
@@ -131,7 +131,7 @@ pub fn make_room(held: &mut Held, link: u64) -> Result<(), NoMemory>
 /// Adds an id to those of its link, for which there is room.
 fn add_id(ids: &mut IndexSet<TransactionId>, id: TransactionId)
     requires { 0 < spare_ids ids.old }
-    ensures { (t : Id) → list_any (same_id t) ids.new.keys ≡ cond (same_id id t) true
+    ensures { (t : TransactionId) → list_any (same_id t) ids.new.keys ≡ cond (same_id id t) true
         (list_any (same_id t) ids.old.keys) }
 {
     let Ok(_) = ids.insert(id) else {
@@ -144,7 +144,7 @@ fn add_on(links: &mut OpenLinks, link: u64, id: TransactionId)
     requires room { IfSome (lookup (nat_eq link) links.old.entries) (λ ids. 0 < spare_ids ids) }
     requires opened { is_in links.old.entries link ≡ true }
     ensures links { (k : ℕ) → is_in links.new.entries k ≡ is_in links.old.entries k }
-    ensures ids { (k : ℕ) → (t : Id) → is_among t (ids_on links.new.entries k) ≡ cond
+    ensures ids { (k : ℕ) → (t : TransactionId) → is_among t (ids_on links.new.entries k) ≡ cond
         (link == k && same_id id t) true (is_among t (ids_on links.old.entries k)) }
 {
     if let Some(ids) = links.get_mut(&link) {
@@ -157,8 +157,8 @@ pub fn declare_on(held: &mut Held, link: u64, id: TransactionId)
     requires room { HasRoom held.old link }
     requires opened { is_in held.old.links.entries link ≡ true }
     requires unused { kept held.old.work id ≡ None }
-    ensures live { (t : Id) → kept held.new.work t ≡ cond (same_id t id) (Some (Some link, []))
-        (kept held.old.work t) }
+    ensures live { (t : TransactionId) → kept held.new.work t
+        ≡ cond (same_id t id) (Some (Some link, [])) (kept held.old.work t) }
     ensures links { (k : ℕ) → is_in held.new.links.entries k ≡ is_in held.old.links.entries k }
     ensures tied { Tied held.old → Tied held.new }
     ensures opened { held.new.opened ≡ held.old.opened }
@@ -170,7 +170,7 @@ pub fn declare_on(held: &mut Held, link: u64, id: TransactionId)
 
 /// Takes an id out of those of its link.
 fn drop_id(ids: &mut IndexSet<TransactionId>, id: TransactionId)
-    ensures { (t : Id) → list_any (same_id t) ids.new.keys ≡ cond (same_id id t) false
+    ensures { (t : TransactionId) → list_any (same_id t) ids.new.keys ≡ cond (same_id id t) false
         (list_any (same_id t) ids.old.keys) }
 {
     let _was_among = ids.swap_remove(&id);
@@ -179,7 +179,7 @@ fn drop_id(ids: &mut IndexSet<TransactionId>, id: TransactionId)
 /// Takes an id out of those of the link that declared it, if one did.
 fn drop_on(links: &mut OpenLinks, home: Option<u64>, id: TransactionId)
     ensures links { (k : ℕ) → is_in links.new.entries k ≡ is_in links.old.entries k }
-    ensures ids { (k : ℕ) → (t : Id) → is_among t (ids_on links.new.entries k) ≡ cond
+    ensures ids { (k : ℕ) → (t : TransactionId) → is_among t (ids_on links.new.entries k) ≡ cond
         (is_link k home && same_id id t) false (is_among t (ids_on links.old.entries k)) }
 {
     let Some(link) = home else {
@@ -231,7 +231,7 @@ pub fn take_work<L: Ledger>(
 
 /// Lets the ids go with what is kept for them.
 fn drop_ids<L: Ledger>(work: &mut LiveWork, ids: &[TransactionId], looks: &mut Looks<L>)
-    ensures kept { (t : Id) → kept work.new t ≡ cond (list_any (same_id t) ids.now) None
+    ensures kept { (t : TransactionId) → kept work.new t ≡ cond (list_any (same_id t) ids.now) None
         (kept work.old t) }
     ensures pays { Pays work.old work.new looks.old looks.new (frames_for work.old (Some ids.now))
         0 }
@@ -243,7 +243,7 @@ fn drop_ids<L: Ledger>(work: &mut LiveWork, ids: &[TransactionId], looks: &mut L
 
 /// Closes a link and lets go what was declared on it.
 pub fn end_link<L: Ledger>(held: &mut Held, link: u64, looks: &mut Looks<L>)
-    ensures live { Tied held.old → (t : Id) → kept held.new.work t ≡ unless_on link
+    ensures live { Tied held.old → (t : TransactionId) → kept held.new.work t ≡ unless_on link
         (kept held.old.work t) }
     ensures links { (k : ℕ) → is_in held.new.links.entries k ≡ cond (link == k) false
         (is_in held.old.links.entries k) }

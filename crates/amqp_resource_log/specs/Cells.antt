@@ -27,60 +27,61 @@ pub record Listing : Type 0 where
 
 -- the cell is live
 abbrev pub is_live_cell : Cell → Bool
-is_live_cell (cells.Live t work) = true
+is_live_cell (cells.Live id work) = true
 is_live_cell cells.Dead = false
 
 -- the cell is dead: its work was taken
 abbrev pub is_dead_cell : Cell → Bool
-is_dead_cell c = not (is_live_cell c)
+is_dead_cell cell = not (is_live_cell cell)
 
 -- the cell is live with this id
 abbrev pub is_under : TransactionId → Cell → Bool
-is_under t (cells.Live u work) = same_id t u
-is_under t cells.Dead = false
+is_under id (cells.Live own work) = same_id id own
+is_under id cells.Dead = false
 
 -- the work of a live cell
 abbrev pub work_of : Cell → Option TxnWorkFrame
-work_of (cells.Live t work) = Some work
+work_of (cells.Live id work) = Some work
 work_of cells.Dead = None
 
 -- the id of a live cell
 abbrev pub id_of : Cell → Option TransactionId
-id_of (cells.Live t work) = Some t
+id_of (cells.Live id work) = Some id
 id_of cells.Dead = None
 
 -- the work of the live cell at a place
 abbrev pub work_in : Option Cell → Option TxnWorkFrame
 work_in None = None
-work_in (Some c) = work_of c
+work_in (Some cell) = work_of cell
 
 abbrev pub work_at : List Cell → ℕ → Option TxnWorkFrame
-work_at cs n = work_in (slice_get cs n)
+work_at list place = work_in (slice_get list place)
 
 -- the frame of a cell that is live with this id
 abbrev pub frame_under : TransactionId → Cell → Option Frame
-frame_under t (cells.Live u work) = cond (same_id t u) (Some (frame_of_work work)) None
-frame_under t cells.Dead = None
+frame_under id (cells.Live own work) = cond (same_id id own) (Some (frame_of_work work)) None
+frame_under id cells.Dead = None
 
 -- ---- an id
 
--- the places of the live cells of an id, rising, counted from n
+-- the places of the live cells of an id, rising, counted from this one
 abbrev pub places_from : ℕ → TransactionId → List Cell → List ℕ
-places_from n t [] = []
-places_from n t (c ∷ cs) =
-    cond (is_under t c) (n ∷ places_from (n + 1) t cs) (places_from (n + 1) t cs)
+places_from place id [] = []
+places_from place id (cell ∷ rest) =
+    cond (is_under id cell) (place ∷ places_from (place + 1) id rest)
+    (places_from (place + 1) id rest)
 
 -- the places of the live cells of an id, rising
 abbrev pub places : Log → TransactionId → List ℕ
-places log t = places_from 0 t log.cells
+places log id = places_from 0 id log.cells
 
 -- the frames that are kept for an id, in the order in which they came
 abbrev pub frames_in : List Cell → TransactionId → List Frame
-frames_in cs t = filter_map (frame_under t) cs
+frames_in list id = filter_map (frame_under id) list
 
 -- the same of the log
 abbrev pub frames_of : Log → TransactionId → List Frame
-frames_of log t = frames_in log.cells t
+frames_of log id = frames_in log.cells id
 
 -- the live ids
 abbrev pub live_ids : Log → List TransactionId
@@ -88,7 +89,7 @@ live_ids log = keys_of log.homes
 
 -- the id is live
 abbrev pub is_live : Log → TransactionId → Bool
-is_live log t = list_any (same_id t) (live_ids log)
+is_live log id = list_any (same_id id) (live_ids log)
 
 -- ---- the log
 
@@ -106,16 +107,16 @@ pub record SameLog (old new : Log) : Type 0 where
 
 -- the log with one more live cell, at its end
 abbrev pub with_arrival : Log → TransactionId → TxnWorkFrame → Log
-with_arrival log t work = record log { cells = log.cells ++ cells.Live t work ∷ [] }
+with_arrival log id work = record log { cells = log.cells ++ cells.Live id work ∷ [] }
 
 -- the log once work came, by whether its id is live and memory was there
 abbrev pub arrived : Result Bool NoMemory → Log → TransactionId → TxnWorkFrame → Log
-arrived (Ok true) log t work = with_arrival log t work
-arrived _ log t work = log
+arrived (Ok true) log id work = with_arrival log id work
+arrived _ log id work = log
 
 -- the log with a dead cell at this place
 abbrev pub without_work : Log → ℕ → Log
-without_work log n = record log { cells = slice_set log.cells n cells.Dead }
+without_work log place = record log { cells = slice_set log.cells place cells.Dead }
 
 -- the log without its dead cells
 abbrev pub closed_up : Log → Log
@@ -134,7 +135,7 @@ after_taken (Some work) frames = frame_of_work work ∷ frames
 
 -- the cells, with a dead one in place of each that is live with this id
 abbrev pub emptied : TransactionId → List Cell → List Cell
-emptied t cs = map (λ c. cond (is_under t c) cells.Dead c) cs
+emptied id list = map (λ c. cond (is_under id c) cells.Dead c) list
 
 -- an id ended, and all its work was taken; all else is as it was
 pub record EndsId (id : TransactionId) (old new : Log) : Type 0 where

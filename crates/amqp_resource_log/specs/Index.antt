@@ -20,32 +20,32 @@ places_in (Some found) = found.places.items
 
 -- the places that are kept for an id
 abbrev pub places_kept : Index → TransactionId → List ℕ
-places_kept index t = places_in (lookup (same_id t) index)
+places_kept index id = places_in (lookup (same_id id) index)
 
 -- the live ids, each with its link
 abbrev pub homes_in : Index → List (TransactionId × Option ℕ)
 homes_in [] = []
-homes_in (e ∷ es) = (e.0, e.1.home) ∷ homes_in es
+homes_in (entry ∷ index) = (entry.0, entry.1.home) ∷ homes_in index
 
 -- with this place after the others, where it was added
 abbrev pub places_added : Result Bool NoMemory → ℕ → List ℕ → List ℕ
-places_added (Ok true) n ms = ms ++ n ∷ []
-places_added _ n ms = ms
+places_added (Ok true) place places = places ++ place ∷ []
+places_added _ place places = places
 
 -- without the first of some places that is this one
 abbrev pub without_place : ℕ → List ℕ → List ℕ
-without_place n [] = []
-without_place n (m ∷ ms) = cond (m == n) ms (m ∷ without_place n ms)
+without_place place [] = []
+without_place place (first ∷ rest) = cond (first == place) rest (first ∷ without_place place rest)
 
 -- without the first place, and with this one after the others
 abbrev pub moved_to : ℕ → List ℕ → List ℕ
-moved_to n [] = []
-moved_to n (m ∷ ms) = ms ++ n ∷ []
+moved_to place [] = []
+moved_to place (first ∷ rest) = rest ++ place ∷ []
 
 -- the places of one id are what this makes of them, and all else is as it was
-pub record Written (f : List ℕ → List ℕ) (id : TransactionId) (old new : Index) : Type 0 where
+pub record Written (change : List ℕ → List ℕ) (id : TransactionId) (old new : Index) : Type 0 where
   pub places : (t : TransactionId) → places_kept new t
-      ≡ cond (same_id t id) (f (places_kept old t)) (places_kept old t)
+      ≡ cond (same_id t id) (change (places_kept old t)) (places_kept old t)
   pub homes : homes_in new ≡ homes_in old
 
 -- an id was taken out, with its places
@@ -59,6 +59,6 @@ pub record Without (id : TransactionId) (old new : Index) : Type 0 where
 
 -- the index gives, for each live id, the places of its live cells, and no cell is live with
 -- another id; so many cells are dead
-pub record Indexed (cs : List Cell) (index : Index) (dead : ℕ) : Type 0 where
-  pub places : (t : TransactionId) → places_kept index t ≡ places_from 0 t cs
-  pub gone : dead ≡ count_by is_dead_cell cs
+pub record Indexed (list : List Cell) (index : Index) (dead : ℕ) : Type 0 where
+  pub places : (t : TransactionId) → places_kept index t ≡ places_from 0 t list
+  pub gone : dead ≡ count_by is_dead_cell list

@@ -25,7 +25,7 @@ Kept = Option ℕ × List Frame
 
 -- what is kept for an id: nothing for one that isn't live
 abbrev pub kept : Live → TransactionId → Option Kept
-kept live t = option_map (λ home. (home, frames_of live t)) (lookup (same_id t) live.homes)
+kept live id = option_map (λ home. (home, frames_of live id)) (lookup (same_id id) live.homes)
 
 -- the link of what is kept
 abbrev pub home_of : Kept → Option ℕ

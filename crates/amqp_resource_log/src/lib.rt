@@ -26,7 +26,6 @@
 //! cells, of the live ids and of the count of looks.
 #![tactic(auto)]
 
-mod answering;
 mod cell;
 mod cell_list;
 mod index;
@@ -34,10 +33,11 @@ mod live_id;
 mod live_work;
 mod log;
 mod looks;
-mod taking;
+mod posts;
+mod removal;
 
-pub use answering::presumptive;
 pub use cell::Cell;
 pub use live_work::LiveWork;
 pub use log::ArrivalLog;
 pub use looks::Looks;
+pub use posts::presumptive;

@@ -2,7 +2,7 @@
 
 ghost use Rattle.std.specs.Prelude.{◌≡◌, ◌≤◌, ◌+◌, ◌++◌, ◌∷◌, ◌↔◌, [], IsTrue, Some, None, cond, length, map, is_some, vec_capacity, OnOk};
 ghost use Rattle.std.specs.Option.{option_map};
-ghost use Rattle.amqp_txn_types.specs.declared.id.TransactionId.{TransactionId as Id};
+ghost use Rattle.amqp_txn_types.specs.declared.id.TransactionId.{TransactionId};
 ghost use Rattle.amqp_txn_types.specs.Frames.{stripped};
 ghost use Rattle.amqp_txn_types.specs.Ids.{same_id};
 ghost use Rattle.amqp_txn_types.specs.Works.{frame_of_work};
@@ -36,7 +36,7 @@ impl Model for LiveWork {
 impl LiveWork {
     /// No live id. It takes no memory; later growth takes it from `alloc`.
     pub fn new(alloc: Global) -> Self
-        ensures kept { (t : Id) → kept result t ≡ None }
+        ensures kept { (t : TransactionId) → kept result t ≡ None }
         ensures ids { live_ids result ≡ [] }
         ensures owed { owed result ≡ 0 }
         ensures frames { frame_count result ≡ 0 }
@@ -55,7 +55,7 @@ impl LiveWork {
 
     /// Whether no id is live.
     pub fn is_empty(&self) -> bool
-        ensures { IsTrue result ↔ ((t : Id) → kept self.now t ≡ None) }
+        ensures { IsTrue result ↔ ((t : TransactionId) → kept self.now t ≡ None) }
     {
         self.log.is_empty()
     }
@@ -115,8 +115,8 @@ impl LiveWork {
     pub fn add(&mut self, txn_id: TransactionId, home: Option<u64>)
         requires room { HasPlace self.old }
         requires unused { kept self.old txn_id ≡ None }
-        ensures kept { (t : Id) → kept self.new t ≡ cond (same_id t txn_id) (Some (home, []))
-            (kept self.old t) }
+        ensures kept { (t : TransactionId) → kept self.new t
+            ≡ cond (same_id t txn_id) (Some (home, [])) (kept self.old t) }
         ensures ids { live_ids self.new ≡ live_ids self.old ++ txn_id ∷ [] }
         ensures owed { owed self.new ≡ owed self.old }
         ensures frames { frame_count self.new ≡ frame_count self.old }

@@ -4,7 +4,7 @@ ghost use Rattle.std.specs.Prelude.{◌≡◌, ◌≤◌, ◌<◌, ◌↔◌, Is
 ghost use Rattle.std.specs.HashMap.{spare};
 ghost use Rattle.std.specs.List.{IsDistinct};
 ghost use Rattle.std.specs.Map.{keys_of, lookup};
-ghost use Rattle.amqp_txn_types.specs.declared.id.TransactionId.{TransactionId as Id};
+ghost use Rattle.amqp_txn_types.specs.declared.id.TransactionId.{TransactionId};
 ghost use Rattle.amqp_txn_types.specs.Frames.{stripped};
 ghost use Rattle.amqp_txn_types.specs.Ids.{same_id};
 ghost use Rattle.amqp_resource_log.specs.Cells.{EndsId, SameLog, arrived, closed_up, dead_count, frames_of, is_live_cell, is_live, live_count, live_ids, places, places_from, compacted, with_arrival, without_work, work_at};
@@ -16,7 +16,7 @@ use crate::index::{
 };
 use crate::live_id::LiveId;
 use crate::looks::Looks;
-use crate::taking::{drop_places, strip_places};
+use crate::removal::{drop_places, strip_places};
 use amqp_txn_types::{Frame, NoMemory, TransactionId, TxnWorkFrame};
 use indexmap::IndexMap;
 use std::alloc::Global;
@@ -27,9 +27,10 @@ use std::sync::ledger::Ledger;
 /// Moves the live cells to the front, in their order, and their places with them: one look at each.
 /// Their number is answered.
 fn move_live<L: Ledger>(cells: &mut CellList, index: &mut Index, looks: &mut Looks<L>) -> usize
-    requires { (t : Id) → places_kept index.old.entries t ≡ places_from 0 t cells.old.cells }
+    requires { (t : TransactionId) → places_kept index.old.entries t
+        ≡ places_from 0 t cells.old.cells }
     ensures cells { take result cells.new.cells ≡ filter is_live_cell cells.old.cells }
-    ensures index { (t : Id) → places_kept index.new.entries t
+    ensures index { (t : TransactionId) → places_kept index.new.entries t
         ≡ places_from 0 t (filter is_live_cell cells.old.cells) }
     ensures homes { homes_in index.new.entries ≡ homes_in index.old.entries }
     ensures spare { spare index.new ≡ spare index.old }
@@ -184,7 +185,7 @@ impl ArrivalLog {
         ensures fresh { frames_of self.new txn_id ≡ [] }
         ensures cells { self.new.cells ≡ self.old.cells }
         ensures homes { OnOk result (self.new.homes ≡ self.old.homes ++ (txn_id, home) ∷ []) }
-        ensures found { OnOk result ((t : Id) → lookup (same_id t) self.new.homes
+        ensures found { OnOk result ((t : TransactionId) → lookup (same_id t) self.new.homes
             ≡ cond (same_id txn_id t) (Some home) (lookup (same_id t) self.old.homes)) }
         ensures distinct { IsDistinct same_id (keys_of self.new.homes) }
         ensures err { OnErr result (self.new.homes ≡ self.old.homes) }
@@ -338,7 +339,7 @@ impl ArrivalLog {
     #[inline(always)]
     pub fn compact<L: Ledger>(&mut self, looks: &mut Looks<L>)
         ensures log { self.new ≡ compacted self.old }
-        ensures frames { (t : Id) → frames_of self.new t ≡ frames_of self.old t }
+        ensures frames { (t : TransactionId) → frames_of self.new t ≡ frames_of self.old t }
         ensures homes { self.new.homes ≡ self.old.homes }
         ensures room { self.new.room ≡ self.old.room }
         ensures live { live_count self.new ≡ live_count self.old }

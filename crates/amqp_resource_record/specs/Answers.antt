@@ -30,13 +30,14 @@ use Rattle.amqp_txn_codec.specs.Discharges.{is_rollback}
 --   a frame under a live id        the presumptive disposition, or nothing
 --   a coordinator attach           the next link number, or a refusal
 abbrev pub AnswerFrame : List Entry → Frame → Option TransactionId → Reply → Type 0
-AnswerFrame r frame None (replies.Frames a) =
-    (is_coordinator_attach frame ≡ false) × WindowFits frame a
-AnswerFrame r frame (Some t) (replies.Frames a) =
-    (is_live r t ≡ true) × (a ≡ record { given = answered_under t frame; window = None })
-AnswerFrame r frame None (replies.Attached link given) =
-    (is_coordinator_attach frame ≡ true) × (link ≡ attached_count r)
-AnswerFrame r frame None (replies.AttachRefused error) = is_coordinator_attach frame ≡ true
+AnswerFrame entries frame None (replies.Frames answers) =
+    (is_coordinator_attach frame ≡ false) × WindowFits frame answers
+AnswerFrame entries frame (Some id) (replies.Frames answers) =
+    (is_live entries id ≡ true)
+    × (answers ≡ record { given = answered_under id frame; window = None })
+AnswerFrame entries frame None (replies.Attached link given) =
+    (is_coordinator_attach frame ≡ true) × (link ≡ attached_count entries)
+AnswerFrame entries frame None (replies.AttachRefused error) = is_coordinator_attach frame ≡ true
 AnswerFrame _ _ _ _ = ⊥
 
 -- the replies to the end of a link, by whether it is open
@@ -47,29 +48,30 @@ AnswerLinkEnd _ _ = ⊥
 
 -- the draws of a declare: an id that isn't live, after up to 15 that are
 abbrev pub Draws : List Entry → List TransactionId → TransactionId → Type 0
-Draws r d t =
-    (before : List TransactionId) × (d ≡ before ++ t ∷ []) × (length d ≤ 16)
-    × (list_all (is_live r) before ≡ true) × (is_live r t ≡ false)
+Draws entries drawn id =
+    (before : List TransactionId) × (drawn ≡ before ++ id ∷ []) × (length drawn ≤ 16)
+    × (list_all (is_live entries) before ≡ true) × (is_live entries id ≡ false)
 
 -- the replies to a declare, by its global id (4.2, Declaring a Transaction; 4.5.2, Declare):
 --   with a global id               rejected, nothing drawn
 --   without one                    the drawn id, or rejected where 16 draws are all live
 abbrev pub AnswerDeclare : List Entry → Option TransactionId → List TransactionId → Reply → Type 0
-AnswerDeclare r (Some global) d (replies.Rejected transaction_errors.UnknownId texts.GlobalId) =
-    d ≡ []
-AnswerDeclare r None d (replies.Declared t) = Draws r d t
-AnswerDeclare r None d (replies.Rejected transaction_errors.UnknownId texts.IdsRepeat) =
-    (length d ≡ 16) × (list_all (is_live r) d ≡ true)
+AnswerDeclare entries (Some global) drawn
+    (replies.Rejected transaction_errors.UnknownId texts.GlobalId) =
+    drawn ≡ []
+AnswerDeclare entries None drawn (replies.Declared id) = Draws entries drawn id
+AnswerDeclare entries None drawn (replies.Rejected transaction_errors.UnknownId texts.IdsRepeat) =
+    (length drawn ≡ 16) × (list_all (is_live entries) drawn ≡ true)
 AnswerDeclare _ _ _ _ = ⊥
 
 -- a rollback has no echoes, a commit has one for each frame of the transaction
 abbrev pub Echoed : List Entry → TransactionId → Bool → List Answers → Type 0
-Echoed r t true echoes = echoes ≡ []
-Echoed r t false echoes = AllWindowsFit (frames_of r t) echoes
+Echoed entries id true echoes = echoes ≡ []
+Echoed entries id false echoes = AllWindowsFit (frames_of entries id) echoes
 
 -- a commit may be vetoed where the transaction has a frame
 abbrev pub MayBeVetoed : List Entry → TransactionId → Bool → Type 0
-MayBeVetoed r t rollback = (rollback ≡ false) × (1 ≤ length (frames_of r t))
+MayBeVetoed entries id rollback = (rollback ≡ false) × (1 ≤ length (frames_of entries id))
 
 -- the replies to a discharge (4.3, Discharging a Transaction; 4.5.8, Transaction Error):
 --   of an id that isn't live, or has another home          rejected as unknown
@@ -77,36 +79,40 @@ MayBeVetoed r t rollback = (rollback ≡ false) × (1 ≤ length (frames_of r t)
 --   or, where it is a commit with a frame                  rejected, and rolled back
 abbrev pub AnswerDischarge : List Entry → ℕ → TransactionId → Option Bool → List TransactionId
     → Reply → Type 0
-AnswerDischarge r k t fail d (replies.Rejected transaction_errors.UnknownId texts.Absent) =
-    (is_held_on r k t ≡ false) × (d ≡ [])
-AnswerDischarge r k t fail d (replies.Rejected transaction_errors.Rollback texts.Absent) =
-    (is_held_on r k t ≡ true) × (d ≡ []) × MayBeVetoed r t (is_rollback fail)
-AnswerDischarge r k t fail d (replies.Accepted echoes) =
-    (is_held_on r k t ≡ true) × (d ≡ []) × Echoed r t (is_rollback fail) echoes
+AnswerDischarge entries link id fail drawn
+    (replies.Rejected transaction_errors.UnknownId texts.Absent) =
+    (is_held_on entries link id ≡ false) × (drawn ≡ [])
+AnswerDischarge entries link id fail drawn
+    (replies.Rejected transaction_errors.Rollback texts.Absent) =
+    (is_held_on entries link id ≡ true) × (drawn ≡ []) × MayBeVetoed entries id (is_rollback fail)
+AnswerDischarge entries link id fail drawn (replies.Accepted echoes) =
+    (is_held_on entries link id ≡ true) × (drawn ≡ []) × Echoed entries id (is_rollback fail) echoes
 AnswerDischarge _ _ _ _ _ _ = ⊥
 
 -- the replies on an open link, by the message: a payload that spells none closes the link
 abbrev pub AnswerMessage : List Entry → ℕ → Option ControlMessageBody → List TransactionId → Reply
     → Type 0
-AnswerMessage r k None d (replies.LinkClosed amqp_errors.NotAllowed) = d ≡ []
-AnswerMessage r k None d _ = ⊥
-AnswerMessage r k (Some (messages.Declare declare)) d reply =
-    AnswerDeclare r declare.global_id d reply
-AnswerMessage r k (Some (messages.Discharge discharge)) d reply =
-    AnswerDischarge r k discharge.txn_id discharge.fail d reply
+AnswerMessage entries link None drawn (replies.LinkClosed amqp_errors.NotAllowed) = drawn ≡ []
+AnswerMessage entries link None drawn _ = ⊥
+AnswerMessage entries link (Some (messages.Declare declare)) drawn reply =
+    AnswerDeclare entries declare.global_id drawn reply
+AnswerMessage entries link (Some (messages.Discharge discharge)) drawn reply =
+    AnswerDischarge entries link discharge.txn_id discharge.fail drawn reply
 
 -- the replies to a control message, by whether its link is open
 abbrev pub AnswerControl : List Entry → ℕ → Bool → Option ControlMessageBody → List TransactionId
     → Reply → Type 0
-AnswerControl r k false m d replies.NoLink = d ≡ []
-AnswerControl r k false m d _ = ⊥
-AnswerControl r k true m d reply = AnswerMessage r k m d reply
+AnswerControl entries link false message drawn replies.NoLink = drawn ≡ []
+AnswerControl entries link false message drawn _ = ⊥
+AnswerControl entries link true message drawn reply = AnswerMessage entries link message drawn reply
 
 -- answer: after the record, the step may be given this reply, having drawn these ids (4.2
 -- declaring, 4.3 discharging, 4.4 transactional work)
 abbrev pub Answer : List Entry → Step → List TransactionId → Reply → Type 0
-Answer r (steps.Frame frame) d reply = (d ≡ []) × AnswerFrame r frame (txn frame) reply
-Answer r (steps.LinkEnd k) d reply = (d ≡ []) × AnswerLinkEnd (is_open r k) reply
-Answer r (steps.Control k payload) d reply =
-    AnswerControl r k (is_open r k) (message_of payload) d reply
-Answer r _ d reply = ⊥
+Answer entries (steps.Frame frame) drawn reply =
+    (drawn ≡ []) × AnswerFrame entries frame (txn frame) reply
+Answer entries (steps.LinkEnd link) drawn reply =
+    (drawn ≡ []) × AnswerLinkEnd (is_open entries link) reply
+Answer entries (steps.Control link payload) drawn reply =
+    AnswerControl entries link (is_open entries link) (message_of payload) drawn reply
+Answer entries _ drawn reply = ⊥

@@ -9,18 +9,21 @@ use Rattle.amqp_resource_record.specs.Live.{home, since}
 
 -- the id has a home, which is open
 abbrev pub HasOpenHome : List Entry → TransactionId → Type 0
-HasOpenHome r t = (k : ℕ) × (home r t ≡ Some k) × (is_open r k ≡ true)
+HasOpenHome entries id = (link : ℕ) × (home entries id ≡ Some link) × (is_open entries link ≡ true)
 
 -- the entry is a control message on the link, answered with the declare of the id
 abbrev pub DeclaresOn : TransactionId → ℕ → Entry → Type 0
-DeclaresOn t k e =
-    (payload : List ℕ) × (e.step ≡ steps.Control k payload) × (e.reply ≡ replies.Declared t)
+DeclaresOn id link entry =
+    (payload : List ℕ) × (entry.step ≡ steps.Control link payload)
+    × (entry.reply ≡ replies.Declared id)
 
 -- the entry at the place declares the id on its home
 abbrev pub DeclaredAt : List Entry → TransactionId → ℕ → Type 0
-DeclaredAt r t n =
-    (k : ℕ) × (e : Entry) × (home r t ≡ Some k) × (slice_get r n ≡ Some e) × DeclaresOn t k e
+DeclaredAt entries id place =
+    (link : ℕ) × (entry : Entry) × (home entries id ≡ Some link)
+    × (slice_get entries place ≡ Some entry) × DeclaresOn id link entry
 
 -- the id was declared, and the entry that did so last declares it on its home
 abbrev pub DeclaredAtHome : List Entry → TransactionId → Type 0
-DeclaredAtHome r t = (n : ℕ) × (since r t ≡ Some n) × DeclaredAt r t n
+DeclaredAtHome entries id =
+    (place : ℕ) × (since entries id ≡ Some place) × DeclaredAt entries id place

@@ -7,8 +7,8 @@ use Rattle.amqp_resource_record.specs.Entries.{attaches, closes, is_attached}
 -- open link: an entry attached it, and no entry ended or closed it (4.1, Transactional Messaging;
 -- 4.5.1, Coordinator). Numbers never come again in a legal record, so "no entry" is "no later one".
 unfoldable pub is_open : List Entry → ℕ → Bool
-is_open r k = list_any (attaches k) r && not (list_any (closes k) r)
+is_open entries link = list_any (attaches link) entries && not (list_any (closes link) entries)
 
 -- how many links were attached, which is the number of the next one
 abbrev pub attached_count : List Entry → ℕ
-attached_count r = count_by (λ (e : Entry). is_attached e.reply) r
+attached_count entries = count_by (λ (e : Entry). is_attached e.reply) entries

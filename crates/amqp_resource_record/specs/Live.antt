@@ -9,79 +9,83 @@ use Rattle.amqp_resource_record.specs.Links.{is_open}
 
 -- the last place of a list with one entry more at its front, which passes or doesn't
 abbrev pub next_place : Bool → Option ℕ → Option ℕ
-next_place here (Some n) = Some (suc n)
+next_place here (Some place) = Some (suc place)
 next_place here None = cond here (Some 0) None
 
 -- the place of the last entry that passes
 abbrev pub last_place : (Entry → Bool) → List Entry → Option ℕ
-last_place p [] = None
-last_place p (e ∷ r) = next_place (p e) (last_place p r)
+last_place passes [] = None
+last_place passes (entry ∷ entries) = next_place (passes entry) (last_place passes entries)
 
--- the places of the entries that pass, rising, counted from n
+-- the places of the entries that pass, rising, counted from this place
 abbrev pub places_from : ℕ → (Entry → Bool) → List Entry → List ℕ
-places_from n p [] = []
-places_from n p (e ∷ r) = cond (p e) (n ∷ places_from (n + 1) p r) (places_from (n + 1) p r)
+places_from place passes [] = []
+places_from place passes (entry ∷ entries) =
+    cond (passes entry) (place ∷ places_from (place + 1) passes entries)
+    (places_from (place + 1) passes entries)
 
 -- since: the place of the last entry that declared the id (4.2, Declaring a Transaction)
 unfoldable pub since : List Entry → TransactionId → Option ℕ
-since r t = last_place (declares t) r
+since entries id = last_place (declares id) entries
 
 -- the link that the entry names, where there is an entry and it names one
 abbrev pub link_of_entry : Option Entry → Option ℕ
 link_of_entry None = None
-link_of_entry (Some e) = step_link e.step
+link_of_entry (Some entry) = step_link entry.step
 
 -- the link of the entry at a place
 abbrev pub home_from : List Entry → Option ℕ → Option ℕ
-home_from r None = None
-home_from r (Some n) = link_of_entry (slice_get r n)
+home_from entries None = None
+home_from entries (Some place) = link_of_entry (slice_get entries place)
 
 -- home: the link on which the id was last declared, where it was (4.2, Declaring a Transaction)
 unfoldable pub home : List Entry → TransactionId → Option ℕ
-home r t = home_from r (since r t)
+home entries id = home_from entries (since entries id)
 
 -- there is a link, and it is open
 abbrev pub is_open_at : List Entry → Option ℕ → Bool
-is_open_at r None = false
-is_open_at r (Some k) = is_open r k
+is_open_at entries None = false
+is_open_at entries (Some link) = is_open entries link
 
 -- there is a link, and it is this one
 abbrev pub is_link : ℕ → Option ℕ → Bool
-is_link k None = false
-is_link k (Some j) = j == k
+is_link link None = false
+is_link link (Some home) = home == link
 
 -- no entry after the place discharges the id
 abbrev pub undischarged_from : List Entry → TransactionId → Option ℕ → Bool
-undischarged_from r t None = false
-undischarged_from r t (Some n) = not (list_any (discharges t) (drop (suc n) r))
+undischarged_from entries id None = false
+undischarged_from entries id (Some place) =
+    not (list_any (discharges id) (drop (suc place) entries))
 
 -- declared, and not discharged since (4.3, Discharging a Transaction)
 unfoldable pub undischarged : List Entry → TransactionId → Bool
-undischarged r t = undischarged_from r t (since r t)
+undischarged entries id = undischarged_from entries id (since entries id)
 
 -- live id: declared, not discharged since, and its home is open; the end of a control link rolls
 -- back what it declared (4.1, Transactional Messaging)
 unfoldable pub is_live : List Entry → TransactionId → Bool
-is_live r t = undischarged r t && is_open_at r (home r t)
+is_live entries id = undischarged entries id && is_open_at entries (home entries id)
 
 -- the id is live and the link is its home, so a discharge on this link is for it (4.3)
 abbrev pub is_held_on : List Entry → ℕ → TransactionId → Bool
-is_held_on r k t = is_live r t && is_link k (home r t)
+is_held_on entries link id = is_live entries id && is_link link (home entries id)
 
 -- the places after this one whose step is a frame under the id
 abbrev pub frame_places_from : List Entry → TransactionId → Option ℕ → List ℕ
-frame_places_from r t None = []
-frame_places_from r t (Some n) = places_from (suc n) (is_under t) (drop (suc n) r)
+frame_places_from entries id None = []
+frame_places_from entries id (Some place) =
+    places_from (suc place) (is_under id) (drop (suc place) entries)
 
 -- the places of the frames under the id since its last declare, rising (4.4, Transactional Work)
 unfoldable pub frame_places : List Entry → TransactionId → List ℕ
-frame_places r t = frame_places_from r t (since r t)
+frame_places entries id = frame_places_from entries id (since entries id)
 
 -- the entries after the place
 abbrev pub entries_from : List Entry → Option ℕ → List Entry
-entries_from r None = []
-entries_from r (Some n) = drop (suc n) r
+entries_from entries None = []
+entries_from entries (Some place) = drop (suc place) entries
 
 -- the entries after the last declare of the id
 unfoldable pub entries_since : List Entry → TransactionId → List Entry
-entries_since r t = entries_from r (since r t)
+entries_since entries id = entries_from entries (since entries id)

@@ -20,8 +20,8 @@ opened_with _ given = []
 
 -- an attached link adds its attach with the frames of the reply
 abbrev pub opened_by : Step → Reply → List (Attach × List Frame)
-opened_by s (replies.Attached link given) = opened_with s given
-opened_by s _ = []
+opened_by step (replies.Attached link given) = opened_with step given
+opened_by step _ = []
 
 -- a frame with the error that it was refused with
 abbrev pub refused_with : Step → SessionInnerError → List Refusal
@@ -30,16 +30,16 @@ refused_with _ error = []
 
 -- a refused attach adds itself with the error
 abbrev pub refused_by : Step → Reply → List Refusal
-refused_by s (replies.AttachRefused error) = refused_with s error
-refused_by s _ = []
+refused_by step (replies.AttachRefused error) = refused_with step error
+refused_by step _ = []
 
 -- what the record opened, in order
 abbrev pub opens : List Entry → List (Attach × List Frame)
-opens r = flat_map (λ e. opened_by e.step e.reply) r
+opens entries = flat_map (λ e. opened_by e.step e.reply) entries
 
 -- what was refused in the record, in order
 abbrev pub refuses : List Entry → List Refusal
-refuses r = flat_map (λ e. refused_by e.step e.reply) r
+refuses entries = flat_map (λ e. refused_by e.step e.reply) entries
 
 -- the reply is a refused attach
 abbrev pub is_attach_refused : Reply → Bool
@@ -48,4 +48,4 @@ is_attach_refused _ = false
 
 -- how many attaches were refused
 abbrev pub attach_refused_count : List Entry → ℕ
-attach_refused_count r = count_by (λ (e : Entry). is_attach_refused e.reply) r
+attach_refused_count entries = count_by (λ (e : Entry). is_attach_refused e.reply) entries

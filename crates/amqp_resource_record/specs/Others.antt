@@ -11,11 +11,11 @@ use Rattle.amqp_txn_types.specs.Ids.{same_id, is_some_id}
 
 -- the message is a discharge of another id, be it a commit or a rollback
 abbrev pub discharges_another : TransactionId → Option ControlMessageBody → Bool
-discharges_another t (Some (messages.Discharge discharge)) = not (same_id t discharge.txn_id)
-discharges_another t _ = false
+discharges_another id (Some (messages.Discharge discharge)) = not (same_id id discharge.txn_id)
+discharges_another id _ = false
 
 -- the step is a frame under another id or under none, or a discharge of another id
 abbrev pub is_of_others : TransactionId → Step → Bool
-is_of_others t (steps.Frame frame) = not (is_some_id t (txn frame))
-is_of_others t (steps.Control k payload) = discharges_another t (message_of payload)
-is_of_others t _ = false
+is_of_others id (steps.Frame frame) = not (is_some_id id (txn frame))
+is_of_others id (steps.Control link payload) = discharges_another id (message_of payload)
+is_of_others id _ = false

@@ -15,24 +15,26 @@ use Rattle.amqp_resource_record.specs.Live.{is_live, is_held_on}
 
 -- a frame under no id, which is plain or a coordinator attach, or a frame under a live id
 abbrev pub ValidFrame : List Entry → Option TransactionId → Type 0
-ValidFrame r None = Unit {0}
-ValidFrame r (Some t) = is_live r t ≡ true
+ValidFrame entries None = Unit {0}
+ValidFrame entries (Some id) = is_live entries id ≡ true
 
 -- a declare without a global id, one of the next ids not being live
 abbrev pub ValidDeclare : List Entry → List TransactionId → Option TransactionId → Type 0
-ValidDeclare r next None = list_all (is_live r) next ≡ false
-ValidDeclare r next (Some global) = ⊥
+ValidDeclare entries next None = list_all (is_live entries) next ≡ false
+ValidDeclare entries next (Some global) = ⊥
 
 -- such a declare, or the discharge of a live id on its home
 abbrev pub ValidMessage : List Entry → ℕ → List TransactionId → Option ControlMessageBody → Type 0
-ValidMessage r k next (Some (messages.Declare declare)) = ValidDeclare r next declare.global_id
-ValidMessage r k next (Some (messages.Discharge discharge)) = is_held_on r k discharge.txn_id ≡ true
-ValidMessage r k next None = ⊥
+ValidMessage entries link next (Some (messages.Declare declare)) =
+    ValidDeclare entries next declare.global_id
+ValidMessage entries link next (Some (messages.Discharge discharge)) =
+    is_held_on entries link discharge.txn_id ≡ true
+ValidMessage entries link next None = ⊥
 
 -- valid step after the record, the next 16 ids of the source being these (4.2 to 4.4)
 abbrev pub Valid : List Entry → Step → List TransactionId → Type 0
-Valid r (steps.Frame frame) next = ValidFrame r (txn frame)
-Valid r (steps.Control k payload) next =
-    (is_open r k ≡ true) × ValidMessage r k next (message_of payload)
-Valid r (steps.LinkEnd k) next = is_open r k ≡ true
-Valid r _ next = ⊥
+Valid entries (steps.Frame frame) next = ValidFrame entries (txn frame)
+Valid entries (steps.Control link payload) next =
+    (is_open entries link ≡ true) × ValidMessage entries link next (message_of payload)
+Valid entries (steps.LinkEnd link) next = is_open entries link ≡ true
+Valid entries _ next = ⊥

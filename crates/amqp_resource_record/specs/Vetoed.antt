@@ -11,12 +11,12 @@ use Rattle.amqp_resource_record.specs.Work.{joined_after}
 
 -- a vetoed commit adds the frames that it would have handed
 abbrev pub vetoed_by : List Entry → Step → Reply → List (List Frame)
-vetoed_by r s reply = cond (is_veto reply) (hands r s ∷ []) []
+vetoed_by entries step reply = cond (is_veto reply) (hands entries step ∷ []) []
 
 -- what was vetoed in the record, in order
 unfoldable pub vetoes : List Entry → List (List Frame)
-vetoes r = joined_after (λ before e. vetoed_by before e.step e.reply) [] r
+vetoes entries = joined_after (λ before e. vetoed_by before e.step e.reply) [] entries
 
 -- how many commits were vetoed
 abbrev pub veto_count : List Entry → ℕ
-veto_count r = count_by (λ (e : Entry). is_veto e.reply) r
+veto_count entries = count_by (λ (e : Entry). is_veto e.reply) entries

@@ -6,4 +6,5 @@ use Rattle.amqp_resource_record.specs.declared.entry.Entry.{Entry}
 
 -- its entry, which drew no ids; the reply stands for none
 abbrev pub awaiting : Step → Entry
-awaiting s = record { step = s; drawn = record { ids = []; spare = 0 }; reply = replies.NoLink }
+awaiting step =
+    record { step = step; drawn = record { ids = []; spare = 0 }; reply = replies.NoLink }

@@ -11,11 +11,12 @@ use Rattle.amqp_resource_record.specs.declared.reply.Reply.TheVariants as replie
 use Rattle.amqp_resource_record.specs.declared.entry.Entry.{Entry}
 use Rattle.amqp_resource_record.specs.Hands.{hands, sources}
 
--- what f gives for each entry, with the entries before it, joined; `before` comes before them all
+-- what is given for each entry, with the entries before it, joined; `before` comes before them all
 abbrev pub joined_after : {A : Type 0} → (List Entry → Entry → List A) → List Entry → List Entry
     → List A
-joined_after f before [] = []
-joined_after f before (e ∷ r) = f before e ++ joined_after f (before ++ e ∷ []) r
+joined_after give before [] = []
+joined_after give before (entry ∷ entries) =
+    give before entry ++ joined_after give (before ++ entry ∷ []) entries
 
 -- the reply rejects the step, which then hands nothing
 abbrev pub is_rejected : Reply → Bool
@@ -24,32 +25,33 @@ is_rejected _ = false
 
 -- the frames that a step with this reply handed
 abbrev pub handed_by : List Entry → Step → Reply → List Frame
-handed_by r s reply = cond (is_rejected reply) [] (hands r s)
+handed_by entries step reply = cond (is_rejected reply) [] (hands entries step)
 
 -- the places that these frames come from
 abbrev pub sources_by : List Entry → Step → Reply → List ℕ
-sources_by r s reply = cond (is_rejected reply) [] (sources r s)
+sources_by entries step reply = cond (is_rejected reply) [] (sources entries step)
 
 -- work: the frames that the record handed, in order (4.4, Transactional Work)
 unfoldable pub work : List Entry → List Frame
-work r = joined_after (λ before e. handed_by before e.step e.reply) [] r
+work entries = joined_after (λ before e. handed_by before e.step e.reply) [] entries
 
 -- origins: the places that these frames come from, in the same order (4.4, Transactional Work)
 unfoldable pub origins : List Entry → List ℕ
-origins r = joined_after (λ before e. sources_by before e.step e.reply) [] r
+origins entries = joined_after (λ before e. sources_by before e.step e.reply) [] entries
 
 -- what a reply says was given back: one list for a plain frame, one for each echo of a commit; an
 -- accepted rollback has no echoes
 abbrev pub given_by : Step → Reply → List (List Frame)
 given_by (steps.Frame frame) (replies.Frames answers) =
     cond (is_plain_frame frame) (answers.given ∷ []) []
-given_by (steps.Control k payload) (replies.Accepted echoes) = map (λ (a : Answers). a.given) echoes
+given_by (steps.Control link payload) (replies.Accepted echoes) =
+    map (λ (a : Answers). a.given) echoes
 given_by _ _ = []
 
 -- what was given back for the frames that the record handed, one list for each, in order
 unfoldable pub given_back : List Entry → List (List Frame)
-given_back r = flat_map (λ e. given_by e.step e.reply) r
+given_back entries = flat_map (λ e. given_by e.step e.reply) entries
 
 -- pairs: each frame that the record handed with what was given back for it (4.4)
 unfoldable pub pairs : List Entry → List (Frame × List Frame)
-pairs r = zip (work r) (given_back r)
+pairs entries = zip (work entries) (given_back entries)

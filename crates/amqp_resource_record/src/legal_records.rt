@@ -5,9 +5,9 @@ ghost use Rattle.amqp_resource_record.specs.Answers.{Answer};
 ghost use Rattle.amqp_resource_record.specs.Legal.{IsLegal};
 ghost use Rattle.amqp_resource_record.specs.Work.{work};
 
-use crate::answering::is_answer;
+use crate::answers::is_answer;
 use crate::entry::Entry;
-use crate::handing::handed_by;
+use crate::hands::handed_by;
 use amqp_below_ids::Drawn;
 use amqp_txn_types::{Frames, NoMemory, TransactionId};
 use std::alloc::Global;

@@ -56,9 +56,9 @@
 //! proved where sessions are.
 #![tactic(auto)]
 
-mod answering;
+mod answers;
 mod entry;
-mod handing;
+mod hands;
 mod laws;
 mod legal_records;
 mod live_ids;
@@ -68,9 +68,9 @@ mod step;
 mod steps;
 mod stop;
 
-pub use answering::is_answer;
+pub use answers::is_answer;
 pub use entry::{Drawn16, Entries, Entry};
-pub use handing::{commits, hands, is_coordinator_attach, is_plain, is_under};
+pub use hands::{commits, hands, is_coordinator_attach, is_plain, is_under};
 pub use laws::{
     a_commit_hands_the_frames_of_its_own_id, a_discharged_id_is_unknown_until_declared_anew,
     a_live_id_has_one_open_home, a_record_hands_the_frames_at_its_origins,

@@ -17,7 +17,7 @@ use Rattle.amqp_resource_held.specs.Held.{Stands}
 use Rattle.amqp_txn_types.specs.declared.performatives.Disposition.{Disposition}
 use Rattle.amqp_below_layer.specs.declared.inner_error.SessionInnerError.{SessionInnerError}
 use Rattle.amqp_resource_session.specs.Leaving.{StepLeaves}
-use Rattle.amqp_resource_session.specs.Stepping.{StepRecords}
+use Rattle.amqp_resource_session.specs.StepClauses.{StepRecords}
 use Rattle.amqp_resource_session.specs.Steps.{OnNoCall}
 use Rattle.amqp_resource_held.specs.Views.{view_of_held, view_of_record}
 use Rattle.amqp_resource_session.proofs.Complete.{complete}

@@ -60,11 +60,12 @@ counted_commit (Err fault) count = one_more count
 -- what a commit calls below that was vetoed, or has no frames: a veto leaves what the review of its
 -- frames left, and a commit without echoes, as one of no frames, calls nothing
 pub record CommitCalls {S : Type 0}
-    (reviews : S → S → List Frame → Result Verdict NoMemory → Type 0) (below now : S)
-    (frames : List Frame)
-    (result : Result (Result (List Answers) TransactionError) CommitFault) : Type 0 where
-  pub vetoed : OnVetoed result (reviews below now (map stripped frames) (Ok verdicts.Veto))
-  pub idle : OnNoEchoes result (now ≡ below)
+    (reviews : S → S → List Frame → Result Verdict NoMemory → Type 0) (old_below new_below : S)
+    (frames : List Frame) (result : Result (Result (List Answers) TransactionError) CommitFault)
+    : Type 0 where
+  pub vetoed : OnVetoed result
+      (reviews old_below new_below (map stripped frames) (Ok verdicts.Veto))
+  pub idle : OnNoEchoes result (new_below ≡ old_below)
 
 -- a commit; what the session keeps goes on to fit together, no more looks are owed than frames are
 -- kept, and every answer but echoes is counted

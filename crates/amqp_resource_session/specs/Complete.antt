@@ -15,10 +15,10 @@ use Rattle.amqp_resource_record.specs.declared.stop.StepError.TheVariants as err
 
 -- one of the five replies that do what was asked
 abbrev pub DoesIt : Reply → Type 0
-DoesIt (replies.Frames a) = Unit {0}
+DoesIt (replies.Frames answers) = Unit {0}
 DoesIt (replies.Attached link given) = Unit {0}
 DoesIt replies.LinkEnded = Unit {0}
-DoesIt (replies.Declared t) = Unit {0}
+DoesIt (replies.Declared id) = Unit {0}
 DoesIt (replies.Accepted echoes) = Unit {0}
 DoesIt _ = ⊥
 
@@ -29,10 +29,10 @@ Completed (Err errors.NoMemory) = Unit {0}
 Completed (Err _) = ⊥
 
 -- the premises: the step is valid, and neither a refusal nor a veto was counted
-pub record InOrder (old new : Told) (ids : ℕ → TransactionId) (r : List Entry) (s : Step)
-    (n : List TransactionId) : Type 0 where
-  pub next : AreNext ids 0 n
-  pub count : length n ≡ 16
-  pub valid : Valid r s n
+pub record InOrder (old new : Told) (ids : ℕ → TransactionId) (entries : List Entry) (step : Step)
+    (next_ids : List TransactionId) : Type 0 where
+  pub next : AreNext ids 0 next_ids
+  pub count : length next_ids ≡ 16
+  pub valid : Valid entries step next_ids
   pub quiet : Rose old.refusals new.refusals → ⊥
   pub calm : Rose old.reviews.vetoes new.reviews.vetoes → ⊥

@@ -29,7 +29,7 @@ RefusesWith old new error result = (result ≡ Err error) × SameSession old new
 
 -- the session runs, and hasn't opened as many links as there are numbers
 abbrev pub can_open : {S : Type 0} → TxnSession S → Bool
-can_open x = is_none (stop_of x) && not (opened_of x == 2 ^ 64 - 1)
+can_open session = is_none (stop_of session) && not (opened_of session == 2 ^ 64 - 1)
 
 -- a control link is opened, or refused below, and the session goes on either way; or there was no
 -- room for it, and the layer below wasn't asked

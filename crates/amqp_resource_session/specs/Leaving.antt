@@ -24,41 +24,42 @@ use Rattle.amqp_resource_held.specs.Views.{view_of_held}
 pub record StepLeaves {S : Type 0} (told : S → Told) (sure : Bool)
     (reviews : S → S → List Frame → Result Verdict NoMemory → Type 0)
     (checks : S → S → Disposition → Result Unit SessionInnerError → Type 0) (old new : Held)
-    (below now : S) (s : Step) (result : Result (DrawnIds × Reply) StepError) : Type 0 where
+    (old_below new_below : S) (step : Step) (result : Result (DrawnIds × Reply) StepError)
+    : Type 0 where
   -- What is kept, and the answer by it, also after an error; when each answer may come; and an end
   -- is answered with its own value.
-  pub keeps : Fits old → Keeps old new (told below) (told now) s result
-  pub left : ErrorKeeps (view_of_held old) (view_of_held new) s result
-  pub cause : StepCause (told below) (told now) s result
-  pub surely : IfRefused result (λ error handed. StopsSurely sure s handed)
-  pub ended : AnswersEnd (ended_by s) result
+  pub keeps : Fits old → Keeps old new (told old_below) (told new_below) step result
+  pub left : ErrorKeeps (view_of_held old) (view_of_held new) step result
+  pub cause : StepCause (told old_below) (told new_below) step result
+  pub surely : IfRefused result (λ error handed. StopsSurely sure step handed)
+  pub ended : AnswersEnd (ended_by step) result
   -- Out of memory changes nothing, and such an answer makes no call below.
   pub same : OnNoMemory result (SameHeld old new)
-  pub untouched : OnNoCall s result (now ≡ below)
+  pub untouched : OnNoCall step result (new_below ≡ old_below)
   -- A vetoed commit leaves below what the review left: no call comes after it.
   pub reviewed : OnVeto result
-      (reviews below now (step_hands (view_of_held old) s) (Ok verdicts.Veto))
+      (reviews old_below new_below (step_hands (view_of_held old) step) (Ok verdicts.Veto))
   -- Work has the disposition checked that it is answered with, and makes no other call.
-  pub checked : ChecksWork checks below now s result
+  pub checked : ChecksWork checks old_below new_below step result
   -- What no step changes below, and the counts that never fall.
-  pub fixed : (told now).fixed ≡ (told below).fixed
-  pub later : (told below).refusals ≤ (told now).refusals
-  pub counted : (told below).reviews.vetoes ≤ (told now).reviews.vetoes
+  pub fixed : (told new_below).fixed ≡ (told old_below).fixed
+  pub later : (told old_below).refusals ≤ (told new_below).refusals
+  pub counted : (told old_below).reviews.vetoes ≤ (told new_below).reviews.vetoes
 
 -- a step that makes no call below, whatever the layer there tells
-pub record LeavesHere (old new : Held) (s : Step) (result : Result (DrawnIds × Reply) StepError)
+pub record LeavesHere (old new : Held) (step : Step) (result : Result (DrawnIds × Reply) StepError)
     : Type 0 where
-  pub keeps : (told : Told) → Fits old → Keeps old new told told s result
-  pub left : ErrorKeeps (view_of_held old) (view_of_held new) s result
-  pub unanswered : RepliesToNoFrame result s
-  pub cause : (told : Told) → StepCause told told s result
-  pub ended : AnswersEnd (ended_by s) result
+  pub keeps : (told : Told) → Fits old → Keeps old new told told step result
+  pub left : ErrorKeeps (view_of_held old) (view_of_held new) step result
+  pub unanswered : RepliesToNoFrame result step
+  pub cause : (told : Told) → StepCause told told step result
+  pub ended : AnswersEnd (ended_by step) result
   pub same : OnNoMemory result (SameHeld old new)
 
 -- the ids that a step drew are the source's next ones, and every error leaves the source
 pub record StepDraws {G : Type 0} (next : G → ℕ → TransactionId)
-    (starts : G → Option (ℕ → TransactionId)) (before after : G)
+    (starts : G → Option (ℕ → TransactionId)) (old_source new_source : G)
     (result : Result (DrawnIds × Reply) StepError) : Type 0 where
-  pub drew : IfOk result (λ out. Drew (next before) (next after) out.0.ids)
-  pub source : OnErr result (after ≡ before)
-  pub start : starts after ≡ starts before
+  pub drew : IfOk result (λ out. Drew (next old_source) (next new_source) out.0.ids)
+  pub source : OnErr result (new_source ≡ old_source)
+  pub start : starts new_source ≡ starts old_source

@@ -6,7 +6,7 @@ pub mod Transacting
 pub mod Keeping
 pub mod Leaving
 pub mod Session
-pub mod Stepping
+pub mod StepClauses
 pub mod Calls
 pub mod Opening
 pub mod Passing
@@ -15,7 +15,7 @@ pub mod Reviewing
 pub mod SessionLaws
 pub mod Ran
 pub mod Drive
-pub mod Driving
+pub mod DriveClauses
 pub use Rattle.amqp_resource_held.specs.Held
 pub use Rattle.amqp_resource_held.specs.Views
 pub use Rattle.amqp_resource_held.specs.Draws
@@ -34,11 +34,11 @@ pub use Rattle.amqp_resource_record.specs.Stops
 pub use Rattle.amqp_resource_record.specs.Opened
 pub use Rattle.amqp_resource_record.specs.Others
 pub use Rattle.amqp_resource_record.specs.Texts
-pub use Rattle.amqp_resource_coordinator.specs.Managing
-pub use Rattle.amqp_resource_coordinator.specs.Declaring
+pub use Rattle.amqp_resource_coordinator.specs.Managed
+pub use Rattle.amqp_resource_coordinator.specs.Declare
 pub use Rattle.amqp_resource_coordinator.specs.Lends
-pub use Rattle.amqp_resource_coordinator.specs.Discharging
+pub use Rattle.amqp_resource_coordinator.specs.Discharge
 pub use Rattle.amqp_resource_coordinator.specs.Outcomes
 pub use Rattle.amqp_resource_coordinator.specs.Posts
 pub use Rattle.amqp_resource_coordinator.specs.Errors
-pub use Rattle.amqp_resource_coordinator.specs.Delivering
+pub use Rattle.amqp_resource_coordinator.specs.Delivery

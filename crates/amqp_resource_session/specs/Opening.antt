@@ -28,18 +28,18 @@ pub record AddsLink (old new : Held) (link : ℕ) : Type 0 where
 abbrev pub OpensLink : {S : Type 0} → (S → Told)
     → (S → S → Attach → Result (List Frame) SessionInnerError → Type 0)
     → Held → Held → S → S → Attach → Result (ℕ × List Frame) SessionInnerError → Type 0
-OpensLink told opens old new below now attach (Ok link) =
-    AddsLink old new link.0 × Opened told opens below now attach (Ok link.1)
-OpensLink told opens old new below now attach (Err error) =
-    SameHeld old new × Opened told opens below now attach (Err error)
+OpensLink told opens old new old_below new_below attach (Ok link) =
+    AddsLink old new link.0 × Opened told opens old_below new_below attach (Ok link.1)
+OpensLink told opens old new old_below new_below attach (Err error) =
+    SameHeld old new × Opened told opens old_below new_below attach (Err error)
 
 -- the same, or there was no room for the link, and nothing changes
 abbrev pub OpensBy : {S : Type 0} → (S → Told)
     → (S → S → Attach → Result (List Frame) SessionInnerError → Type 0)
     → Held → Held → S → S → Attach → LinkOpening → Type 0
-OpensBy told opens old new below now attach (openings.Opened link given) =
-    OpensLink told opens old new below now attach (Ok (link, given))
-OpensBy told opens old new below now attach (openings.Refused error) =
-    OpensLink told opens old new below now attach (Err error)
-OpensBy told opens old new below now attach openings.NoMemory =
-    SameHeld old new × (now ≡ below)
+OpensBy told opens old new old_below new_below attach (openings.Opened link given) =
+    OpensLink told opens old new old_below new_below attach (Ok (link, given))
+OpensBy told opens old new old_below new_below attach (openings.Refused error) =
+    OpensLink told opens old new old_below new_below attach (Err error)
+OpensBy told opens old new old_below new_below attach openings.NoMemory =
+    SameHeld old new × (new_below ≡ old_below)

@@ -23,33 +23,33 @@ use Rattle.amqp_resource_record.specs.declared.stop.Stop.TheVariants as stops
 use Rattle.amqp_resource_record.specs.declared.stop.StepError.TheVariants as errors
 use Rattle.amqp_resource_held.specs.Held.{Stands}
 use Rattle.amqp_resource_session.specs.Steps.{IfEnded, IfRefused, IfVeto, IsFirstStop, OnNoCall, StopsSurely, ended_by}
-use Rattle.amqp_resource_session.specs.Stepping.{StepRecords}
+use Rattle.amqp_resource_session.specs.StepClauses.{StepRecords}
 use Rattle.amqp_resource_session.specs.Session.{StopAfter}
 
 -- a run so far: the session stands for its record, below took, opened, refused and vetoed what the
 -- record says, after what it had before, each refusal and veto that was answered was counted, and
 -- the source gave its ids
-pub record Ran (old new : Told) (before after : ℕ → TransactionId) (h : Held) (r : List Entry)
-    : Type 0 where
-  pub stands : Stands h r
-  pub taken : new.taken ≡ grown old.taken (pairs r)
-  pub opened : new.opened ≡ grown old.opened (opens r)
-  pub refused : new.refused ≡ grown old.refused (refuses r)
-  pub vetoed : new.reviews.vetoed ≡ grown old.reviews.vetoed (vetoes r)
-  pub rose : min (old.refusals + attach_refused_count r) (2 ^ 64 - 1) ≤ new.refusals
-  pub vetoes_rose : min (old.reviews.vetoes + veto_count r) (2 ^ 64 - 1) ≤ new.reviews.vetoes
+pub record Ran (old new : Told) (old_ids new_ids : ℕ → TransactionId) (held : Held)
+    (entries : List Entry) : Type 0 where
+  pub stands : Stands held entries
+  pub taken : new.taken ≡ grown old.taken (pairs entries)
+  pub opened : new.opened ≡ grown old.opened (opens entries)
+  pub refused : new.refused ≡ grown old.refused (refuses entries)
+  pub vetoed : new.reviews.vetoed ≡ grown old.reviews.vetoed (vetoes entries)
+  pub rose : min (old.refusals + attach_refused_count entries) (2 ^ 64 - 1) ≤ new.refusals
+  pub vetoes_rose : min (old.reviews.vetoes + veto_count entries) (2 ^ 64 - 1) ≤ new.reviews.vetoes
   pub later : old.refusals ≤ new.refusals
   pub counted : old.reviews.vetoes ≤ new.reviews.vetoes
   pub fixed : new.fixed ≡ old.fixed
-  pub drew : Drew before after (drawn_of r)
+  pub drew : Drew old_ids new_ids (drawn_of entries)
 
 -- a step that was answered: its clauses by the record, with this reply
 abbrev pub answered : DrawnIds → Reply → Result (DrawnIds × Reply) StepError
-answered d reply = Ok (d, reply)
+answered drawn reply = Ok (drawn, reply)
 
-pub record Stepped (ids : ℕ → TransactionId) (g : Held) (old new : Told) (r : List Entry)
-    (s : Step) (d : DrawnIds) (reply : Reply) : Type 0 where
-  pub by : StepRecords old new ids g r s (answered d reply)
+pub record Stepped (ids : ℕ → TransactionId) (held : Held) (old new : Told) (entries : List Entry)
+    (step : Step) (drawn : DrawnIds) (reply : Reply) : Type 0 where
+  pub by : StepRecords old new ids held entries step (answered drawn reply)
   pub veto : IfVeto reply (Rose old.reviews.vetoes new.reviews.vetoes)
   pub later : old.refusals ≤ new.refusals
   pub counted : old.reviews.vetoes ≤ new.reviews.vetoes
@@ -71,17 +71,17 @@ handed_of _ = 0
 abbrev pub failed : StepError → Result (DrawnIds × Reply) StepError
 failed error = Err error
 
-pub record Broke (ids : ℕ → TransactionId) (sure : Bool) (g : Held) (old new : Told)
-    (r : List Entry) (s : Step) (error : StepError) (kept : Option StopCode) : Type 0 where
-  pub by : StepRecords old new ids g r s (failed error)
+pub record Broke (ids : ℕ → TransactionId) (sure : Bool) (held : Held) (old new : Told)
+    (entries : List Entry) (step : Step) (error : StepError) (kept : Option StopCode) : Type 0 where
+  pub by : StepRecords old new ids held entries step (failed error)
   pub first : IsFirstStop error
-  pub surely : IfRefused (failed error) (λ e n. StopsSurely sure s n)
+  pub surely : IfRefused (failed error) (λ e n. StopsSurely sure step n)
   pub counted : old.reviews.vetoes ≤ new.reviews.vetoes
   pub rose : IfRefused (failed error) (λ e n. Rose old.refusals new.refusals)
-  pub ended : (reason : SessionStopReason) → ended_by s ≡ Some reason
+  pub ended : (reason : SessionStopReason) → ended_by step ≡ Some reason
       → (failed error ≡ Err (errors.Ended reason)) ⊎ (failed error ≡ Err errors.NoMemory)
-  pub ended_only : IfEnded (failed error) (λ reason. ended_by s ≡ Some reason)
-  pub own : OnNoCall s (failed error) (new ≡ old)
+  pub ended_only : IfEnded (failed error) (λ reason. ended_by step ≡ Some reason)
+  pub own : OnNoCall step (failed error) (new ≡ old)
   pub later : old.refusals ≤ new.refusals
   pub fixed : new.fixed ≡ old.fixed
   pub stops : StopAfter (failed error) kept

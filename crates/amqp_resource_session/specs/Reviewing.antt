@@ -55,8 +55,8 @@ pub record TxnReviews {S : Type 0} (told : S → Told)
 -- what it takes: where it runs, plain work that the session below takes
 abbrev pub TxnTakes : {S : Type 0} → (S → List Frame → Type 0) → TxnSession S → List Frame
     → Type 0
-TxnTakes takes x list =
-    (stop_of x ≡ None) × (list_all is_bare list ≡ true) × takes (below_of x) list
+TxnTakes takes session list =
+    (stop_of session ≡ None) × (list_all is_bare list ≡ true) × takes (below_of session) list
 
 -- ---- after an Accept
 

@@ -20,69 +20,69 @@ use Rattle.amqp_resource_held.specs.Draws.{is_kept}
 
 -- what a session keeps
 abbrev pub held_of : {S : Type 0} → TxnSession S → Held
-held_of x = x.held
+held_of session = session.held
 
 -- the view of what it keeps
 abbrev pub view_of : {S : Type 0} → TxnSession S → View
-view_of x = view_of_held (held_of x)
+view_of session = view_of_held (held_of session)
 
 -- the layer below
 abbrev pub below_of : {S : Type 0} → TxnSession S → S
-below_of x = x.below
+below_of session = session.below
 
 -- what the layer below tells
 abbrev pub told_of : {S : Type 0} → (S → Told) → TxnSession S → Told
-told_of told x = told x.below
+told_of told session = told session.below
 
 -- the code of its stop, once it has stopped
 abbrev pub stop_of : {S : Type 0} → TxnSession S → Option StopCode
-stop_of x = x.stop
+stop_of session = session.stop
 
 -- how often its own calls, those of its traits, refused
 abbrev pub refusals_of : {S : Type 0} → TxnSession S → ℕ
-refusals_of x = x.refusals
+refusals_of session = session.refusals
 
 -- how often it vetoed a review
 abbrev pub vetoes_of : {S : Type 0} → TxnSession S → ℕ
-vetoes_of x = x.vetoes
+vetoes_of session = session.vetoes
 
 -- what a session tells of itself: none of the lists, its own counts, and what its layer below never
 -- changes
 abbrev pub own_told : {S : Type 0} → (S → Told) → TxnSession S → Told
-own_told told x = record {
+own_told told session = record {
   taken = None;
   opened = None;
   refused = None;
-  refusals = refusals_of x;
-  reviews = record { vetoes = vetoes_of x; vetoed = None };
-  fixed = (told (below_of x)).fixed;
+  refusals = refusals_of session;
+  reviews = record { vetoes = vetoes_of session; vetoed = None };
+  fixed = (told (below_of session)).fixed;
 }
 
 -- the looks that its log owes, for frames that were taken
 abbrev pub owed_of : {S : Type 0} → TxnSession S → ℕ
-owed_of x = owed x.held.work
+owed_of session = owed session.held.work
 
 -- how many frames it keeps for live ids
 abbrev pub frame_count_of : {S : Type 0} → TxnSession S → ℕ
-frame_count_of x = frame_count x.held.work
+frame_count_of session = frame_count session.held.work
 
 -- how many control links it has opened
 abbrev pub opened_of : {S : Type 0} → TxnSession S → ℕ
-opened_of x = x.held.opened
+opened_of session = session.held.opened
 
 -- what the session keeps fits together, and its log owes no more looks than it keeps frames, as in
 -- a new one; each call of its own leaves it so
 abbrev pub FitsTogether : {S : Type 0} → TxnSession S → Type 0
-FitsTogether x = Fits (held_of x) × (owed_of x ≤ frame_count_of x)
+FitsTogether session = Fits (held_of session) × (owed_of session ≤ frame_count_of session)
 
 -- the id is live on the session
 abbrev pub is_live_on : {S : Type 0} → TxnSession S → TransactionId → Bool
-is_live_on x t = is_kept x.held.work t
+is_live_on session id = is_kept session.held.work id
 
 -- a session stands for a record: the record is legal, and the session's live ids with their frames
 -- and holders, and its links, are those of the record
 abbrev pub StandsFor : {S : Type 0} → TxnSession S → List Entry → Type 0
-StandsFor x r = Stands (held_of x) r
+StandsFor session entries = Stands (held_of session) entries
 
 -- a session is as it was: its live ids with their links and frames, its open links, how many were
 -- opened so far, the layer below and the stop
@@ -92,11 +92,11 @@ pub record SameSession {S : Type 0} (old new : TxnSession S) : Type 0 where
   pub stop : stop_of new ≡ stop_of old
 
 -- a fresh session: no live id, no link opened so far, no look owed, not stopped, and mapped below
-pub record IsFresh {S : Type 0} (told : S → Told) (x : TxnSession S) : Type 0 where
-  pub stands : StandsFor x []
-  pub owed : owed_of x ≡ 0
-  pub runs : stop_of x ≡ None
-  pub mapped : (told (below_of x)).fixed.state ≡ Mapped
+pub record IsFresh {S : Type 0} (told : S → Told) (session : TxnSession S) : Type 0 where
+  pub stands : StandsFor session []
+  pub owed : owed_of session ≡ 0
+  pub runs : stop_of session ≡ None
+  pub mapped : (told (below_of session)).fixed.state ≡ Mapped
 
 -- the code that is kept after an answer
 abbrev pub StopAfter : Result (DrawnIds × Reply) StepError → Option StopCode → Type 0
@@ -108,4 +108,5 @@ StopAfter (Err errors.NoMemory) stop = stop ≡ None
 
 -- a fact of each record that a session stands for which hasn't stopped
 abbrev pub ForEachRecord : {S : Type 0} → TxnSession S → (List Entry → Type 0) → Type 0
-ForEachRecord x P = stop_of x ≡ None → (r : List Entry) → StandsFor x r → P r
+ForEachRecord session P =
+    stop_of session ≡ None → (entries : List Entry) → StandsFor session entries → P entries

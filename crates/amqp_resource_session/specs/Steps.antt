@@ -40,7 +40,7 @@ use Rattle.amqp_resource_held.specs.Views.{View, frames_in, is_held_in, is_live_
 
 -- a step with its draws and reply
 abbrev pub entry_of : Step → DrawnIds → Reply → Entry
-entry_of s d reply = record { step = s; drawn = d; reply = reply }
+entry_of step drawn reply = record { step = step; drawn = drawn; reply = reply }
 
 -- the ids of a step that draws none
 abbrev pub nothing_drawn : DrawnIds
@@ -67,18 +67,18 @@ ended_by _ = None
 
 -- there is an id, and it isn't live
 abbrev pub IsDead : View → Option TransactionId → Type 0
-IsDead v None = ⊥
-IsDead v (Some t) = is_live_in v t ≡ false
+IsDead view None = ⊥
+IsDead view (Some id) = is_live_in view id ≡ false
 
 -- the step is a frame under an id that isn't live
 abbrev pub UnderDead : View → Step → Type 0
-UnderDead v (steps.Frame frame) = IsDead v (txn frame)
-UnderDead v _ = ⊥
+UnderDead view (steps.Frame frame) = IsDead view (txn frame)
+UnderDead view _ = ⊥
 
 -- there is an id
 abbrev pub IsUnder : Option TransactionId → Type 0
 IsUnder None = ⊥
-IsUnder (Some t) = Unit {0}
+IsUnder (Some id) = Unit {0}
 
 -- the step is a post or a retirement: a frame under an id
 abbrev pub IsPost : Step → Type 0
@@ -93,43 +93,45 @@ IsControlAttach _ = ⊥
 -- what a message on an open link hands: a commit of an id that was declared there, its frames, each
 -- stripped
 abbrev pub message_hands : View → ℕ → Option ControlMessageBody → List Frame
-message_hands v k (Some (messages.Discharge discharge)) =
-    cond (not (is_rollback discharge.fail) && is_held_in v k discharge.txn_id)
-    (map stripped (frames_in v discharge.txn_id)) []
-message_hands v k _ = []
+message_hands view link (Some (messages.Discharge discharge)) =
+    cond (not (is_rollback discharge.fail) && is_held_in view link discharge.txn_id)
+    (map stripped (frames_in view discharge.txn_id)) []
+message_hands view link _ = []
 
 -- what a step hands: a plain frame itself, a control message what it hands on an open link. By a
 -- record's view that is what it hands by the record (`the_view_of_a_record_looks_back`)
 abbrev pub step_hands : View → Step → List Frame
-step_hands v (steps.Frame frame) = cond (is_plain_frame frame) (frame ∷ []) []
-step_hands v (steps.Control k payload) =
-    cond (v.links k) (message_hands v k (message_of payload)) []
-step_hands v _ = []
+step_hands view (steps.Frame frame) = cond (is_plain_frame frame) (frame ∷ []) []
+step_hands view (steps.Control link payload) =
+    cond (view.links link) (message_hands view link (message_of payload)) []
+step_hands view _ = []
 
 -- a frame calls below where it is plain, or is answered with a disposition
 abbrev pub FrameMayFault : View → Frame → Option TransactionId → Type 0
-FrameMayFault v frame None = is_coordinator_attach frame ≡ false
-FrameMayFault v frame (Some t) = (is_live_in v t ≡ true) × (1 ≤ length (answered_under t frame))
+FrameMayFault view frame None = is_coordinator_attach frame ≡ false
+FrameMayFault view frame (Some id) =
+    (is_live_in view id ≡ true) × (1 ≤ length (answered_under id frame))
 
 -- a step that hands these frames and that a refusal below may stop: a plain frame, a post that is
 -- answered with a disposition, a commit with at least one frame, which runs out of memory
 abbrev pub MayFault : View → Step → List Frame → SessionInnerError → Type 0
-MayFault v (steps.Frame frame) frames error = FrameMayFault v frame (txn frame)
-MayFault v (steps.Control k payload) frames error = (1 ≤ length frames) × (error ≡ faults.NoMemory)
-MayFault v _ frames error = ⊥
+MayFault view (steps.Frame frame) frames error = FrameMayFault view frame (txn frame)
+MayFault view (steps.Control link payload) frames error =
+    (1 ≤ length frames) × (error ≡ faults.NoMemory)
+MayFault view _ frames error = ⊥
 
 -- an id, if there is one, is live
 abbrev pub is_live_under : View → Option TransactionId → Bool
-is_live_under v None = true
-is_live_under v (Some t) = is_live_in v t
+is_live_under view None = true
+is_live_under view (Some id) = is_live_in view id
 
 -- a message on an open link takes memory where it is a declare without a global id or a commit of
 -- an id that was declared there
 abbrev pub message_takes_memory : View → ℕ → Option ControlMessageBody → Bool
-message_takes_memory v k None = false
-message_takes_memory v k (Some (messages.Declare declare)) = is_none declare.global_id
-message_takes_memory v k (Some (messages.Discharge discharge)) =
-    not (is_rollback discharge.fail) && is_held_in v k discharge.txn_id
+message_takes_memory view link None = false
+message_takes_memory view link (Some (messages.Declare declare)) = is_none declare.global_id
+message_takes_memory view link (Some (messages.Discharge discharge)) =
+    not (is_rollback discharge.fail) && is_held_in view link discharge.txn_id
 
 -- a connection's stop with an error
 abbrev pub stop_takes_memory : ConnectionStopReason → Bool
@@ -147,13 +149,13 @@ has_error (reasons.ConnectionStopped reason) = stop_takes_memory reason
 
 -- the steps that take memory; all others never want it
 abbrev pub takes_memory : View → Step → Bool
-takes_memory v (steps.Frame frame) = is_live_under v (txn frame)
-takes_memory v (steps.Control k payload) =
-    v.links k && message_takes_memory v k (message_of payload)
-takes_memory v (steps.LinkEnd k) = false
-takes_memory v (steps.LocalEnd error) = is_some error
-takes_memory v (steps.RemoteEnd error) = is_some error
-takes_memory v (steps.ConnectionStop reason) = stop_takes_memory reason
+takes_memory view (steps.Frame frame) = is_live_under view (txn frame)
+takes_memory view (steps.Control link payload) =
+    view.links link && message_takes_memory view link (message_of payload)
+takes_memory view (steps.LinkEnd link) = false
+takes_memory view (steps.LocalEnd error) = is_some error
+takes_memory view (steps.RemoteEnd error) = is_some error
+takes_memory view (steps.ConnectionStop reason) = stop_takes_memory reason
 
 -- ---- refusals of the layer below
 
@@ -170,18 +172,18 @@ fault_of error = error
 -- what a fault adds to what was refused: the frame at the place of those that the step hands, with
 -- the layer's own error; or nothing, where an outgoing disposition may have been refused
 abbrev pub AddsRefusal : Step → List Frame → ℕ → SessionInnerError → List Refusal → Type 0
-AddsRefusal s frames at error more =
+AddsRefusal step frames at error more =
     (own : SessionInnerError) × (error ≡ fault_of own)
-    × (((f : Frame) × (slice_get frames at ≡ Some f) × (more ≡ refusal_of f own))
-    ⊎ ((more ≡ []) × (IsPost s ⊎ (1 ≤ at))))
+    × (((frame : Frame) × (slice_get frames at ≡ Some frame) × (more ≡ refusal_of frame own))
+    ⊎ ((more ≡ []) × (IsPost step ⊎ (1 ≤ at))))
 
 -- ---- what an answer leaves
 
 -- below took what the step hands, each frame with what the reply says was given back for it, and
 -- nothing where the step was rejected
 abbrev pub TookHands : Told → Told → List Entry → Step → Reply → Type 0
-TookHands old new r s reply =
-    new.taken ≡ grown old.taken (zip (handed_by r s reply) (given_by s reply))
+TookHands old new entries step reply =
+    new.taken ≡ grown old.taken (zip (handed_by entries step reply) (given_by step reply))
 
 -- below took the first of the frames that a step hands
 abbrev pub TookFirst : Told → Told → List Frame → ℕ → Type 0
@@ -190,30 +192,30 @@ TookFirst old new frames handed =
 
 -- below opened what the reply says
 abbrev pub OpenedBy : Told → Told → Step → Reply → Type 0
-OpenedBy old new s reply = new.opened ≡ grown old.opened (opened_by s reply)
+OpenedBy old new step reply = new.opened ≡ grown old.opened (opened_by step reply)
 
 -- below refused what the reply says
 abbrev pub RefusedBy : Told → Told → Step → Reply → Type 0
-RefusedBy old new s reply = new.refused ≡ grown old.refused (refused_by s reply)
+RefusedBy old new step reply = new.refused ≡ grown old.refused (refused_by step reply)
 
 -- below vetoed what the step hands, where the reply says so, and else nothing
 abbrev pub VetoedBy : Told → Told → List Entry → Step → Reply → Type 0
-VetoedBy old new r s reply =
-    new.reviews.vetoed ≡ grown old.reviews.vetoed (vetoed_by r s reply)
+VetoedBy old new entries step reply =
+    new.reviews.vetoed ≡ grown old.reviews.vetoed (vetoed_by entries step reply)
 
 -- below refused what the fault of a step adds that hands these frames
 abbrev pub RefusedAdds : Told → Told → Step → List Frame → SessionInnerError → ℕ → Type 0
-RefusedAdds old new s frames error handed =
-    (more : List Refusal) × AddsRefusal s frames handed error more
+RefusedAdds old new step frames error handed =
+    (more : List Refusal) × AddsRefusal step frames handed error more
     × (new.refused ≡ grown old.refused more)
 
 -- a refusal below stopped a step that hands these frames: the first of them were taken
-pub record Refused (v : View) (old new : Told) (s : Step) (frames : List Frame)
+pub record Refused (view : View) (old new : Told) (step : Step) (frames : List Frame)
     (error : SessionInnerError) (handed : ℕ) : Type 0 where
-  pub fits : MayFault v s frames error
+  pub fits : MayFault view step frames error
   pub took : TookFirst old new frames handed
   pub opened : new.opened ≡ old.opened
-  pub refused : RefusedAdds old new s frames error handed
+  pub refused : RefusedAdds old new step frames error handed
   pub vetoed : new.reviews.vetoed ≡ old.reviews.vetoed
 
 -- ---- causes
@@ -230,14 +232,14 @@ IfVeto _ P = ⊤
 
 -- when each answer may come on a session that hasn't stopped, whatever it stands for
 abbrev pub StepCause : Told → Told → Step → Result (DrawnIds × Reply) StepError → Type 0
-StepCause old new s (Ok out) =
+StepCause old new step (Ok out) =
     IfAttachRefused out.1 (Rose old.refusals new.refusals)
     × IfVeto out.1 (Rose old.reviews.vetoes new.reviews.vetoes)
-StepCause old new s (Err (errors.Fault error handed)) =
-    MatchBool (is_unknown error) (IsPost s × (handed ≡ 0)) (Rose old.refusals new.refusals)
-StepCause old new s (Err (errors.Ended reason)) = ended_by s ≡ Some reason
-StepCause old new s (Err (errors.Stopped code)) = ⊥
-StepCause old new s (Err errors.NoMemory) = Unit {0}
+StepCause old new step (Err (errors.Fault error handed)) =
+    MatchBool (is_unknown error) (IsPost step × (handed ≡ 0)) (Rose old.refusals new.refusals)
+StepCause old new step (Err (errors.Ended reason)) = ended_by step ≡ Some reason
+StepCause old new step (Err (errors.Stopped code)) = ⊥
+StepCause old new step (Err errors.NoMemory) = Unit {0}
 
 -- the message is a discharge that rolls back
 abbrev pub rolls_back_by : Option ControlMessageBody → Bool
@@ -246,7 +248,7 @@ rolls_back_by _ = false
 
 -- the step asks for a rollback
 abbrev pub asks_rollback : Step → Bool
-asks_rollback (steps.Control k payload) = rolls_back_by (message_of payload)
+asks_rollback (steps.Control link payload) = rolls_back_by (message_of payload)
 asks_rollback _ = false
 
 -- a frame under an id that is answered with no frame
@@ -259,22 +261,22 @@ is_unanswered _ _ = false
 -- rejected other than by a veto, to a rollback that is accepted, to a commit that is accepted
 -- without echoes, as one of no frames, and to work that is kept and answered with no frame
 abbrev pub calls_nothing : Step → Reply → Bool
-calls_nothing s (replies.Frames answers) = is_unanswered s answers.given
-calls_nothing s replies.LinkEnded = true
-calls_nothing s replies.NoLink = true
-calls_nothing s (replies.LinkClosed error) = true
-calls_nothing s (replies.Declared id) = true
-calls_nothing s (replies.Rejected error text) = not (is_veto (replies.Rejected error text))
-calls_nothing s (replies.Accepted []) = true
-calls_nothing s (replies.Accepted (echo ∷ echoes)) = asks_rollback s
-calls_nothing s _ = false
+calls_nothing step (replies.Frames answers) = is_unanswered step answers.given
+calls_nothing step replies.LinkEnded = true
+calls_nothing step replies.NoLink = true
+calls_nothing step (replies.LinkClosed error) = true
+calls_nothing step (replies.Declared id) = true
+calls_nothing step (replies.Rejected error text) = not (is_veto (replies.Rejected error text))
+calls_nothing step (replies.Accepted []) = true
+calls_nothing step (replies.Accepted (echo ∷ echoes)) = asks_rollback step
+calls_nothing step _ = false
 
 -- an answer without a call below: such a reply, an id that isn't live, an end, a stop before, or
 -- out of memory of the session's own
 abbrev pub OnNoCall : Step → Result (DrawnIds × Reply) StepError → Type 0 → Type 0
-OnNoCall s (Ok out) P = MatchBool (calls_nothing s out.1) P ⊤
-OnNoCall s (Err (errors.Fault error handed)) P = MatchBool (is_unknown error) P ⊤
-OnNoCall s (Err _) P = P
+OnNoCall step (Ok out) P = MatchBool (calls_nothing step out.1) P ⊤
+OnNoCall step (Err (errors.Fault error handed)) P = MatchBool (is_unknown error) P ⊤
+OnNoCall step (Err _) P = P
 
 -- a refusal below, with its fault and how many frames were taken
 abbrev pub IfRefused : Result (DrawnIds × Reply) StepError → (SessionInnerError → ℕ → Type 0)
@@ -284,7 +286,7 @@ IfRefused _ P = ⊤
 
 -- a refusal below in a commit, by how many frames were taken: over a sure layer none was
 abbrev pub StopsSurely : Bool → Step → ℕ → Type 0
-StopsSurely sure (steps.Control k payload) handed = sure ≡ true → handed ≡ 0
+StopsSurely sure (steps.Control link payload) handed = sure ≡ true → handed ≡ 0
 StopsSurely sure _ handed = ⊤
 
 -- the fault of an id that isn't live, with how many frames were taken
@@ -344,7 +346,7 @@ ChecksWork checks old new _ result = ⊤
 
 -- a reply to a step that isn't a frame
 abbrev pub RepliesToNoFrame : Result (DrawnIds × Reply) StepError → Step → Type 0
-RepliesToNoFrame (Err error) s = Unit {0}
+RepliesToNoFrame (Err error) step = Unit {0}
 RepliesToNoFrame (Ok out) (steps.Frame frame) = ⊥
 RepliesToNoFrame (Ok out) _ = Unit {0}
 

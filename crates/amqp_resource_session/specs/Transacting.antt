@@ -37,10 +37,10 @@ AllocatedIn old new (Err allocations.NoMemory) = SameHeld old new
 -- each stripped, all of them or the first, or were vetoed; or memory lacked, and nothing changed
 abbrev pub CommittedWith : Held → Held → Told → Told → TransactionId → List Frame → Type 0
     → Result (Result (List Answers) TransactionError) CommitFault → Type 0
-CommittedWith old new told now id kept Untouched (Err commit_faults.NoMemory) =
+CommittedWith old new old_told new_told id kept Untouched (Err commit_faults.NoMemory) =
     SameHeld old new × Untouched
-CommittedWith old new told now id kept Untouched answer =
-    Ended old new id × HandsAll told now (map stripped kept) answer
+CommittedWith old new old_told new_told id kept Untouched answer =
+    Ended old new id × HandsAll old_told new_told (map stripped kept) answer
 
 -- the fault of a commit as that of a step
 abbrev pub step_error_of : CommitFault → StepError
@@ -55,11 +55,11 @@ unless_starved _ count = count
 -- a commit, by its answer: UnknownId where the id isn't live, else that of its frames
 abbrev pub CommittedIn : Held → Held → Told → Told → TransactionId → Type 0
     → Result (Result (List Answers) TransactionError) CommitFault → Type 0
-CommittedIn old new told now id Untouched (Ok (Err transaction_errors.UnknownId)) =
+CommittedIn old new old_told new_told id Untouched (Ok (Err transaction_errors.UnknownId)) =
     (is_kept old.work id ≡ false) × SameHeld old new × Untouched
-CommittedIn old new told now id Untouched answer =
+CommittedIn old new old_told new_told id Untouched answer =
     (is_kept old.work id ≡ true)
-    × CommittedWith old new told now id (frames_kept (kept old.work id)) Untouched answer
+    × CommittedWith old new old_told new_told id (frames_kept (kept old.work id)) Untouched answer
 
 -- a rollback: a live id ended
 abbrev pub RolledBackIn : Held → Held → TransactionId → Result Accepted TransactionError → Type 0

@@ -6,9 +6,9 @@ ghost use Rattle.amqp_resource_record.specs.declared.step.Step.TheVariants as st
 ghost use Rattle.amqp_resource_session.specs.Leaving.{StepDraws, StepLeaves};
 ghost use Rattle.amqp_resource_held.specs.Looks.{Pays, frames_added, frames_ended, unless_no_memory};
 
-use crate::declaring::{declare_step, global_step};
-use crate::discharging::discharge_step;
-use crate::ending::{end_locally, end_remotely, end_with_connection};
+use crate::declare::{declare_step, global_step};
+use crate::discharge::discharge_step;
+use crate::ends::{end_locally, end_remotely, end_with_connection};
 use crate::frame_steps::frame_step;
 use crate::link_steps::{close_step, link_end_step, no_link_step};
 use amqp_below_ids::{Drawn, IdSource};

@@ -32,11 +32,11 @@
 #![tactic(auto)]
 
 mod as_session;
-mod declaring;
-mod discharging;
+mod declare;
+mod discharge;
 mod dispatch;
-mod driving;
-mod ending;
+mod drive;
+mod ends;
 mod frame_steps;
 mod incoming;
 mod laws;
@@ -44,7 +44,7 @@ mod link_steps;
 mod outcomes;
 mod review;
 mod session;
-mod transacting;
+mod transactional_calls;
 
 pub use amqp_below_ids::{CountIds, Drawn, IdSource, ListIds, numbered_id};
 pub use amqp_resource_coordinator::{
@@ -57,6 +57,6 @@ pub use amqp_resource_record::{
     commits, hands, home, is_answer, is_legal, is_live, is_open, work,
 };
 pub use as_session::HandleControlLink;
-pub use driving::{drive, drive_counted};
+pub use drive::{drive, drive_counted};
 pub use laws::the_view_of_a_record_looks_back;
 pub use session::TxnSession;

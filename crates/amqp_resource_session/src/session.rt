@@ -4,7 +4,7 @@ ghost use Rattle.std.specs.Prelude.{◌≡◌, ◌≤◌, ◌<◌, ◌+◌, ◌*
 ghost use Rattle.amqp_resource_record.specs.declared.entry.Entry.{Entry};
 ghost use Rattle.amqp_resource_record.specs.Links.{attached_count};
 ghost use Rattle.amqp_resource_record.specs.Live.{is_live};
-ghost use Rattle.amqp_resource_session.specs.Stepping.{StepSays};
+ghost use Rattle.amqp_resource_session.specs.StepClauses.{StepSays};
 ghost use Rattle.amqp_resource_held.specs.Looks.{dues, frames_added, frames_ended, unless_no_memory};
 ghost use Rattle.amqp_resource_session.specs.Session.{FitsTogether, IsFresh, StandsFor, StopAfter, below_of, frame_count_of, held_of, is_live_on, opened_of, owed_of, refusals_of, stop_of, vetoes_of};
 

@@ -1,6 +1,6 @@
 -- The agreement of the two sides, put together.
 use Rattle.txn_parties.specs.Exchange.{Exchange}
-use Rattle.txn_parties.specs.Keeping.{Keeps}
+use Rattle.txn_parties.specs.Invariant.{Keeps}
 use Rattle.txn_parties.specs.Agreement.{Agreement}
 use Rattle.txn_parties.proofs.Agreeing.{drawn_once, means, span_rising, stops_sure}
 use Rattle.txn_parties.proofs.Owning.{own_answer, own_declare}

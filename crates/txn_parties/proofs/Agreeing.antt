@@ -38,12 +38,12 @@ use Rattle.txn_parties.specs.declared.event.Heard.{Heard}
 use Rattle.txn_parties.specs.declared.event.Heard.TheVariants as hearings
 use Rattle.txn_parties.specs.Times.{times, RisingFrom}
 use Rattle.txn_parties.specs.Items.{declare_message, declares_on, discharge_message, is_discharge, item_ends, item_under, or_else, step_of}
-use Rattle.txn_parties.specs.Hearing.{heard_by, id_in, verdict, verdict_in}
+use Rattle.txn_parties.specs.BackWire.{heard_by, id_in, verdict, verdict_in}
 use Rattle.txn_parties.specs.Exchange.{Exchange, back_of, entries_of, forward, heard, items_of, record_of}
 use Rattle.txn_parties.specs.Spans.{drawn_on, from_link, span, span_from, stop_places, within}
 use Rattle.txn_parties.specs.Turns.{MayStop}
 use Rattle.txn_parties.specs.Lives.{Life, Unborn, Runs, Took, Spent, Holds, Apart, Fits, Running, Dead, life_in}
-use Rattle.txn_parties.specs.Keeping.{Spans, Agrees, One, Past, PutFits, Ready, Halted, Keeps}
+use Rattle.txn_parties.specs.Invariant.{Spans, Agrees, One, Past, PutFits, Ready, Halted, Keeps}
 use Rattle.txn_parties.specs.Agreement.{AllOf, CommitWaits, NoneOf, PartOf, Open, NoneHanded, AllHanded, PartHanded, Means, StopsSure}
 use Rattle.txn_parties.proofs.Once.{once, times-append, times-cons, times-below, own_or, held_live, origins-below, plain_under}
 use Rattle.txn_parties.proofs.Living.{declare_read, discharge_read, fits_short, not_own, rollback_of}

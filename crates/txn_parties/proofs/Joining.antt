@@ -36,7 +36,7 @@ use Rattle.txn_parties.specs.Items.{step_of}
 use Rattle.txn_parties.specs.Exchange.{Begins, Exchange, begun, entries_of, forward, items_of, record_of}
 use Rattle.txn_parties.specs.Spans.{drawn_on, stop_places}
 use Rattle.txn_parties.specs.Turns.{Arrives, Follows, IsAnswered, IsStopped, Turn, TurnArrive, TurnCut, TurnPut, TurnReturn, entry_by, put_of, with_answer, with_heard, with_put, with_stop}
-use Rattle.txn_parties.specs.Keeping.{Halted, Keeps}
+use Rattle.txn_parties.specs.Invariant.{Halted, Keeps}
 use Rattle.txn_parties.specs.Taken.{Grew, TookSince, all_steps, frames_drawn}
 use Rattle.txn_parties.proofs.Once.{commit_control, origins-below}
 use Rattle.txn_parties.proofs.Turning.{forward_put, record_more}

@@ -14,9 +14,9 @@ use Rattle.txn_parties.specs.declared.event.Heard.TheVariants as hearings
 use Rattle.txn_parties.specs.declared.item.Item.{Item}
 use Rattle.txn_parties.specs.declared.item.Item.TheVariants as items
 use Rattle.txn_parties.specs.Items.{or_else}
-use Rattle.txn_parties.specs.Hearing.{answers, heard_by, id_in, verdict_in}
+use Rattle.txn_parties.specs.BackWire.{answers, heard_by, id_in, verdict_in}
 use Rattle.txn_parties.specs.Exchange.{Exchange, back_of, heard}
-use Rattle.txn_parties.specs.Keeping.{Keeps}
+use Rattle.txn_parties.specs.Invariant.{Keeps}
 use Rattle.txn_parties.specs.Agreement.{OwnAnswer, OwnDeclare, Replied}
 use Rattle.txn_parties.proofs.Wires.{id_in-append, verdict_in-append}
 use Rattle.txn_parties.proofs.Turning.{heard_back}

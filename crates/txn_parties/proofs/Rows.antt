@@ -19,7 +19,7 @@ use Rattle.txn_parties.specs.declared.item.Item.TheVariants as items
 use Rattle.txn_parties.specs.declared.item.Answered.{Answered}
 use Rattle.txn_parties.specs.declared.item.Halt.{Halt}
 use Rattle.txn_parties.specs.Items.{step_of}
-use Rattle.txn_parties.specs.Hearing.{answers}
+use Rattle.txn_parties.specs.BackWire.{answers}
 use Rattle.txn_parties.specs.Exchange.{Exchange, heard, heard_at}
 use Rattle.txn_parties.specs.Spans.{span}
 use Rattle.txn_parties.specs.Turns.{entry_by, state_under}

@@ -34,7 +34,7 @@ use Rattle.txn_parties.specs.Items.{step_of}
 use Rattle.txn_parties.specs.Exchange.{Begins, Exchange, begun, entries_of, forward, items_of, record_of}
 use Rattle.txn_parties.specs.Spans.{drawn_on, stop_places}
 use Rattle.txn_parties.specs.Turns.{entry_by, with_answer, with_put, with_stop}
-use Rattle.txn_parties.specs.Keeping.{Halted, Keeps}
+use Rattle.txn_parties.specs.Invariant.{Halted, Keeps}
 use Rattle.txn_parties.specs.Taken.{Grew, TookSince, all_steps, frames_drawn}
 use Rattle.txn_parties.proofs.Wires.{items-snoc, entries-snoc}
 use Rattle.txn_parties.proofs.Turning.{record_more}

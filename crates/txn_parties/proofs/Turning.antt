@@ -30,11 +30,11 @@ use Rattle.txn_parties.specs.declared.item.Item.TheVariants as items
 use Rattle.txn_parties.specs.declared.item.Answered.{Answered}
 use Rattle.txn_parties.specs.declared.item.Halt.{Halt}
 use Rattle.txn_parties.specs.Items.{controller_in, ends_link, is_any_declare, is_declare, is_discharge, item_ends, made_in, or_else, step_of}
-use Rattle.txn_parties.specs.Hearing.{answers, id_in, verdict_in}
+use Rattle.txn_parties.specs.BackWire.{answers, id_in, verdict_in}
 use Rattle.txn_parties.specs.Exchange.{Begins, Exchange, back_of, begun, entries_of, forward, items_of, made, record_of}
 use Rattle.txn_parties.specs.Turns.{Arrives, Follows, IsAnswered, IsShort, IsStopped, MayStop, Turn, TurnArrive, TurnCut, TurnPut, TurnReturn, discharge_of, entry_by, has_link, if_id, if_link, put_of, state_under, with_answer, with_heard, with_put, with_stop}
 use Rattle.txn_parties.specs.Lives.{Life, Unborn, Runs, Took, Spent, fate_from, next_life, runs_next, unborn_next, born, ended, life_in, Holds, Apart, Fits, Running}
-use Rattle.txn_parties.specs.Keeping.{Spans, HasEnded, Marks, Agrees, One, Past, PutFits, Ready, Halted, Keeps}
+use Rattle.txn_parties.specs.Invariant.{Spans, HasEnded, Marks, Agrees, One, Past, PutFits, Ready, Halted, Keeps}
 use Rattle.txn_parties.proofs.Living.{life_holds, declared_dead}
 use Rattle.txn_parties.proofs.Wires.{fate_from-snoc, items-snoc, entries-snoc, back-snoc, spans_next, marks_next, agrees_next, FreshDeclare, found_first, id_in-append}
 

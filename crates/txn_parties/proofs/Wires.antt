@@ -20,11 +20,11 @@ use Rattle.txn_parties.specs.declared.item.Answered.{Answered}
 use Rattle.txn_parties.specs.declared.event.Heard.{Heard}
 use Rattle.txn_parties.specs.declared.event.Heard.TheVariants as hearings
 use Rattle.txn_parties.specs.Items.{or_else, is_declare, is_discharge, ends_link, item_ends, item_under, declares_on, controller_in}
-use Rattle.txn_parties.specs.Hearing.{answers, id_in, verdict_in, verdict, declared_id, state_of, asked_by}
+use Rattle.txn_parties.specs.BackWire.{answers, id_in, verdict_in, verdict, declared_id, state_of, asked_by}
 use Rattle.txn_parties.specs.Exchange.{items_of, entries_of, back_of}
 use Rattle.txn_parties.specs.Spans.{within, span_from, from_link}
 use Rattle.txn_parties.specs.Lives.{Life, Unborn, Runs, Took, Spent, fate_from, next_life, runs_next, unborn_next, born, ended}
-use Rattle.txn_parties.specs.Keeping.{Spans, HasEnded, Marks, Agrees}
+use Rattle.txn_parties.specs.Invariant.{Spans, HasEnded, Marks, Agrees}
 
 or_else-assoc : {A : Type 0} (a b c : Option A) → or_else (or_else a b) c ≡ or_else a (or_else b c)
 or_else-assoc (Some v) b c = refl

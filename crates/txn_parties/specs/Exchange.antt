@@ -10,7 +10,7 @@ use Rattle.txn_parties.specs.declared.item.Item.{Item}
 use Rattle.txn_parties.specs.declared.item.Answered.{Answered}
 use Rattle.txn_parties.specs.declared.item.Halt.{Halt}
 use Rattle.txn_parties.specs.Items.{made_in}
-use Rattle.txn_parties.specs.Hearing.{answers, heard_by, id_in, verdict_in}
+use Rattle.txn_parties.specs.BackWire.{answers, heard_by, id_in, verdict_in}
 
 -- the two parties at one moment, since they began
 pub record Exchange : Type 0 where
@@ -45,28 +45,28 @@ back_of came = flat_map (λ (p : Item × Entry). answers p.0 p.1.reply) came
 
 -- the record of the resource: the attaches, and then the items that arrived, in order
 abbrev pub record_of : Exchange → List Entry
-record_of w = w.first ++ entries_of w.came
+record_of exchange = exchange.first ++ entries_of exchange.came
 
 -- all items that were put, in order
 abbrev pub forward : Exchange → List Item
-forward w = items_of w.came ++ w.waiting
+forward exchange = items_of exchange.came ++ exchange.waiting
 
 -- how many transactions were made
 abbrev pub made : Exchange → ℕ
-made w = made_in (forward w)
+made exchange = made_in (forward exchange)
 
 -- the id that the transaction was told
 abbrev pub id_heard : Exchange → ℕ → Option TransactionId
-id_heard w x = id_in x w.told
+id_heard exchange number = id_in number exchange.told
 
 -- hearing: what the transaction heard, by the answers to its own declare and discharge that
 -- returned
 abbrev pub heard : Exchange → ℕ → Heard
-heard w x = heard_by (id_in x w.told) (verdict_in x w.told)
+heard exchange number = heard_by (id_in number exchange.told) (verdict_in number exchange.told)
 
 -- the same, where there is a transaction with this number
 abbrev pub heard_at : Exchange → ℕ → Option Heard
-heard_at w x = cond (nat_lt x (made w)) (Some (heard w x)) None
+heard_at exchange number = cond (nat_lt number (made exchange)) (Some (heard exchange number)) None
 
 -- the attaches with which two parties begin: allowed, and each of them attached a link
 pub record Begins (first : List Entry) : Type 0 where

@@ -20,42 +20,43 @@ declare_message = messages.Declare (record { global_id = None })
 
 -- a discharge that says whether it is a rollback (4.5.3, Discharge)
 abbrev pub discharge_message : TransactionId → Bool → ControlMessageBody
-discharge_message t rollback = messages.Discharge (record { txn_id = t; fail = Some rollback })
+discharge_message id rollback = messages.Discharge (record { txn_id = id; fail = Some rollback })
 
 -- the step that an item is at the resource; messages are spelled canonically
 abbrev pub step_of : Item → Step
-step_of (items.Declare x k) = steps.Control k (canon declare_message)
-step_of (items.Discharge x k t rollback) = steps.Control k (canon (discharge_message t rollback))
-step_of (items.LinkEnd k) = steps.LinkEnd k
+step_of (items.Declare number link) = steps.Control link (canon declare_message)
+step_of (items.Discharge number link id rollback) =
+    steps.Control link (canon (discharge_message id rollback))
+step_of (items.LinkEnd link) = steps.LinkEnd link
 step_of (items.Frame frame) = steps.Frame frame
 
 -- the declare of the transaction
 abbrev pub is_declare : ℕ → Item → Bool
-is_declare x (items.Declare y k) = x == y
-is_declare x _ = false
+is_declare number (items.Declare other link) = number == other
+is_declare number _ = false
 
 -- the discharge of the transaction
 abbrev pub is_discharge : ℕ → Item → Bool
-is_discharge x (items.Discharge y k t rollback) = x == y
-is_discharge x _ = false
+is_discharge number (items.Discharge other link id rollback) = number == other
+is_discharge number _ = false
 
 -- the end of the link
 abbrev pub ends_link : ℕ → Item → Bool
-ends_link k (items.LinkEnd j) = j == k
-ends_link k _ = false
+ends_link link (items.LinkEnd ended) = ended == link
+ends_link link _ = false
 
 -- what ends the transaction, which was declared on the link: its discharge, or the link's end
 abbrev pub item_ends : ℕ → ℕ → Item → Bool
-item_ends x k i = is_discharge x i || ends_link k i
+item_ends number link item = is_discharge number item || ends_link link item
 
 -- a frame under the id (4.5.6, Transactional State)
 abbrev pub item_under : TransactionId → Item → Bool
-item_under t (items.Frame frame) = is_some_id t (txn frame)
-item_under t _ = false
+item_under id (items.Frame frame) = is_some_id id (txn frame)
+item_under id _ = false
 
 -- some transaction's declare
 abbrev pub is_any_declare : Item → Bool
-is_any_declare (items.Declare y k) = true
+is_any_declare (items.Declare other link) = true
 is_any_declare _ = false
 
 -- how many transactions were made, which is the number of the next one
@@ -64,15 +65,15 @@ made_in list = count_by is_any_declare list
 
 -- the first that is there
 abbrev pub or_else : {A : Type 0} → Option A → Option A → Option A
-or_else (Some v) o = Some v
-or_else None o = o
+or_else (Some first) second = Some first
+or_else None second = second
 
 -- the link on which the item declares the transaction
 abbrev pub declares_on : ℕ → Item → Option ℕ
-declares_on x (items.Declare y k) = cond (x == y) (Some k) None
-declares_on x _ = None
+declares_on number (items.Declare other link) = cond (number == other) (Some link) None
+declares_on number _ = None
 
 -- the link on which the transaction is declared, which is that of its controller
 abbrev pub controller_in : ℕ → List Item → Option ℕ
-controller_in x [] = None
-controller_in x (i ∷ list) = or_else (declares_on x i) (controller_in x list)
+controller_in number [] = None
+controller_in number (item ∷ list) = or_else (declares_on number item) (controller_in number list)

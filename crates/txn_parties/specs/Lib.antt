@@ -1,10 +1,10 @@
 pub mod Times
 pub mod Items
-pub mod Hearing
+pub mod BackWire
 pub mod Exchange
 pub mod Spans
 pub mod Turns
 pub mod Lives
-pub mod Keeping
+pub mod Invariant
 pub mod Agreement
 pub mod Taken

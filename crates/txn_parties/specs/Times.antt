@@ -4,9 +4,9 @@ use Rattle.std.specs.List.{count_by}
 
 -- how often the place stands in the list
 abbrev pub times : ℕ → List ℕ → ℕ
-times i xs = count_by (λ (j : ℕ). j == i) xs
+times place places = count_by (λ (j : ℕ). j == place) places
 
--- the places rise, from n on
+-- the places rise, from this one on
 abbrev pub RisingFrom : ℕ → List ℕ → Type 0
-RisingFrom n [] = Unit {0}
-RisingFrom n (x ∷ xs) = (n ≤ x) × RisingFrom (x + 1) xs
+RisingFrom least [] = Unit {0}
+RisingFrom least (place ∷ places) = (least ≤ place) × RisingFrom (place + 1) places

@@ -21,7 +21,7 @@ ghost use Rattle.txn_parties.specs.declared.item.Halt.{Halt};
 ghost use Rattle.txn_parties.specs.Items.{step_of};
 ghost use Rattle.txn_parties.specs.Exchange.{Begins, Exchange, begun, record_of};
 ghost use Rattle.txn_parties.specs.Turns.{Follows, Turn, with_answer, with_stop};
-ghost use Rattle.txn_parties.specs.Keeping.{Keeps};
+ghost use Rattle.txn_parties.specs.Invariant.{Keeps};
 ghost use Rattle.txn_parties.specs.Agreement.{Agreement};
 ghost use Rattle.txn_parties.specs.Taken.{Grew, TookSince};
 

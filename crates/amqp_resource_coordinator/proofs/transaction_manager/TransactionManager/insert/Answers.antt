@@ -1,6 +1,6 @@
 use Rattle.std.proofs.Common.{◌∙◌, ap, cond, Some, []}
 use Rattle.amqp_txn_types.specs.Ids.{same_id}
-use Rattle.amqp_resource_coordinator.specs.Managing.{work_under}
+use Rattle.amqp_resource_coordinator.specs.Managed.{work_under}
 use Rattle.amqp_resource_coordinator.proofs.transaction_manager.TransactionManager.insert.Goals as goal
 
 -- the map's entries are what the manager was seen as, and the new work is none
