@@ -1,5 +1,5 @@
 -- What the run of a process leaves: for its arguments, or where there were none.
-use Rattle.std.specs.Prelude.{ℕ, ◌≡◌, [], IsNone, Result, Ok, Err, List}
+use Rattle.std.specs.Prelude.{ℕ, ◌≡◌, [], Some, IsNone, Result, Ok, Err, List}
 use Rattle.amqp_below_layer.specs.Told.{Told}
 use Rattle.amqp_below_recorder.specs.Recording.{IsFresh, inner_of, is_unused, own_of, own_vetoes_of, plan_of, starved_of}
 use Rattle.amqp_below_recorder.specs.declared.recorder.Recorder.{Recorder}
@@ -16,7 +16,7 @@ use Rattle.txn_program_runs.specs.declared.step_runs.Ran.{Ran}
 abbrev pub IsNewRecorder : {S : Type 0} → Told → Recorder S → Type 0
 IsNewRecorder told below =
     IsFresh (is_unused below) told × (plan_of below ≡ []) × (starved_of below ≡ [])
-    × (own_of below ≡ 0) × (own_vetoes_of below ≡ 0)
+    × (own_of below ≡ 0) × (own_vetoes_of below ≡ 0) × (told.reviews.vetoed ≡ Some [])
 
 -- a run without arguments: nothing is read or driven, and the recorder stays as it was. The status
 -- is that of the fault; out of memory or a fault of the sink may come in its place
