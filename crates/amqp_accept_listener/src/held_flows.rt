@@ -3,7 +3,7 @@
 ghost use Rattle.std.specs.Prelude.{◌≡◌, ◌++◌, [], None, IsSome, OnOk, IfOk};
 ghost use Rattle.std.specs.HashMap.{get as entry_of};
 ghost use Rattle.amqp_below_sessions.specs.Links.{same_input};
-ghost use Rattle.amqp_txn_types.specs.declared.small.InputHandle.{InputHandle as Input};
+ghost use Rattle.amqp_txn_types.specs.declared.small.InputHandle.{InputHandle};
 ghost use Rattle.amqp_accept_listener.specs.Held.{HasRoom, HasRoomFor, ListHasRoom, SameHeld, SameLists, flows_for, link_flow_in, replaying, with_flows, with_held};
 
 use amqp_below_sessions::{Relay, link_flow};
@@ -24,7 +24,7 @@ pub struct HeldFlows {
 impl HeldFlows {
     /// No flows. It takes no memory.
     pub fn new(alloc: Global) -> Self
-        ensures { (input : Input) → flows_for result input ≡ [] }
+        ensures { (input : InputHandle) → flows_for result input ≡ [] }
     {
         HeldFlows {
             flows: HashMap::new(alloc),

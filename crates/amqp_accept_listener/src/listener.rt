@@ -1,7 +1,7 @@
 //! A session whose peer's attaches wait to be accepted.
 
 ghost use Rattle.std.specs.Prelude.{◌≡◌, [], false};
-ghost use Rattle.amqp_txn_types.specs.declared.small.InputHandle.{InputHandle as Input};
+ghost use Rattle.amqp_txn_types.specs.declared.small.InputHandle.{InputHandle};
 ghost use Rattle.amqp_accept_listener.specs.Listening.{ChangesQueue, TakesNewest, control_of, held_of, inner_of, own_of, queue_of};
 
 mod endpoint_calls;
@@ -45,7 +45,7 @@ impl<S: Session> ListenerSession<S> {
         ensures inner { inner_of result ≡ session }
         ensures control { control_of result ≡ control }
         ensures queue { queue_of result ≡ record { waiting = []; closed = false } }
-        ensures held { (input : Input) → held_of result input ≡ [] }
+        ensures held { (input : InputHandle) → held_of result input ≡ [] }
         ensures own { own_of result ≡ 0 }
     {
         ListenerSession {

@@ -3,9 +3,9 @@
 ghost use Rattle.std.specs.Prelude.{◌≡◌, ◌<◌, ◌^◌, [], Some, None, is_some, option_copied, IfSome, IsSome, MatchOption, OnOk, OnErr, IfOk};
 ghost use Rattle.std.specs.Bool.{OnTrue};
 ghost use Rattle.std.specs.HashMap.{get as entry_of};
-ghost use Rattle.amqp_txn_types.specs.declared.small.InputHandle.{InputHandle as Input};
+ghost use Rattle.amqp_txn_types.specs.declared.small.InputHandle.{InputHandle};
 ghost use Rattle.amqp_below_sessions.specs.Links.{Finds, IsWaiting, LinkTable, Sets, attached, link_at, mapped_link, output_mapped, output_named, same_input, settled_as, waiting_link, with_flow, with_transfer};
-ghost use Rattle.amqp_txn_types.specs.declared.text.Text.{Text as Name};
+ghost use Rattle.amqp_txn_types.specs.declared.text.Text.{Text};
 ghost use Rattle.amqp_below_sessions.specs.Agreement.{found_without, input_in, name_in};
 
 use crate::relay::Relay;
@@ -194,7 +194,7 @@ impl Links {
             (Sets self.old.slots self.new.slots output.0
             (attached input mode (link_at self.old.slots output.0))) }
         ensures named { OnOk result
-            ((name : Name) → output_named self.new.slots name ≡ output_named self.old.slots name) }
+            ((name : Text) → output_named self.new.slots name ≡ output_named self.old.slots name) }
         ensures mapped { OnOk result (output_mapped self.new.slots input ≡ Some output.0) }
         ensures next { self.new.next ≡ self.old.next }
         ensures err { OnErr result (self.new ≡ self.old) }
@@ -213,9 +213,9 @@ impl Links {
     pub fn free(&mut self, output: OutputHandle) -> bool
         ensures found { result ≡ is_some (link_at self.old.slots output.0) }
         ensures freed { Sets self.old.slots self.new.slots output.0 None }
-        ensures unnamed { (name : Name) → name_in (link_at self.old.slots output.0) ≡ Some name
+        ensures unnamed { (name : Text) → name_in (link_at self.old.slots output.0) ≡ Some name
             → output_named self.new.slots name ≡ None }
-        ensures unmapped { (input : Input) → input_in (link_at self.old.slots output.0) ≡ Some input
+        ensures unmapped { (input : InputHandle) → input_in (link_at self.old.slots output.0) ≡ Some input
             → output_mapped self.new.slots input ≡ None }
         ensures next { OnTrue result (self.new.next ≡ output.0) }
         ensures absent { link_at self.old.slots output.0 ≡ None → self.new ≡ self.old }
@@ -277,7 +277,7 @@ fn settled_as(
 
 /// Takes an input handle out, where there is one.
 fn forget(inputs: &mut HashMap<InputHandle, OutputHandle>, input: Option<InputHandle>)
-    ensures { (q : Input) → entry_of same_input inputs.new q
+    ensures { (q : InputHandle) → entry_of same_input inputs.new q
         ≡ found_without input q (entry_of same_input inputs.old q) }
 {
     if let Some(input) = input {

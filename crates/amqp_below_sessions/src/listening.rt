@@ -11,13 +11,13 @@ use amqp_txn_types::Attach;
 /// attach and those here changes the queue.
 pub trait ListenerSessionEndpoint: Session {
     ghost use Rattle.std.specs.Prelude.{◌≡◌, IsTrue, Option};
-    ghost use Rattle.amqp_txn_types.specs.declared.performatives.Attach.{Attach as Opening};
+    ghost use Rattle.amqp_txn_types.specs.declared.performatives.Attach.{Attach};
     ghost use Rattle.amqp_below_sessions.specs.Names.{SameNames};
     ghost use Rattle.amqp_below_sessions.specs.Queues.{closed_queue, first_waiting, without_first};
     ghost use Rattle.amqp_below_sessions.specs.Sessions.{with_queue};
 
     /// What taking the next attach answers and leaves: the session before and after, the answer.
-    ghost next_attach_gives: { Self → Self → Option Opening → Type 0 };
+    ghost next_attach_gives: { Self → Self → Option Attach → Type 0 };
 
     /// What closing the queue leaves: the session before and after.
     ghost close_gives: { Self → Self → Type 0 };

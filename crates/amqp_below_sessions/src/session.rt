@@ -31,30 +31,30 @@ use amqp_txn_types::{
 /// [`on_incoming_end`]: Session::on_incoming_end
 pub trait Session: LayerBelow {
     ghost use Rattle.std.specs.Prelude.{◌≡◌, Bool, List, Option, Result, is_some, option_copied};
-    ghost use Rattle.amqp_txn_types.specs.declared.text.Text.{Text as Name};
-    ghost use Rattle.amqp_txn_types.specs.declared.small.IncomingChannel.{IncomingChannel as Channel};
-    ghost use Rattle.amqp_txn_types.specs.declared.small.InputHandle.{InputHandle as Input};
-    ghost use Rattle.amqp_txn_types.specs.declared.small.OutputHandle.{OutputHandle as Output};
-    ghost use Rattle.amqp_txn_types.specs.declared.performatives.Attach.{Attach as Opening};
-    ghost use Rattle.amqp_txn_types.specs.declared.performatives.Begin.{Begin as Beginning};
-    ghost use Rattle.amqp_txn_types.specs.declared.performatives.Detach.{Detach as Closing};
-    ghost use Rattle.amqp_txn_types.specs.declared.performatives.Disposition.{Disposition as Settling};
-    ghost use Rattle.amqp_txn_types.specs.declared.performatives.End.{End as Ending};
-    ghost use Rattle.amqp_txn_types.specs.declared.performatives.Flow.{Flow as Window};
-    ghost use Rattle.amqp_txn_types.specs.declared.performatives.Frame.{Frame as Came};
-    ghost use Rattle.amqp_txn_types.specs.declared.performatives.LinkFlow.{LinkFlow as LinkWindow};
-    ghost use Rattle.amqp_txn_types.specs.declared.performatives.Transfer.{Transfer as Sent};
-    ghost use Rattle.amqp_txn_types.specs.declared.delivery.ConnectionStopReason.{ConnectionStopReason as CutOff};
-    ghost use Rattle.amqp_txn_types.specs.declared.delivery.Error.{Error as Cause};
-    ghost use Rattle.amqp_txn_types.specs.declared.delivery.SessionStopReason.{SessionStopReason as Stop};
+    ghost use Rattle.amqp_txn_types.specs.declared.text.Text.{Text};
+    ghost use Rattle.amqp_txn_types.specs.declared.small.IncomingChannel.{IncomingChannel};
+    ghost use Rattle.amqp_txn_types.specs.declared.small.InputHandle.{InputHandle};
+    ghost use Rattle.amqp_txn_types.specs.declared.small.OutputHandle.{OutputHandle};
+    ghost use Rattle.amqp_txn_types.specs.declared.performatives.Attach.{Attach};
+    ghost use Rattle.amqp_txn_types.specs.declared.performatives.Begin.{Begin};
+    ghost use Rattle.amqp_txn_types.specs.declared.performatives.Detach.{Detach};
+    ghost use Rattle.amqp_txn_types.specs.declared.performatives.Disposition.{Disposition};
+    ghost use Rattle.amqp_txn_types.specs.declared.performatives.End.{End};
+    ghost use Rattle.amqp_txn_types.specs.declared.performatives.Flow.{Flow};
+    ghost use Rattle.amqp_txn_types.specs.declared.performatives.Frame.{Frame};
+    ghost use Rattle.amqp_txn_types.specs.declared.performatives.LinkFlow.{LinkFlow};
+    ghost use Rattle.amqp_txn_types.specs.declared.performatives.Transfer.{Transfer};
+    ghost use Rattle.amqp_txn_types.specs.declared.delivery.ConnectionStopReason.{ConnectionStopReason};
+    ghost use Rattle.amqp_txn_types.specs.declared.delivery.Error.{Error};
+    ghost use Rattle.amqp_txn_types.specs.declared.delivery.SessionStopReason.{SessionStopReason};
     ghost use Rattle.amqp_below_layer.specs.Told.{Checks};
-    ghost use Rattle.amqp_below_layer.specs.declared.inner_error.SessionInnerError.{SessionInnerError as Fault};
-    ghost use Rattle.amqp_below_layer.specs.declared.verdict.Verdict.{Verdict as Judged};
-    ghost use Rattle.amqp_txn_types.specs.declared.items.NoMemory.{NoMemory as Full};
+    ghost use Rattle.amqp_below_layer.specs.declared.inner_error.SessionInnerError.{SessionInnerError};
+    ghost use Rattle.amqp_below_layer.specs.declared.verdict.Verdict.{Verdict};
+    ghost use Rattle.amqp_txn_types.specs.declared.items.NoMemory.{NoMemory};
     ghost use Rattle.amqp_below_sessions.specs.declared.relay.NameState.TheVariants.{Taken, Waiting};
-    ghost use Rattle.amqp_below_sessions.specs.declared.relay.Relay.{Relay as Passed};
-    ghost use Rattle.amqp_below_sessions.specs.declared.session_errors.AllocLinkError.{AllocLinkError as Unallocated};
-    ghost use Rattle.amqp_below_sessions.specs.declared.session_errors.BeginError.{BeginError as Unbegun};
+    ghost use Rattle.amqp_below_sessions.specs.declared.relay.Relay.{Relay};
+    ghost use Rattle.amqp_below_sessions.specs.declared.session_errors.AllocLinkError.{AllocLinkError};
+    ghost use Rattle.amqp_below_sessions.specs.declared.session_errors.BeginError.{BeginError};
     ghost use Rattle.amqp_below_sessions.specs.Names.{FreesLink, Names, PlacesLink, SameNames};
     ghost use Rattle.amqp_below_sessions.specs.SessionStates.{begin_received, begin_sent, end_received, end_sent};
     ghost use Rattle.amqp_below_sessions.specs.Sessions.{Kept, Leaves, LeavesFrame, LeavesOpening, Moves, StoppedBy, cut_off_for, stopped_for};
@@ -73,54 +73,57 @@ pub trait Session: LayerBelow {
 
     /// What keeping a reason why the session stopped leaves: the session before and after, the
     /// reason.
-    ghost stop_gives: { Self → Self → Stop → Type 0 };
+    ghost stop_gives: { Self → Self → SessionStopReason → Type 0 };
 
     /// What keeping a reason why the connection stopped leaves: the session before and after, the
     /// reason.
-    ghost connection_stop_gives: { Self → Self → CutOff → Type 0 };
+    ghost connection_stop_gives: { Self → Self → ConnectionStopReason → Type 0 };
 
     /// What an allocation answers and leaves: the session before and after, the link's name and its
     /// relay, the answer.
-    ghost allocate_link_gives: { Self → Self → Name → Passed → Result Output Unallocated → Type 0 };
+    ghost allocate_link_gives: { Self → Self → Text → Relay → Result OutputHandle AllocLinkError
+        → Type 0 };
 
     /// The same for a link that the peer attached, with the peer's handle.
-    ghost allocate_incoming_link_gives: { Self → Self → Name → Passed → Input
-        → Result Output Unallocated → Type 0 };
+    ghost allocate_incoming_link_gives: { Self → Self → Text → Relay → InputHandle
+        → Result OutputHandle AllocLinkError → Type 0 };
 
     /// What freeing an output handle answers and leaves: the session before and after, the handle,
     /// the answer.
-    ghost deallocate_link_gives: { Self → Self → Output → Bool → Type 0 };
+    ghost deallocate_link_gives: { Self → Self → OutputHandle → Bool → Type 0 };
 
     /// What a begin that came leaves: the session before and after, its channel, the begin, the
     /// answer.
-    ghost begin_received_gives: { Self → Self → Channel → Beginning → Result Unit Fault → Type 0 };
+    ghost begin_received_gives: { Self → Self → IncomingChannel → Begin
+        → Result Unit SessionInnerError → Type 0 };
 
     /// What an end that came leaves: the session before and after, its channel, the end, the
     /// answer.
-    ghost end_received_gives: { Self → Self → Channel → Ending → Result Unit Fault → Type 0 };
+    ghost end_received_gives: { Self → Self → IncomingChannel → End → Result Unit SessionInnerError
+        → Type 0 };
 
     /// What sending a begin answers and leaves: the session before and after, the answer.
-    ghost begin_sent_gives: { Self → Self → Result Beginning Unbegun → Type 0 };
+    ghost begin_sent_gives: { Self → Self → Result Begin BeginError → Type 0 };
 
     /// What sending an end answers and leaves: the session before and after, the error, the answer.
-    ghost end_sent_gives: { Self → Self → Option Cause → Result Ending Fault → Type 0 };
+    ghost end_sent_gives: { Self → Self → Option Error → Result End SessionInnerError → Type 0 };
 
     /// What the check of an attach answers and leaves: the session before and after, the attach,
     /// the answer.
-    ghost outgoing_attach_gives: { Self → Self → Opening → Result Unit Fault → Type 0 };
+    ghost outgoing_attach_gives: { Self → Self → Attach → Result Unit SessionInnerError → Type 0 };
 
     /// What sending a link's flow answers and leaves: the session before and after, the link's
     /// flow, the answer.
-    ghost outgoing_flow_gives: { Self → Self → LinkWindow → Result Window Fault → Type 0 };
+    ghost outgoing_flow_gives: { Self → Self → LinkFlow → Result Flow SessionInnerError → Type 0 };
 
     /// What sending a transfer answers and leaves: the session before and after, the link's input
     /// handle, the transfer before and after, whether it is the first of its delivery, the answer.
-    ghost outgoing_transfer_gives: { Self → Self → Input → Sent → Sent → Bool
-        → Result Unit Fault → Type 0 };
+    ghost outgoing_transfer_gives: { Self → Self → InputHandle → Transfer → Transfer → Bool
+        → Result Unit SessionInnerError → Type 0 };
 
     /// What the check of a detach answers and leaves: the session before and after, the detach, the
     /// answer.
-    ghost outgoing_detach_gives: { Self → Self → Closing → Result Unit Fault → Type 0 };
+    ghost outgoing_detach_gives: { Self → Self → Detach → Result Unit SessionInnerError → Type 0 };
 
     /// Why the session stopped, where it did.
     fn session_stop_reason(&self) -> Option<&SessionStopReason>
@@ -253,26 +256,29 @@ pub trait Session: LayerBelow {
 
     /// An incoming frame call leaves what is kept, but that an attach may wait in the queue now;
     /// and of the names it leaves what a frame of its kind may.
-    ghost incoming_leaves: { (old new : Self) (frame : Came) (answer : Result (List Came) Fault)
+    ghost incoming_leaves: { (old new : Self) (frame : Frame)
+        (answer : Result (List Frame) SessionInnerError)
         → Self.incoming_gives old new frame answer
         → LeavesFrame accepts_at_once (kept old) (kept new) (names old) (names new) frame answer };
 
     /// The attach of a control link leaves what is kept, and where it is opened its name is taken.
-    ghost opening_leaves: { (old new : Self) (attach : Opening) (answer : Result (List Came) Fault)
+    ghost opening_leaves: { (old new : Self) (attach : Attach)
+        (answer : Result (List Frame) SessionInnerError)
         → Self.opening_gives old new attach answer
         → LeavesOpening (kept old) (kept new) (names old) (names new) attach answer };
 
     /// The check of a disposition leaves what is kept and the names.
-    ghost check_leaves: { (old new : Self) (disposition : Settling) (answer : Result Unit Fault)
+    ghost check_leaves: { (old new : Self) (disposition : Disposition)
+        (answer : Result Unit SessionInnerError)
         → Self.check_gives old new disposition answer
         → Leaves (kept old) (kept new) (names old) (names new) };
 
     /// A review leaves what is kept and the names.
-    ghost review_leaves: { (old new : Self) (list : List Came) (answer : Result Judged Full)
+    ghost review_leaves: { (old new : Self) (list : List Frame) (answer : Result Verdict NoMemory)
         → Self.review_gives old new list answer
         → Leaves (kept old) (kept new) (names old) (names new) };
 
     /// Asking for the window leaves what is kept and the names.
-    ghost window_leaves: { (old new : Self) (flow : Option Window) → Self.window_gives old new flow
+    ghost window_leaves: { (old new : Self) (flow : Option Flow) → Self.window_gives old new flow
         → Leaves (kept old) (kept new) (names old) (names new) };
 }

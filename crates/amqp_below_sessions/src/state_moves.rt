@@ -1,7 +1,7 @@
 //! How the state of a session moves. Part 2 of the standard, section 2.5.5 (session states).
 
 ghost use Rattle.std.specs.Prelude.{◌≡◌, Option, Some, MatchResult};
-ghost use Rattle.amqp_below_layer.specs.declared.inner_error.SessionInnerError.{SessionInnerError as Fault};
+ghost use Rattle.amqp_below_layer.specs.declared.inner_error.SessionInnerError.{SessionInnerError};
 ghost use Rattle.amqp_below_layer.specs.declared.inner_error.SessionInnerError.TheVariants as faults;
 ghost use Rattle.amqp_txn_types.specs.declared.small.SessionState.TheVariants.{Mapped};
 ghost use Rattle.amqp_below_sessions.specs.SessionStates as moves;
@@ -14,7 +14,7 @@ use amqp_txn_types::SessionState;
 pub fn require_mapped(state: SessionState) -> Result<(), SessionInnerError>
     ensures { MatchResult result (λ done. state ≡ Mapped)
         (λ error. (error ≡ faults.IllegalState)
-        × ((fault : Option Fault) → mapped_fault state fault ≡ Some faults.IllegalState)) }
+        × ((fault : Option SessionInnerError) → mapped_fault state fault ≡ Some faults.IllegalState)) }
 {
     match state {
         SessionState::Mapped => Ok(()),

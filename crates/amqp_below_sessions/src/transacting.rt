@@ -42,15 +42,16 @@ pub enum CommitFault {
 /// refusals rose in the call, or stands at its last value, 2^64 - 1.
 pub trait HandleDeclare: Tells {
     ghost use Rattle.std.specs.Prelude.{◌≡◌, ℕ, Result};
-    ghost use Rattle.amqp_txn_types.specs.declared.id.TransactionId.{TransactionId as Id};
+    ghost use Rattle.amqp_txn_types.specs.declared.id.TransactionId.{TransactionId};
     ghost use Rattle.amqp_below_ids.specs.Drawn.{DrawnIds};
     ghost use Rattle.amqp_below_layer.specs.Told.{Checks};
     ghost use Rattle.amqp_below_sessions.specs.Transacting.{Allocates};
-    ghost use Rattle.amqp_below_sessions.specs.declared.transacting.AllocTxnIdError.{AllocTxnIdError as Refused};
+    ghost use Rattle.amqp_below_sessions.specs.declared.transacting.AllocTxnIdError.{AllocTxnIdError};
 
     /// What an allocation answers, and what it makes of the session: before, after, the ids that
     /// the source gives before and after, and the answer.
-    ghost allocate_gives: { Self → Self → (ℕ → Id) → (ℕ → Id) → Result DrawnIds Refused → Type 0 };
+    ghost allocate_gives: { Self → Self → (ℕ → TransactionId) → (ℕ → TransactionId)
+        → Result DrawnIds AllocTxnIdError → Type 0 };
 
     /// Draws ids until one isn't live, at most 16, and makes the last one live. Room is made before
     /// the first draw.
@@ -70,22 +71,23 @@ pub trait HandleDeclare: Tells {
 /// comes only where the count of refusals rose in the call, or stands at its last value.
 pub trait HandleDischarge: Tells {
     ghost use Rattle.std.specs.Prelude.{List, Result};
-    ghost use Rattle.amqp_txn_types.specs.declared.id.TransactionId.{TransactionId as Id};
-    ghost use Rattle.amqp_txn_types.specs.declared.small.Accepted.{Accepted as Done};
-    ghost use Rattle.amqp_txn_types.specs.declared.small.TransactionError.{TransactionError as Failure};
+    ghost use Rattle.amqp_txn_types.specs.declared.id.TransactionId.{TransactionId};
+    ghost use Rattle.amqp_txn_types.specs.declared.small.Accepted.{Accepted};
+    ghost use Rattle.amqp_txn_types.specs.declared.small.TransactionError.{TransactionError};
     ghost use Rattle.amqp_txn_types.specs.Counts.{Rose};
-    ghost use Rattle.amqp_below_layer.specs.declared.answers.Answers.{Answers as Echo};
+    ghost use Rattle.amqp_below_layer.specs.declared.answers.Answers.{Answers};
     ghost use Rattle.amqp_below_layer.specs.Told.{Checks, Steady};
-    ghost use Rattle.amqp_below_sessions.specs.declared.transacting.CommitFault.{CommitFault as Fault};
+    ghost use Rattle.amqp_below_sessions.specs.declared.transacting.CommitFault.{CommitFault};
     ghost use Rattle.amqp_below_sessions.specs.Transacting.{CommitRefused};
 
     /// What a commit hands below and answers: the session before and after, the transaction, the
     /// answer.
-    ghost commit_gives: { Self → Self → Id → Result (Result (List Echo) Failure) Fault → Type 0 };
+    ghost commit_gives: { Self → Self → TransactionId
+        → Result (Result (List Answers) TransactionError) CommitFault → Type 0 };
 
     /// What a rollback drops and answers: the session before and after, the transaction, the
     /// answer.
-    ghost rollback_gives: { Self → Self → Id → Result Done Failure → Type 0 };
+    ghost rollback_gives: { Self → Self → TransactionId → Result Accepted TransactionError → Type 0 };
 
     /// Ends the transaction and hands its frames below, in the order in which they came, where they
     /// are accepted there. The answers are those of its frames; `UnknownId` where there is no such

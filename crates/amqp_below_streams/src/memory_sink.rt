@@ -20,9 +20,9 @@ pub struct MemorySink {
 }
 
 impl Model for MemorySink {
-    ghost use Rattle.amqp_below_streams.specs.Memory.{SinkInMemory as SinkValue};
+    ghost use Rattle.amqp_below_streams.specs.Memory.{SinkInMemory};
 
-    ghost Value = { SinkValue };
+    ghost Value = { SinkInMemory };
 
     ghost view = { λ s. record {
       octets = s.sink.octets;

@@ -18,9 +18,9 @@ pub struct MemorySource {
 }
 
 impl Model for MemorySource {
-    ghost use Rattle.amqp_below_streams.specs.Memory.{SourceInMemory as SourceValue};
+    ghost use Rattle.amqp_below_streams.specs.Memory.{SourceInMemory};
 
-    ghost Value = { SourceValue };
+    ghost Value = { SourceInMemory };
 
     ghost view = { λ s. record { rest = s.source; calls = s.calls } };
 }
