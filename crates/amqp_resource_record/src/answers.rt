@@ -20,7 +20,7 @@ ghost use Rattle.amqp_below_layer.specs.Windows.{WindowFits, AllWindowsFit};
 ghost use Rattle.amqp_txn_types.specs.Presumptive.{answered_under, presumptive};
 
 use crate::entry::Entry;
-use crate::hands::{is_coordinator_attach, is_under};
+use crate::handed::{is_coordinator_attach, is_under};
 use crate::live_ids::{entries_since, is_held_on, is_live};
 use crate::open_links::{is_open, links_attached};
 use crate::reply::{RejectText, Reply};

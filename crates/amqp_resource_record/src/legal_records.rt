@@ -7,7 +7,7 @@ ghost use Rattle.amqp_resource_record.specs.Work.{work};
 
 use crate::answers::is_answer;
 use crate::entry::Entry;
-use crate::hands::handed_by;
+use crate::handed::handed_by;
 use amqp_below_ids::Drawn;
 use amqp_txn_types::{Frames, NoMemory, TransactionId};
 use std::alloc::Global;

@@ -58,7 +58,7 @@
 
 mod answers;
 mod entry;
-mod hands;
+mod handed;
 mod laws;
 mod legal_records;
 mod live_ids;
@@ -70,7 +70,7 @@ mod stop;
 
 pub use answers::is_answer;
 pub use entry::{Drawn16, Entries, Entry};
-pub use hands::{commits, hands, is_coordinator_attach, is_plain, is_under};
+pub use handed::{commits, hands, is_coordinator_attach, is_plain, is_under};
 pub use laws::{
     a_commit_hands_the_frames_of_its_own_id, a_discharged_id_is_unknown_until_declared_anew,
     a_live_id_has_one_open_home, a_record_hands_the_frames_at_its_origins,

@@ -35,7 +35,6 @@ mod as_session;
 mod declare;
 mod discharge;
 mod dispatch;
-mod drive;
 mod ends;
 mod frame_steps;
 mod incoming;
@@ -43,6 +42,7 @@ mod laws;
 mod link_steps;
 mod outcomes;
 mod review;
+mod runs;
 mod session;
 mod transactional_calls;
 
@@ -57,6 +57,6 @@ pub use amqp_resource_record::{
     commits, hands, home, is_answer, is_legal, is_live, is_open, work,
 };
 pub use as_session::HandleControlLink;
-pub use drive::{drive, drive_counted};
 pub use laws::the_view_of_a_record_looks_back;
+pub use runs::{drive, drive_counted};
 pub use session::TxnSession;

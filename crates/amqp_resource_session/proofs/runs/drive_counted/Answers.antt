@@ -14,8 +14,8 @@ use Rattle.amqp_resource_session.proofs.Looked.{work_more}
 use Rattle.amqp_resource_session.proofs.Parts.{end_is, no_call_weaker}
 use Rattle.amqp_resource_session.proofs.Running.{broke_cause, broke_ended, broke_refused, broke_surely, broke_took, broke_unknown, ran-more, ran-nil, steps-first, stops_by}
 use Rattle.amqp_resource_session.specs.Ran.{Broke, failed}
-use Rattle.amqp_resource_session.proofs.drive.drive_counted.Given.{Over}
-use Rattle.amqp_resource_session.proofs.drive.drive_counted.Goals as goal
+use Rattle.amqp_resource_session.proofs.runs.drive_counted.Given.{Over}
+use Rattle.amqp_resource_session.proofs.runs.drive_counted.Goals as goal
 
 pub loop-at-init : goal.loop-at-init
 loop-at-init g c = record {

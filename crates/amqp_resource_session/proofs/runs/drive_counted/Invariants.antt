@@ -4,7 +4,7 @@ use Rattle.amqp_resource_session.specs.Drive.{work_count}
 use Rattle.amqp_resource_held.specs.Looks.{dues}
 use Rattle.amqp_resource_session.specs.Session.{FitsTogether, held_of, below_of, stop_of}
 use Rattle.amqp_resource_session.specs.Ran.{Ran}
-use Rattle.amqp_resource_session.proofs.drive.drive_counted.Given as goal
+use Rattle.amqp_resource_session.proofs.runs.drive_counted.Given as goal
 
 -- the entries before the place are the record, and those from there on hold the steps that are left
 abbrev pub invariant-loop-at : goal.invariant-loop-at

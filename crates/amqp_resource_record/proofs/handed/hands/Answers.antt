@@ -2,7 +2,7 @@ use Rattle.std.proofs.Common.{ap, sym, ◌∙◌}
 use Rattle.amqp_resource_record.specs.Hands.{hands}
 use Rattle.amqp_resource_record.proofs.Lives.{hands-own}
 use Rattle.amqp_resource_record.proofs.Scanning.{hands-frame, IfOk-along}
-use Rattle.amqp_resource_record.proofs.hands.hands.Goals as goal
+use Rattle.amqp_resource_record.proofs.handed.hands.Goals as goal
 
 pub returns-in-Frame : goal.returns-in-Frame
 returns-in-Frame c =

@@ -1,5 +1,5 @@
 use Rattle.amqp_resource_record.proofs.Scanning.{stripped_under-more}
-use Rattle.amqp_resource_record.proofs.hands.stripped_frames.Goals as goal
+use Rattle.amqp_resource_record.proofs.handed.stripped_frames.Goals as goal
 
 pub loop-entry-preserved : goal.loop-entry-preserved
 loop-entry-preserved c =

@@ -1,4 +1,4 @@
-use Rattle.amqp_resource_session.proofs.drive.drive_blank.Goals as goal
+use Rattle.amqp_resource_session.proofs.runs.drive_blank.Goals as goal
 
 pub returns : goal.returns
 returns g c =
