@@ -6,8 +6,8 @@ use amqp_resource_record::{Reply, Step, StepError};
 use amqp_resource_session::TxnSession;
 use std::alloc::Global;
 
-/// Opens a control link on a new session and declares a transaction there: the reply to the second
-/// step, which draws an id.
+/// Opens a control link on a new session and declares a transaction there: the reply to the
+/// second step, which draws an id.
 pub fn attach_and_declare(
     alloc: Global,
     attach: &Step,

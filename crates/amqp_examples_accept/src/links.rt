@@ -9,8 +9,8 @@ use amqp_links::Poll;
 use amqp_txn_types::{Frames, SessionStopReason};
 use std::alloc::Global;
 
-/// Accepts the link whose attach waits longest. The frames are to be sent: an attach, and, where
-/// the link is to receive, a flow of credit.
+/// Accepts the link whose attach waits longest. The frames are to be sent: an attach and, for a
+/// link that receives, a flow of credit.
 pub fn accept_link<S: ListenerSessionEndpoint>(
     alloc: Global,
     engine: &mut SessionEngine<S>,
@@ -25,8 +25,8 @@ pub fn accept_link<S: ListenerSessionEndpoint>(
     answer
 }
 
-/// Looks once for a link: its end with the frames to be sent, `None` where none is there now, or
-/// why the session stopped, after which none comes.
+/// Looks once for a link: its end with the frames to be sent, `None` where none is there now,
+/// or why the session stopped, after which none comes.
 pub fn next_link<S: ListenerSessionEndpoint>(
     alloc: Global,
     engine: &mut SessionEngine<S>,

@@ -16,8 +16,8 @@ pub fn attach<S: Session>(
     Controller::attach(alloc, session, name)
 }
 
-/// Looks once for the peer's attach: the controller, or `None` where the session stopped. A wait
-/// that goes on is polled again later.
+/// Looks once for the peer's attach: the controller, or `None` where the session stopped. A
+/// wait that goes on is polled again later.
 pub fn poll_attach<S: Session>(
     session: &mut S,
     attaching: Attaching,
@@ -29,7 +29,7 @@ pub fn poll_attach<S: Session>(
     }
 }
 
-/// Fills in the peer's answer to a message of the control link, and answers whether it was awaited.
+/// Fills in the peer's answer to a message of the control link: whether it was awaited.
 pub fn answer_message<R: Wait>(
     rt: &R,
     controller: &Controller<WireSender>,
