@@ -24,25 +24,51 @@
 //! | [`BeginError`] | why a session isn't begun |
 //!
 //! The links of a session that an acceptor of sessions accepted, which an engine runs (both are of
-//! `amqp_engine` and `amqp_resource`):
+//! `amqp_engine` and `amqp_resource`). An attach that came by `engine.on_incoming(frame)` waits in
+//! the session's queue; nothing wakes who accepts it, so after each turn one looks (`links` of
+//! `amqp_examples_accept`):
 //!
-//! ```text
-//! let acceptor = LinkAcceptor::builder().credit_mode(CreditMode::Auto(10)).build();
-//! let turn = engine.on_incoming(frame)?; // after an attach: it waits in the queue now
-//! let mut handle = SessionHandle::new(engine.session_mut());
-//! match acceptor.accept(alloc, &mut handle) {
-//!     Poll::Pending => {}                           // no attach waits
-//!     Poll::Ready(Ok((endpoint, frames))) => { .. } // the link's end; send the frames
-//!     Poll::Ready(Err(AcceptorAttachError::SessionStopped(reason))) => { .. } // it stopped
-//!     Poll::Ready(Err(error)) => { .. }             // this link isn't accepted, the next may be
+//! ```rust
+//! /// Accepts the link whose attach waits longest. The frames are to be sent: an attach and, for a
+//! /// link that receives, a flow of credit.
+//! pub fn accept_link<S: ListenerSessionEndpoint>(
+//!     alloc: Global,
+//!     engine: &mut SessionEngine<S>,
+//! ) -> Poll<Result<(LinkEndpoint, Frames), AcceptorAttachError>> {
+//!     let acceptor = LinkAcceptor::builder()
+//!         .credit_mode(CreditMode::Auto(10))
+//!         .build();
+//!     let mut handle = SessionHandle::new(engine.session_mut());
+//!     let answer = acceptor.accept(alloc, &mut handle);
+//!     drop(handle);
+//!     drop(acceptor);
+//!     answer
+//! }
+//!
+//! /// Looks once for a link: its end with the frames to be sent, `None` where none is there now,
+//! /// or why the session stopped, after which none comes.
+//! pub fn next_link<S: ListenerSessionEndpoint>(
+//!     alloc: Global,
+//!     engine: &mut SessionEngine<S>,
+//! ) -> Result<Option<(LinkEndpoint, Frames)>, SessionStopReason> {
+//!     match accept_link(alloc, engine) {
+//!         Poll::Pending => Ok(None), // no attach waits
+//!         Poll::Ready(Ok(link)) => Ok(Some(link)),
+//!         Poll::Ready(Err(AcceptorAttachError::SessionStopped(reason))) => Err(reason),
+//!         Poll::Ready(Err(_error)) => Ok(None), // this link isn't accepted, the next may be
+//!     }
 //! }
 //! ```
 //!
 //! Who ends a session closes its queue, however the listener is wrapped: what waits is still given
 //! and then `accept` answers `SessionStopped`. With the queue open it stays `Pending`.
 //!
-//! ```text
-//! engine.session_mut().close_listener();
+//! ```rust
+//! /// Closes the listener, as who ends the session does: what waits is still accepted, and then
+//! /// `next_link` answers why the session stopped.
+//! pub fn close_listener<S: ListenerSessionEndpoint>(engine: &mut SessionEngine<S>) {
+//!     engine.session_mut().close_listener();
+//! }
 //! ```
 //!
 //! This crate has nothing of its own: it passes these on, and their definitions too.

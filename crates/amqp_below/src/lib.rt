@@ -13,8 +13,21 @@
 //! | [`ByteSink`], [`SureSink`], [`MemorySink`] | where octets go |
 //!
 //! They are from `amqp_below_layer`, `amqp_below_sessions`, `amqp_below_connections`,
-//! `amqp_below_recorder`, `amqp_below_ids` and `amqp_below_streams`; `Poll` and `Progress` are those
-//! of `amqp_links`.
+//! `amqp_below_recorder`, `amqp_below_ids` and `amqp_below_streams`. [`Poll`] and [`Progress`] are
+//! those of `amqp_links`, not std's.
+//!
+//! A layer of one's own refuses a commit as a whole by its `review` (`bounded_queue` of
+//! `amqp_examples`, which docs/GUIDE.md explains):
+//!
+//! ```rust
+//! fn review(&mut self, frames: &Frames) -> Result<Verdict, NoMemory> {
+//!     if message_count(frames.as_slice()) <= self.room() {
+//!         return Ok(Verdict::Accept);
+//!     }
+//!     count_one(&mut self.vetoes);
+//!     Ok(Verdict::Veto)
+//! }
+//! ```
 //!
 //! This crate has nothing of its own: it passes these on, and their definitions too.
 #![tactic(auto)]

@@ -7,15 +7,16 @@
 //! | `amqp_links` | the ends of links that all calls take, and what their calls answer |
 //! | `amqp_controller_calls` | declares, discharges and abandons on a control link that is lent |
 //! | `amqp_controller_posting` | posts and retirements under a transaction |
-//! | `amqp_controller_transactions` | the controller over a lock, and transactions that borrow or own one |
+//! | `amqp_controller_transactions` | the controller over a lock, and transactions over it |
 //! | `amqp_controller_acquisition` | deliveries that are acquired under a transaction |
 //!
 //! A client attaches its control link over a session, and sends the attach that it is given; once
-//! the peer's has come it has its controller:
+//! the peer's has come it has its controller (`controller` of `amqp_examples_controller`; the page
+//! of `amqp_engine` does this over a session that an engine runs):
 //!
-//! ```text
+//! ```rust
 //! /// Asks for a control link: the attach is to be sent, and the wait to be polled.
-//! fn attach<S: Session>(
+//! pub fn attach<S: Session>(
 //!     alloc: Global,
 //!     session: &mut S,
 //!     name: Text,
@@ -23,9 +24,9 @@
 //!     Controller::attach(alloc, session, name)
 //! }
 //!
-//! /// Looks once for the peer's attach: the controller, or `None` where the session stopped. A wait
-//! /// that goes on is polled again later.
-//! fn poll_attach<S: Session>(
+//! /// Looks once for the peer's attach: the controller, or `None` where the session stopped. A
+//! /// wait that goes on is polled again later.
+//! pub fn poll_attach<S: Session>(
 //!     session: &mut S,
 //!     attaching: Attaching,
 //! ) -> Progress<Attaching, Option<Controller<WireSender>>> {
@@ -37,30 +38,40 @@
 //! }
 //! ```
 //!
-//! Then it posts a message under a transaction, and commits that:
+//! Then it posts a message under a transaction, and commits that (`commits` there):
 //!
-//! ```text
-//! /// Posts a message under a transaction of its own: whether that was committed.
-//! fn post_and_commit<L: SenderLink, S: SenderLink, R: Wait>(
+//! ```rust
+//! /// How a commit ended.
+//! #[derive(Debug, Drop, PartialEq)]
+//! pub enum CommitEnd {
+//!     /// It was accepted.
+//!     Accepted,
+//!     /// The coordinator rolled the transaction back: the work may be sent again in a new one.
+//!     RolledBack,
+//!     /// The work wasn't accepted, or an answer is still out: the transaction was given up.
+//!     GivenUp,
+//! }
+//!
+//! /// Posts a message under a transaction of its own, and commits that.
+//! pub fn post_and_commit<L: SenderLink, S: SenderLink, R: Wait>(
 //!     rt: &R,
 //!     controller: &Controller<L>,
 //!     sender: &mut S,
 //!     sendable: Sendable,
-//! ) -> Result<bool, ControllerSendError> {
+//! ) -> Result<CommitEnd, ControllerSendError> {
 //!     let transaction = match Transaction::declare(controller, rt, None)?.poll(rt) {
 //!         Progress::Ready(declared) => declared?,
-//!         Progress::Pending(_declaring) => return Ok(false),
+//!         Progress::Pending(_declaring) => return Ok(CommitEnd::GivenUp),
 //!     };
 //!     if is_accepted(&transaction, sender, sendable) {
-//!         commit(rt, transaction)
-//!     } else {
-//!         drop(transaction.abandon(rt));
-//!         Ok(false)
+//!         return commit(rt, transaction);
 //!     }
+//!     drop(transaction.abandon(rt));
+//!     Ok(CommitEnd::GivenUp)
 //! }
 //!
 //! /// Posts a message under the transaction, and looks once whether it was accepted.
-//! fn is_accepted<T: TransactionPosting, S: SenderLink>(
+//! pub fn is_accepted<T: TransactionPosting, S: SenderLink>(
 //!     transaction: &T,
 //!     sender: &mut S,
 //!     sendable: Sendable,
@@ -71,45 +82,71 @@
 //!     }
 //! }
 //!
-//! /// Commits the transaction, and looks once whether that was accepted; else it is given up.
-//! fn commit<T: TransactionDischarge, R: Wait>(rt: &R, transaction: T) -> Result<bool, T::Error> {
-//!     match transaction.commit(rt) {
-//!         Err((transaction, error)) => {
-//!             drop(transaction.abandon(rt));
-//!             Err(error)
+//! /// Commits the transaction, and looks once for the answer.
+//! pub fn commit<L: SenderLink, R: Wait>(
+//!     rt: &R,
+//!     transaction: Transaction<'_, L>,
+//! ) -> Result<CommitEnd, ControllerSendError> {
+//!     let commit = match transaction.commit(rt) {
+//!         Ok(commit) => commit,
+//!         Err((refused, error)) => {
+//!             drop(refused.abandon(rt)); // the commit wasn't sent
+//!             return Err(error);
 //!         }
-//!         Ok(commit) => match commit.poll(rt) {
-//!             Progress::Ready(Ok(())) => Ok(true),
-//!             Progress::Ready(Err((transaction, error))) => {
-//!                 drop(transaction.abandon(rt));
+//!     };
+//!     match commit.poll(rt) {
+//!         Progress::Ready(Ok(())) => Ok(CommitEnd::Accepted),
+//!         Progress::Ready(Err((transaction, error))) => {
+//!             let is_rolled_back = transaction.is_rolled_back();
+//!             drop(transaction.abandon(rt)); // sends nothing where it was rolled back
+//!             if is_rolled_back {
+//!                 Ok(CommitEnd::RolledBack)
+//!             } else {
 //!                 Err(error)
 //!             }
-//!             Progress::Pending(commit) => {
-//!                 drop(commit.into_value().abandon(rt));
-//!                 Ok(false)
-//!             }
-//!         },
+//!         }
+//!         Progress::Pending(commit) => {
+//!             drop(commit.into_value().abandon(rt));
+//!             Ok(CommitEnd::GivenUp)
+//!         }
 //!     }
 //! }
 //! ```
 //!
 //! Answers have come before they are polled here. A client that waits keeps what `Pending` hands
-//! back, and polls that once more frames have come.
+//! back, and polls that once more frames have come. Until then it moves the messages of the control
+//! link, and fills in their answers:
+//!
+//! ```rust
+//! /// Fills in the peer's answer to a message of the control link: whether it was awaited.
+//! pub fn answer_message<R: Wait>(
+//!     rt: &R,
+//!     controller: &Controller<WireSender>,
+//!     token: Token,
+//!     answer: Answer,
+//! ) -> bool {
+//!     let mut link = controller.link(rt);
+//!     let awaited = link.answer(token, answer);
+//!     drop(link); // a call over the controller would wait for ever for this guard
+//!     awaited
+//! }
+//! ```
 //!
 //! For one who comes from `fe2o3-amqp`:
 //!
 //! - A transaction isn't `Drop`: nothing is rolled back by dropping one, and the check refuses a
 //!   function that lets one go. So there is no `?` while one is held by value. The work stands in a
-//!   function that borrows it, as `is_accepted` above, and the `match` that holds it ends it in each
-//!   of its ways out. [`Discharging::into_value`] gives back one whose answer is still out.
+//!   function that borrows it, as `is_accepted` above, and the `match` that holds it ends it in
+//!   each of its ways out. [`Discharging::into_value`] gives back one whose answer is still out.
 //! - Nothing is async. [`Poll`] and [`Progress`] aren't std's: no waker is kept, and whoever moves
 //!   the frames polls again.
 //! - Calls over a [`Controller`] take a runtime, since they take its lock. One that is made while
-//!   the guard of [`Controller::link`] lives waits for ever: bind what is read by a `let`, and drop
-//!   the guard.
+//!   the guard of [`Controller::link`] lives waits for ever, a poll too: bind what is read by a
+//!   `let`, and drop the guard, as `answer_message` does.
 //! - [`Controller::attach`] and its poll need the session itself, so whoever runs it lends it for
 //!   both. [`Controller::new`] takes any [`SenderLink`], so a link of one's own needs no session.
-//! - A commit that the coordinator answered by a rollback of its own hands the transaction back with
+//! - A commit that isn't sent, or is refused, hands the transaction back: it is committed again, or
+//!   given up. One that the coordinator answered by a rollback of its own hands it back with
 //!   `is_rolled_back`: it isn't discharged, and giving it up puts nothing.
 //!
 //! The life of a transaction on this side:

@@ -10,11 +10,12 @@
 //! | [`TxnIdKey`] | the key by which the properties name it |
 //!
 //! A client that passes messages on, each under a transaction of its own. What borrows the
-//! acquisition may use `?`; what holds it ends it in each way out, since it isn't `Drop`:
+//! acquisition may use `?`; what holds it ends it in each way out, since it isn't `Drop` (`relay`
+//! of `amqp_examples_controller`):
 //!
-//! ```text
+//! ```rust
 //! /// Receives a delivery and posts it on: the outcome of the post, or `None` where nothing came.
-//! fn pass_on<T: TransactionAcquisition + TransactionPosting, R: ReceiverLink, L: SenderLink>(
+//! pub fn pass_on<T: TransactionAcquisition + TransactionPosting, R: ReceiverLink, L: SenderLink>(
 //!     acquisition: &mut TxnAcquisition<'_, T, R>,
 //!     sender: &mut L,
 //! ) -> Option<Outcome> {
@@ -35,7 +36,7 @@
 //! }
 //!
 //! /// Passes one delivery on under the transaction: whether that was committed.
-//! fn relay_once<L: SenderLink, R: ReceiverLink, S: SenderLink, W: Wait>(
+//! pub fn relay_once<L: SenderLink, R: ReceiverLink, S: SenderLink, W: Wait>(
 //!     rt: &W,
 //!     alloc: Global,
 //!     transaction: Transaction<'_, L>,
@@ -44,8 +45,8 @@
 //! ) -> bool {
 //!     let mut acquisition = match transaction.acquire(alloc, receiver, 1) {
 //!         Ok(acquisition) => acquisition,
-//!         Err((transaction, _error)) => {
-//!             drop(transaction.abandon(rt));
+//!         Err((refused, _error)) => {
+//!             drop(refused.abandon(rt));
 //!             return false;
 //!         }
 //!     };
@@ -77,16 +78,17 @@
 //! Answers have come before they are polled here. A client that waits keeps what `Pending` hands
 //! back, and polls that once more frames have come.
 //!
-//! Below stand the transactions of `amqp_controller_transactions` and the work under them of `amqp_controller_posting`.
-//! The promise that this crate carries: an acquisition adds the one property `txn-id` and puts one
-//! flow, a cleanup takes that property alone out, whatever the flow is answered, and puts one flow;
-//! each refusal hands back the transaction or the acquisition; each call of an acquisition makes
-//! the calls of its receiver that its docs name, and passes their answers on; its end is what the
-//! control link answered to a commit or a rollback of its transaction. Where a receiver is gone
-//! from the answer, as in a refused `acquire`, an `abandon` or an end, that these calls were made
-//! is proved, and that no other followed is only tested: a contract can't name that receiver. Nor
-//! can one say what a link under a lock holds: where a cleanup failed no discharge is awaited, and
-//! that none was put before it is only tested. 'The standard' is OASIS AMQP 1.0.
+//! Below stand the transactions of `amqp_controller_transactions` and the work under them of
+//! `amqp_controller_posting`. The promise that this crate carries: an acquisition adds the one
+//! property `txn-id` and puts one flow, a cleanup takes that property alone out, whatever the flow
+//! is answered, and puts one flow; each refusal hands back the transaction or the acquisition; each
+//! call of an acquisition makes the calls of its receiver that its docs name, and passes their
+//! answers on; its end is what the control link answered to a commit or a rollback of its
+//! transaction. Where a receiver is gone from the answer, as in a refused `acquire`, an `abandon`
+//! or an end, that these calls were made is proved, and that no other followed is only tested: a
+//! contract can't name that receiver. Nor can one say what a link under a lock holds: where a
+//! cleanup failed no discharge is awaited, and that none was put before it is only tested. 'The
+//! standard' is OASIS AMQP 1.0.
 #![tactic(auto)]
 
 mod acquiring;

@@ -7,11 +7,12 @@
 //! | [`PostResult`] | that outcome, or why there is none ([`PostError`]) |
 //! | [`TransactionRetirement`] | the outcomes of a received delivery under a transaction |
 //!
-//! The work borrows its transaction, so `?` is as usual here:
+//! The work borrows its transaction, so `?` is as usual here (`messages` of
+//! `amqp_examples_controller`):
 //!
-//! ```text
+//! ```rust
 //! /// Posts a message: its outcome, or `None` where that is still out.
-//! fn post_once<T: TransactionPosting, L: SenderLink>(
+//! pub fn post_once<T: TransactionPosting, L: SenderLink>(
 //!     transaction: &T,
 //!     sender: &mut L,
 //!     sendable: Sendable,
@@ -20,6 +21,18 @@
 //!         Progress::Ready(outcome) => Ok(Some(outcome?)),
 //!         Progress::Pending(_post) => Ok(None),
 //!     }
+//! }
+//!
+//! /// Receives a message and retires it as accepted: its octets, or `None` where none came.
+//! pub fn take_once<T: TransactionRetirement, R: ReceiverLink>(
+//!     transaction: &T,
+//!     receiver: &mut R,
+//! ) -> Result<Option<Payload>, T::RetireError> {
+//!     let Poll::Ready(Ok(delivery)) = receiver.recv() else {
+//!         return Ok(None);
+//!     };
+//!     transaction.accept(receiver, &delivery.info)?;
+//!     Ok(Some(delivery.payload))
 //! }
 //! ```
 //!

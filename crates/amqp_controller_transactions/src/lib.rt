@@ -9,13 +9,14 @@
 //! | [`TransactionDischarge`], [`Discharging`] | how both end |
 //!
 //! Calls of this crate that take the runtime take the lock; each makes one call of
-//! `amqp_controller_calls` under it, and lets the lock go. A poll takes it anew, so two transactions
-//! over one controller are polled in any order. A call that is made while the guard of
-//! [`Controller::link`] lives waits for ever: drop the guard first.
+//! `amqp_controller_calls` under it, and lets the lock go. A poll takes it anew, so two
+//! transactions over one controller are polled in any order. A call that is made while the guard of
+//! [`Controller::link`] lives waits for ever: drop the guard first. `transactions` of
+//! `amqp_examples_controller`:
 //!
-//! ```text
+//! ```rust
 //! /// Declares a transaction and commits it: whether the commit was accepted.
-//! fn commit_once<L: SenderLink, R: Wait>(
+//! pub fn commit_once<L: SenderLink, R: Wait>(
 //!     rt: &R,
 //!     controller: &Controller<L>,
 //! ) -> Result<bool, ControllerSendError> {
@@ -45,7 +46,8 @@
 //! ```
 //!
 //! Answers have come before they are polled here. A client that waits keeps what `Pending` hands
-//! back, and polls that once more frames have come.
+//! back, and polls that once more frames have come: `Progress` of `amqp_links` isn't std's `Poll`,
+//! and nothing is woken.
 //!
 //! **A transaction isn't `Drop`**: nothing is rolled back by dropping one, and the check refuses a
 //! function that lets one go. So there is no `?` while one is held by value. Do the work in a
@@ -67,17 +69,17 @@
 //! ```
 //!
 //! A poll that reads that the coordinator rolled the transaction back marks it so: it is then given
-//! up without a rollback, and may still be committed again. Below stand the calls on a lent link, of
-//! `amqp_controller_calls`. The promise that this crate carries is what values show: a transaction
-//! is marked discharged exactly by a poll that is `Ready(Ok)`, and rolled back exactly by one that
-//! reads so; the poll of a discharged one is `Ready(Ok)` or the error of the close of its link, and
-//! each refusal hands back the value or the controller. No contract can name what a link under a lock is before
-//! a call and after it. So a call over the lock promises that there are two values of the link
-//! between which it made its one call, with the answer that it passes on: that makes it the answer
-//! of a link, and of that call. That it makes no other call, and that a discharged transaction
-//! makes none but the close, is only tested. Of a borrowed transaction contracts see which
-//! controller it has; owned ones are kept apart by their types alone. 'The standard' is OASIS AMQP
-//! 1.0.
+//! up without a rollback, and may still be committed again. Below stand the calls on a lent link,
+//! of `amqp_controller_calls`. The promise that this crate carries is what values show: a
+//! transaction is marked discharged exactly by a poll that is `Ready(Ok)`, and rolled back exactly
+//! by one that reads so; the poll of a discharged one is `Ready(Ok)` or the error of the close of
+//! its link, and each refusal hands back the value or the controller. No contract can name what a
+//! link under a lock is before a call and after it. So a call over the lock promises that there are
+//! two values of the link between which it made its one call, with the answer that it passes on:
+//! that makes it the answer of a link, and of that call. That it makes no other call, and that a
+//! discharged transaction makes none but the close, is only tested. Of a borrowed transaction
+//! contracts see which controller it has; owned ones are kept apart by their types alone. 'The
+//! standard' is OASIS AMQP 1.0.
 #![tactic(auto)]
 
 mod attaching;

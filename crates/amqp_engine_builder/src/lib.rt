@@ -1,15 +1,17 @@
 //! Sessions are built field by field.
 //!
 //! A [`Builder`] holds what a session's begin says, and whether its links may be control links.
-//! Each setter is named after its field, takes the builder and gives it back:
+//! Each setter is named after its field, takes the builder and gives it back (`sessions` of
+//! `amqp_examples_accept`):
 //!
-//! ```text
-//! fn begin<C: ConnectionEnd>(
+//! ```rust
+//! /// Begins a session of this side. The begin is to be sent, and the peer's awaited.
+//! pub fn begin_session<C: ConnectionEnd>(
 //!     alloc: Global,
 //!     connection: &mut C,
 //! ) -> Result<(ClientBegin<PlainSession>, Begin), BeginError> {
 //!     let builder = Builder::new().incoming_window(100).handle_max(Handle(7));
-//!     builder.begin(alloc, connection) // send the begin, and await the peer's
+//!     builder.begin(alloc, connection)
 //! }
 //! ```
 //!

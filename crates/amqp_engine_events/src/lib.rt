@@ -9,17 +9,19 @@
 //! | [`Turn`], [`Running`], [`ControlReply`] | what an event is answered: frames and a reply |
 //!
 //! A session of this side begins by [`SessionEngine::begin_client_session`], and is run by its
-//! engine once the peer's begin has come. For each frame that comes then:
+//! engine once the peer's begin has come. For each frame that comes then (`events` of
+//! `amqp_examples_accept`):
 //!
-//! ```text
-//! fn take<S: Session>(
+//! ```rust
+//! /// Gives a frame that came to its session: what the turn sent is to be sent, and then its end.
+//! pub fn take<S: Session>(
 //!     engine: &mut SessionEngine<S>,
 //!     frame: SessionFrame,
 //! ) -> Result<Turn, SessionInnerError> {
 //!     match engine.on_incoming(frame) {
-//!         Ok(turn) => Ok(turn), // send turn.sent, then turn.ended
+//!         Ok(turn) => Ok(turn),
 //!         Err(fault) => {
-//!             let turn = engine.on_error(&fault); // the same, or nothing more can be sent
+//!             let turn = engine.on_error(&fault); // an Err: nothing more can be sent
 //!             drop(fault);
 //!             turn
 //!         }
@@ -27,9 +29,9 @@
 //! }
 //! ```
 //!
-//! After `Running::Stop` the session is taken out by [`SessionEngine::finish`]. Until then it is lent
-//! by [`SessionEngine::session_mut`], so that a peer's links are accepted on it and a controller is
-//! attached to it.
+//! After `Running::Stop` the session is taken out by [`SessionEngine::finish`]. Until then it is
+//! lent by [`SessionEngine::session_mut`], so that a peer's links are accepted on it and a
+//! controller is attached to it.
 //!
 //! The states of a session (part 2 of the standard, section 2.5.5), and the calls that move it:
 //!

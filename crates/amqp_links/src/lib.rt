@@ -8,19 +8,32 @@
 //! | [`SenderLink`] | the end that sends messages and hears what became of them | [`WireSender`] |
 //! | [`ReceiverLink`] | the end that receives messages and disposes of them | [`WireReceiver`] |
 //!
-//! A call answers at once, and its caller asks again where the answer is still out: [`Poll`] is what
-//! a look finds, and [`Progress`] what the poll of a wait finds that is taken by value. Neither is
-//! std's: no waker is kept, nothing is woken, and whoever moves the frames polls again.
+//! A call answers at once, and its caller asks again where the answer is still out: [`Poll`] is
+//! what a look finds, and [`Progress`] what the poll of a wait finds that is taken by value.
+//! Neither is std's: no waker is kept, nothing is woken, and whoever moves the frames polls again.
 //!
 //! A link tells, in contracts, what was put on it, what stands ready to be heard, and a count of
 //! its faults; each call says what it does to them. A wire keeps what was put for its owner to
-//! read, and hears what its owner fills in:
+//! read, and hears what its owner fills in (`answered_message` of `amqp_examples`):
 //!
-//! ```text
-//! let mut wire = WireSender::new(alloc, end);
-//! let Sent::Unsettled(token) = wire.send(sendable, None, false)? else { .. };
-//! wire.answer(token, Ok(Some(DeliveryState::Accepted)));
-//! let Poll::Ready(Ok(state)) = wire.outcome(&token) else { .. };
+//! ```rust
+//! /// Sends a message on a wire whose owner answers it as accepted: what its sender then hears, if
+//! /// anything.
+//! pub fn send_and_hear(
+//!     alloc: Global,
+//!     end: LinkEnd,
+//!     sendable: Sendable,
+//! ) -> Result<Option<Answer>, SendError> {
+//!     let mut wire = WireSender::new(alloc, end);
+//!     let Sent::Unsettled(token) = wire.send(sendable, None, false)? else {
+//!         return Ok(None); // it was sent settled: no answer comes
+//!     };
+//!     wire.answer(token, Ok(Some(DeliveryState::Accepted)));
+//!     match wire.outcome(&token) {
+//!         Poll::Ready(answer) => Ok(Some(answer)),
+//!         Poll::Pending => Ok(None),
+//!     }
+//! }
 //! ```
 //!
 //! Below stand the types of `amqp_txn_types`. The promise that this crate carries: on both wires an

@@ -10,10 +10,19 @@
 //! | [`ArrivalLog`], [`Looks`], [`presumptive`] | the work under live ids, and what its sender is told at once |
 //! | [`SessionAcceptor`], [`AcceptedSession`], [`BeganSession`], [`begin`] | sessions that are accepted or begun |
 //!
-//! ```text
-//! let mut ids = ListIds::new(alloc, &[id])?;
-//! let mut session = TxnSession::new(alloc, OpenSession::new(alloc));
-//! let (drawn, reply) = session.step(&step, &mut ids)?;
+//! A list of steps drives a session over a layer below, here the bounded queue of `amqp_examples`
+//! (`served_queue` there). The page of `amqp_resource_session` shows single steps, the page of
+//! `amqp_accept` the links of a session that was accepted.
+//!
+//! ```rust
+//! /// Drives the steps of one session over a queue for a hundred messages.
+//! pub fn serve(alloc: Global, steps: Steps) -> Driven
+//!     ensures { IsLegal result.entries }
+//! {
+//!     let mut session = TxnSession::new(alloc, BoundedQueue::new(alloc, 100));
+//!     let mut ids = CountIds::new();
+//!     drive(&mut session, steps, &mut ids)
+//! }
 //! ```
 //!
 //! This crate has nothing of its own: it passes these on, and their definitions too.

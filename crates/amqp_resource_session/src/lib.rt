@@ -6,11 +6,23 @@
 //! layer below, in order and without its transactional state. Before that the layer is asked to
 //! review the frames of the commit: where it vetoes them they are let go, and the commit is
 //! answered with `Rollback`. A plain frame goes below at once.
+//! `single_steps` of `amqp_examples` makes two steps:
 //!
-//! ```text
-//! let mut ids = ListIds::new(alloc, &[id])?;
-//! let mut session = TxnSession::new(alloc, OpenSession::new(alloc));
-//! let (drawn, reply) = session.step(&step, &mut ids)?;
+//! ```rust
+//! /// Opens a control link on a new session and declares a transaction there: the reply to the
+//! /// second step, which draws an id.
+//! pub fn attach_and_declare(
+//!     alloc: Global,
+//!     attach: &Step,
+//!     declare: &Step,
+//! ) -> Result<Reply, StepError> {
+//!     let mut ids = CountIds::new();
+//!     let mut session = TxnSession::new(alloc, OpenSession::new(alloc));
+//!     let (_drawn, attached) = session.step(attach, &mut ids)?;
+//!     drop(attached);
+//!     let (_drawn, reply) = session.step(declare, &mut ids)?;
+//!     Ok(reply)
+//! }
 //! ```
 //!
 //! [`drive`] makes a list of steps on a fresh session, and gives its entries and why it stopped.
@@ -25,10 +37,10 @@
 //! Below stand the types, the codec of control messages, the log of arrivals, what a session keeps,
 //! the traits of the outside, the coordinator, which asks a session by these calls, and the record
 //! with its definitions, which look back over the entries of a session and know nothing of what it
-//! keeps. What a user of a session needs of them is passed on. The promise that this crate carries: a step
-//! answers by the record, and a run is its record. The layer below has taken exactly the work of
-//! the record, each accepted commit's frames whole and in order and nothing of a rollback or of a
-//! vetoed commit, followed, only where it refused, by the first frames of the next step's.
+//! keeps. What a user of a session needs of them is passed on. The promise that this crate carries:
+//! a step answers by the record, and a run is its record. The layer below has taken exactly the
+//! work of the record, each accepted commit's frames whole and in order and nothing of a rollback
+//! or of a vetoed commit, followed, only where it refused, by the first frames of the next step's.
 #![tactic(auto)]
 
 mod as_session;
