@@ -7,8 +7,8 @@ pub use Rattle.amqp_accept_links.specs.Modes
 pub use Rattle.amqp_accept_links.specs.Fields
 pub use Rattle.amqp_accept_links.specs.Termini
 pub use Rattle.amqp_accept_links.specs.Replies
-pub use Rattle.amqp_accept_links.specs.Opening
-pub use Rattle.amqp_accept_links.specs.Accepting
+pub use Rattle.amqp_accept_links.specs.OpenLinks
+pub use Rattle.amqp_accept_links.specs.Acceptance
 pub use Rattle.amqp_accept_links.specs.Receivers
 pub use Rattle.amqp_accept_links.specs.Senders
 pub use Rattle.amqp_accept_links.specs.LinkAcceptors

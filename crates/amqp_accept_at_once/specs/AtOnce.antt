@@ -36,7 +36,7 @@ use Rattle.amqp_accept_links.specs.declared.endpoint.AcceptorAttachError.TheVari
 use Rattle.amqp_accept_links.specs.declared.endpoint.LinkEndpoint.{LinkEndpoint}
 use Rattle.amqp_accept_links.specs.declared.link.LinkAcceptor.{LinkAcceptor}
 use Rattle.amqp_accept_links.specs.LinkAcceptors.{AcceptsLink}
-use Rattle.amqp_accept_links.specs.Opening.{OpensThrough}
+use Rattle.amqp_accept_links.specs.OpenLinks.{OpensThrough}
 use Rattle.amqp_accept_listener.specs.Listening.{ChangesQueue, queue_of}
 use Rattle.amqp_accept_listener.specs.declared.listener.ListenerSession.{ListenerSession}
 use Rattle.amqp_accept_at_once.specs.declared.accepting.AcceptingListener.{AcceptingListener}

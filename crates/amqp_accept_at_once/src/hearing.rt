@@ -4,7 +4,7 @@ ghost use Rattle.std.specs.Prelude.{◌≡◌, ◌≢◌, IfErr, IfOk, OnErr};
 ghost use Rattle.amqp_txn_types.specs.Counts.{Rose};
 ghost use Rattle.amqp_txn_types.specs.declared.performatives.Frame.TheVariants as frames;
 ghost use Rattle.amqp_accept_links.specs.LinkAcceptors.{AcceptsLink};
-ghost use Rattle.amqp_accept_links.specs.Opening.{OpensThrough};
+ghost use Rattle.amqp_accept_links.specs.OpenLinks.{OpensThrough};
 ghost use Rattle.amqp_below_layer.specs.Inner.{Took};
 ghost use Rattle.amqp_below_layer.specs.Told.{Steady};
 ghost use Rattle.amqp_below_sessions.specs.declared.relay.NameState.TheVariants.{Waiting};

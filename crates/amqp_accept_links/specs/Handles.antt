@@ -14,7 +14,7 @@ use Rattle.amqp_below_sessions.specs.Queues.{Queue, first_waiting}
 use Rattle.amqp_accept_links.specs.declared.endpoint.AcceptorAttachError.{AcceptorAttachError}
 use Rattle.amqp_accept_links.specs.declared.endpoint.AcceptorAttachError.TheVariants as errors
 use Rattle.amqp_accept_links.specs.declared.endpoint.LinkEndpoint.{LinkEndpoint}
-use Rattle.amqp_accept_links.specs.Accepting.{AcceptLeaves, AcceptStoppedBy}
+use Rattle.amqp_accept_links.specs.Acceptance.{AcceptLeaves, AcceptStoppedBy}
 use Rattle.amqp_accept_links.specs.LinkAcceptors.{LinkToldStop, OnLinkRefusal, TellsStop, link_output}
 
 -- what an empty queue gives, by whether it is closed

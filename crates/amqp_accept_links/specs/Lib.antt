@@ -2,8 +2,8 @@ pub mod Modes
 pub mod Fields
 pub mod Termini
 pub mod Replies
-pub mod Opening
-pub mod Accepting
+pub mod OpenLinks
+pub mod Acceptance
 pub mod Receivers
 pub mod Senders
 pub mod LinkAcceptors

@@ -22,11 +22,11 @@ use Rattle.amqp_accept_links.specs.declared.endpoint.AcceptorAttachError.TheVari
 use Rattle.amqp_accept_links.specs.declared.endpoint.LinkEndpoint.{LinkEndpoint}
 use Rattle.amqp_accept_links.specs.declared.endpoint.LinkEndpoint.TheVariants as endpoints
 use Rattle.amqp_accept_links.specs.declared.link.LinkAcceptor.{LinkAcceptor}
-use Rattle.amqp_accept_links.specs.declared.opening.Opening.{Opening}
-use Rattle.amqp_accept_links.specs.declared.opening.OpenError.{OpenError}
+use Rattle.amqp_accept_links.specs.declared.open_link.Opening.{Opening}
+use Rattle.amqp_accept_links.specs.declared.open_link.OpenError.{OpenError}
 use Rattle.amqp_accept_links.specs.declared.receiver.LocalReceiverLinkAcceptor.{LocalReceiverLinkAcceptor}
 use Rattle.amqp_accept_links.specs.declared.sender.LocalSenderLinkAcceptor.{LocalSenderLinkAcceptor}
-use Rattle.amqp_accept_links.specs.Accepting.{OnReceiverRefusal, ReceiverToldStop, SenderToldStop}
+use Rattle.amqp_accept_links.specs.Acceptance.{OnReceiverRefusal, ReceiverToldStop, SenderToldStop}
 use Rattle.amqp_accept_links.specs.Receivers.{AcceptsTarget}
 use Rattle.amqp_accept_links.specs.Senders.{AcceptsSource, OnSenderRefusal}
 

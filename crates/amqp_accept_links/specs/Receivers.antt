@@ -21,10 +21,10 @@ use Rattle.amqp_accept_links.specs.declared.credit.CreditMode.TheVariants as cre
 use Rattle.amqp_accept_links.specs.declared.dynamic.RejectDynamic.{RejectDynamic}
 use Rattle.amqp_accept_links.specs.declared.receiver.LocalReceiverLinkAcceptor.{LocalReceiverLinkAcceptor}
 use Rattle.amqp_accept_links.specs.declared.fields.SharedLinkAcceptorFields.{SharedLinkAcceptorFields}
-use Rattle.amqp_accept_links.specs.declared.opening.Opening.{Opening}
-use Rattle.amqp_accept_links.specs.declared.opening.OpenError.{OpenError}
-use Rattle.amqp_accept_links.specs.Accepting.{AcceptsBy, receiver_refusal}
-use Rattle.amqp_accept_links.specs.Opening.{end_of, opening_of}
+use Rattle.amqp_accept_links.specs.declared.open_link.Opening.{Opening}
+use Rattle.amqp_accept_links.specs.declared.open_link.OpenError.{OpenError}
+use Rattle.amqp_accept_links.specs.Acceptance.{AcceptsBy, receiver_refusal}
+use Rattle.amqp_accept_links.specs.OpenLinks.{end_of, opening_of}
 use Rattle.amqp_accept_links.specs.Replies.{credit_of}
 use Rattle.amqp_accept_links.specs.Termini.{LocalTerminus, kind_of_target, node_target}
 

@@ -15,11 +15,11 @@ use Rattle.amqp_below_sessions.specs.declared.attach_errors.SenderAttachError.{S
 use Rattle.amqp_below_sessions.specs.declared.attach_errors.SenderAttachError.TheVariants as refusals
 use Rattle.amqp_accept_links.specs.declared.dynamic.RejectDynamic.{RejectDynamic}
 use Rattle.amqp_accept_links.specs.declared.fields.SharedLinkAcceptorFields.{SharedLinkAcceptorFields}
-use Rattle.amqp_accept_links.specs.declared.opening.Opening.{Opening}
-use Rattle.amqp_accept_links.specs.declared.opening.OpenError.{OpenError}
+use Rattle.amqp_accept_links.specs.declared.open_link.Opening.{Opening}
+use Rattle.amqp_accept_links.specs.declared.open_link.OpenError.{OpenError}
 use Rattle.amqp_accept_links.specs.declared.sender.LocalSenderLinkAcceptor.{LocalSenderLinkAcceptor}
-use Rattle.amqp_accept_links.specs.Accepting.{AcceptsBy, sender_refusal}
-use Rattle.amqp_accept_links.specs.Opening.{end_of, opening_of}
+use Rattle.amqp_accept_links.specs.Acceptance.{AcceptsBy, sender_refusal}
+use Rattle.amqp_accept_links.specs.OpenLinks.{end_of, opening_of}
 use Rattle.amqp_accept_links.specs.Termini.{LocalTerminus}
 
 -- the sending end of the peer's link with this source, ready to be opened

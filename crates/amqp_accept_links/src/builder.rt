@@ -14,13 +14,13 @@ use amqp_txn_types::{Fields, ReceiverSettleMode, SenderSettleMode, Symbols, Targ
 
 /// An acceptor as two parts: what its links have in common, and what it gives the local ends.
 pub trait Acceptor {
-    ghost use Rattle.amqp_accept_links.specs.declared.fields.SharedLinkAcceptorFields.{SharedLinkAcceptorFields as Shared};
+    ghost use Rattle.amqp_accept_links.specs.declared.fields.SharedLinkAcceptorFields.{SharedLinkAcceptorFields};
 
     /// What it gives the local ends.
     type Ends;
 
     /// The acceptor of these parts.
-    ghost of_parts: { Shared → Self.Ends → Self };
+    ghost of_parts: { SharedLinkAcceptorFields → Self.Ends → Self };
 
     /// The acceptor of these parts.
     fn of_parts(shared: SharedLinkAcceptorFields, ends: Self::Ends) -> Self

@@ -3,13 +3,13 @@
 ghost use Rattle.std.specs.Prelude.{◌≡◌, IsTrue, IfOk};
 ghost use Rattle.amqp_txn_types.specs.Frames.{attaches_coordinator};
 ghost use Rattle.amqp_below_sessions.specs.declared.attach_errors.ReceiverAttachError.TheVariants as refusals;
-ghost use Rattle.amqp_accept_links.specs.Accepting.{AcceptLeaves, AcceptStoppedBy, AcceptsBy, ReceiverTold, ReceiverToldStop};
-ghost use Rattle.amqp_accept_links.specs.Opening.{OpensThrough};
+ghost use Rattle.amqp_accept_links.specs.Acceptance.{AcceptLeaves, AcceptStoppedBy, AcceptsBy, ReceiverTold, ReceiverToldStop};
+ghost use Rattle.amqp_accept_links.specs.OpenLinks.{OpensThrough};
 
 use crate::builder::{Acceptor, Builder};
 use crate::dynamic::RejectDynamic;
 use crate::fields::SharedLinkAcceptorFields;
-use crate::opening::Opening;
+use crate::open_link::Opening;
 use crate::receiver::LocalReceiverLinkAcceptor;
 use crate::reply::credit_flow;
 use amqp_below_sessions::{ReceiverAttachError, Session};

@@ -138,10 +138,10 @@ impl<FS, FT> LinkAcceptor<FS, FT> {
 }
 
 impl<FS: OnDynamic<Source>, FT: OnDynamic<Target>> LinkAcceptor<FS, FT> {
-    ghost use Rattle.amqp_accept_links.specs.Accepting.{AcceptLeaves, AcceptStoppedBy};
+    ghost use Rattle.amqp_accept_links.specs.Acceptance.{AcceptLeaves, AcceptStoppedBy};
     ghost use Rattle.amqp_accept_links.specs.Handles.{AcceptsNext, NextLeaves, NextStoppedBy, NextTold, next_incoming};
     ghost use Rattle.amqp_accept_links.specs.LinkAcceptors.{AcceptsEnd, AcceptsLink, LinkTold, LinkToldStop, link_output};
-    ghost use Rattle.amqp_accept_links.specs.Opening.{OpensThrough};
+    ghost use Rattle.amqp_accept_links.specs.OpenLinks.{OpensThrough};
     ghost use Rattle.amqp_below_sessions.specs.Queues.{without_first};
     ghost use Rattle.amqp_below_sessions.specs.Sessions.{with_queue};
 

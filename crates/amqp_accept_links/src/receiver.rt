@@ -1,14 +1,14 @@
 //! The acceptor for local receivers.
 
 ghost use Rattle.std.specs.Prelude.{◌≡◌};
-ghost use Rattle.amqp_accept_links.specs.Accepting.{AcceptLeaves, AcceptStoppedBy, ReceiverTold, ReceiverToldStop};
-ghost use Rattle.amqp_accept_links.specs.Opening.{OpensThrough};
+ghost use Rattle.amqp_accept_links.specs.Acceptance.{AcceptLeaves, AcceptStoppedBy, ReceiverTold, ReceiverToldStop};
+ghost use Rattle.amqp_accept_links.specs.OpenLinks.{OpensThrough};
 ghost use Rattle.amqp_accept_links.specs.Receivers.{receiver_output, receiver_wire};
 
 use crate::credit::CreditMode;
 use crate::dynamic::{OnDynamic, RejectDynamic};
 use crate::fields::SharedLinkAcceptorFields;
-use crate::opening::Opening;
+use crate::open_link::Opening;
 use crate::reply::credit_flow;
 use crate::termini::{TargetKind, kind_of_target, local_terminus};
 use amqp_below_sessions::{ReceiverAttachError, Session};
@@ -106,7 +106,7 @@ impl<F: OnDynamic<Target>> LocalReceiverLinkAcceptor<Target, F> {
 impl<T: TargetKind, F: OnDynamic<T>> LocalReceiverLinkAcceptor<T, F> {
     ghost use Rattle.std.specs.Prelude.{IfOk};
     ghost use Rattle.amqp_below_sessions.specs.declared.attach_errors.ReceiverAttachError.TheVariants as refusals;
-    ghost use Rattle.amqp_accept_links.specs.Accepting.{AcceptsBy};
+    ghost use Rattle.amqp_accept_links.specs.Acceptance.{AcceptsBy};
     ghost use Rattle.amqp_accept_links.specs.Receivers.{AcceptsReceiver, ReceiverReady, receiver_answer};
     ghost use Rattle.amqp_accept_links.specs.Termini.{LocalTerminus};
 

@@ -1,9 +1,9 @@
 //! Why an end isn't attached whose link isn't opened.
 
 ghost use Rattle.std.specs.Prelude.{◌≡◌};
-ghost use Rattle.amqp_accept_links.specs.Accepting.{receiver_refusal, sender_refusal};
+ghost use Rattle.amqp_accept_links.specs.Acceptance.{receiver_refusal, sender_refusal};
 
-use crate::opening::OpenError;
+use crate::open_link::OpenError;
 use amqp_below_layer::SessionInnerError;
 use amqp_below_sessions::{ReceiverAttachError, SenderAttachError};
 

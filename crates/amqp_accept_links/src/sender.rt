@@ -5,7 +5,7 @@ ghost use Rattle.amqp_accept_links.specs.Senders.{sender_wire};
 
 use crate::dynamic::{OnDynamic, RejectDynamic};
 use crate::fields::SharedLinkAcceptorFields;
-use crate::opening::Opening;
+use crate::open_link::Opening;
 use crate::termini::local_terminus;
 use amqp_below_sessions::{SenderAttachError, Session};
 use amqp_links::WireSender;
@@ -59,8 +59,8 @@ impl TryClone for LocalSenderLinkAcceptor<RejectDynamic> {
 
 impl<F: OnDynamic<Source>> LocalSenderLinkAcceptor<F> {
     ghost use Rattle.std.specs.Prelude.{IfOk};
-    ghost use Rattle.amqp_accept_links.specs.Accepting.{AcceptLeaves, AcceptStoppedBy, SenderToldStop};
-    ghost use Rattle.amqp_accept_links.specs.Opening.{OpensThrough};
+    ghost use Rattle.amqp_accept_links.specs.Acceptance.{AcceptLeaves, AcceptStoppedBy, SenderToldStop};
+    ghost use Rattle.amqp_accept_links.specs.OpenLinks.{OpensThrough};
     ghost use Rattle.amqp_accept_links.specs.Senders.{AcceptsSource, LocalSource, SenderReady, SenderTold, sender_output};
 
     /// The link, ready to be opened. The only error is out of memory.

@@ -10,13 +10,13 @@ use amqp_txn_types::{Coordinator, NoMemory, Source, Symbols, Target, TargetArche
 /// part 4, section 4.5.1 (coordinator).
 pub trait Terminus: Drop {
     ghost use Rattle.std.specs.Prelude.{Bool, List, Option};
-    ghost use Rattle.amqp_txn_types.specs.declared.text.Symbol.{Symbol as Word};
+    ghost use Rattle.amqp_txn_types.specs.declared.text.Symbol.{Symbol};
 
     /// Whether the peer asks for its node to be made.
     ghost is_dynamic: { Self → Bool };
 
     /// The terminus with other capabilities.
-    ghost with_capabilities: { Option (List Word) → Self → Self };
+    ghost with_capabilities: { Option (List Symbol) → Self → Self };
 
     /// Whether the peer asks for its node to be made.
     fn is_dynamic(&self) -> bool
@@ -31,13 +31,13 @@ pub trait Terminus: Drop {
 /// 2.7.3 (attach).
 pub trait TargetKind: Terminus {
     ghost use Rattle.std.specs.Prelude.{Option};
-    ghost use Rattle.amqp_txn_types.specs.declared.performatives.TargetArchetype.{TargetArchetype as Archetype};
+    ghost use Rattle.amqp_txn_types.specs.declared.performatives.TargetArchetype.{TargetArchetype};
 
     /// The target as one of this kind, where it is one.
-    ghost of_archetype: { Archetype → Option Self };
+    ghost of_archetype: { TargetArchetype → Option Self };
 
     /// A target of this kind as any target.
-    ghost archetype: { Self → Archetype };
+    ghost archetype: { Self → TargetArchetype };
 
     /// The target as one of this kind, where it is one.
     fn of_archetype(target: TargetArchetype) -> Option<Self>

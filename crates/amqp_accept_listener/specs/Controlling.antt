@@ -20,9 +20,9 @@ use Rattle.amqp_below_sessions.specs.declared.session_errors.AllocLinkError.{All
 use Rattle.amqp_below_sessions.specs.Names.{Names}
 use Rattle.amqp_below_sessions.specs.Plain.{control_error}
 use Rattle.amqp_below_sessions.specs.Sessions.{Kept, LeavesOpening}
-use Rattle.amqp_accept_links.specs.declared.opening.Opening.{Opening}
-use Rattle.amqp_accept_links.specs.declared.opening.OpenError.{OpenError}
-use Rattle.amqp_accept_links.specs.declared.opening.OpenError.TheVariants as errors
+use Rattle.amqp_accept_links.specs.declared.open_link.Opening.{Opening}
+use Rattle.amqp_accept_links.specs.declared.open_link.OpenError.{OpenError}
+use Rattle.amqp_accept_links.specs.declared.open_link.OpenError.TheVariants as errors
 use Rattle.amqp_accept_links.specs.Receivers.{control_opening}
 use Rattle.amqp_accept_links.specs.Replies.{SendsReply}
 use Rattle.amqp_accept_listener.specs.declared.listener.ListenerSession.{ListenerSession}

@@ -6,7 +6,7 @@ ghost use Rattle.amqp_txn_types.specs.Frames.{attaches_coordinator};
 ghost use Rattle.amqp_below_layer.specs.declared.inner_error.SessionInnerError.TheVariants as faults;
 ghost use Rattle.amqp_below_layer.specs.Told.{Steady};
 ghost use Rattle.amqp_below_sessions.specs.Sessions.{LeavesOpening};
-ghost use Rattle.amqp_accept_links.specs.Opening.{OpenLeaves};
+ghost use Rattle.amqp_accept_links.specs.OpenLinks.{OpenLeaves};
 ghost use Rattle.amqp_accept_links.specs.Receivers.{control_opening};
 ghost use Rattle.amqp_accept_listener.specs.Controlling.{CausedBelow, OpensControl, OpensHeld, control_refusal};
 ghost use Rattle.amqp_accept_listener.specs.Held.{flows_for};

@@ -69,20 +69,20 @@ impl From<AllocSessionError> for BeginError {
 /// at its last value, 2^64 - 1.
 pub trait ConnectionEnd {
     ghost use Rattle.std.specs.Prelude.{◌≡◌, Option, Result, option_copied};
-    ghost use Rattle.amqp_links.specs.declared.poll.Poll.{Poll as Look};
-    ghost use Rattle.amqp_txn_types.specs.declared.small.OutgoingChannel.{OutgoingChannel as Channel};
-    ghost use Rattle.amqp_below_connections.specs.declared.connection.AllocSessionError.{AllocSessionError as Refused};
-    ghost use Rattle.amqp_below_connections.specs.declared.connection.IncomingSession.{IncomingSession as Begun};
+    ghost use Rattle.amqp_links.specs.declared.poll.Poll.{Poll};
+    ghost use Rattle.amqp_txn_types.specs.declared.small.OutgoingChannel.{OutgoingChannel};
+    ghost use Rattle.amqp_below_connections.specs.declared.connection.AllocSessionError.{AllocSessionError};
+    ghost use Rattle.amqp_below_connections.specs.declared.connection.IncomingSession.{IncomingSession};
     ghost use Rattle.amqp_below_connections.specs.Connections.{Allocates, ConnectionTold, NextSession};
 
     /// What it tells: the sessions that wait, why it stopped, and how often it failed.
     ghost told: { Self → ConnectionTold };
 
     /// What a look for a session answers and leaves: the end before and after, the answer.
-    ghost next_session_gives: { Self → Self → Look (Option Begun) → Type 0 };
+    ghost next_session_gives: { Self → Self → Poll (Option IncomingSession) → Type 0 };
 
     /// What an allocation answers and leaves: the end before and after, the answer.
-    ghost allocate_gives: { Self → Self → Result Channel Refused → Type 0 };
+    ghost allocate_gives: { Self → Self → Result OutgoingChannel AllocSessionError → Type 0 };
 
     /// Takes the session that waits longest. It is `Pending` exactly where none waits and the
     /// connection hasn't stopped, and `Ready(None)` exactly where none waits and it has.

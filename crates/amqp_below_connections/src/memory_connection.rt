@@ -25,9 +25,9 @@ pub struct MemoryConnection {
 
 impl Model for MemoryConnection {
     ghost use Rattle.std.specs.Prelude.{◌≤◌, ◌+◌};
-    ghost use Rattle.amqp_below_connections.specs.MemoryConnections.{InMemory as ConnectionValue};
+    ghost use Rattle.amqp_below_connections.specs.MemoryConnections.{InMemory};
 
-    ghost Value = { ConnectionValue };
+    ghost Value = { InMemory };
 
     ghost view = { λ c. record {
       waiting = c.waiting.items;

@@ -8,7 +8,7 @@ use Rattle.amqp_links.specs.declared.errors.IllegalLinkStateError.{IllegalLinkSt
 use Rattle.amqp_links.specs.declared.errors.IllegalLinkStateError.TheVariants as faults
 use Rattle.amqp_links.specs.OneCall.{InsertsOn, RemovesOn, SendsFlowOn, OneFlow, OneInsertion, OneRemoval}
 use Rattle.amqp_links.specs.Receiving.{ReceiverTold}
-use Rattle.amqp_controller_acquisition.specs.Acquiring.{OneAcquisition, OneCleanup, PutsKey, names_transaction, txn_id_key}
+use Rattle.amqp_controller_acquisition.specs.Receivers.{OneAcquisition, OneCleanup, PutsKey, names_transaction, txn_id_key}
 use Rattle.amqp_controller_acquisition.proofs.Keys.{counted-flow_fault, gives-one-named, pairs-removed}
 
 module _ {R : Type 0} (told : R → ReceiverTold) (inserts : InsertsOn R) (removes : RemovesOn R)

@@ -13,7 +13,7 @@ use Rattle.amqp_txn_types.specs.declared.id.TransactionId.{TransactionId}
 use Rattle.amqp_links.specs.declared.errors.IllegalLinkStateError.{IllegalLinkStateError}
 use Rattle.amqp_links.specs.declared.errors.IllegalLinkStateError.TheVariants as faults
 use Rattle.amqp_links.specs.Receiving.{GivesOne, Properties, pairs_of, removed, value_of}
-use Rattle.amqp_controller_acquisition.specs.Acquiring.{OnFlowFault, has_key, naming, txn_id_key}
+use Rattle.amqp_controller_acquisition.specs.Receivers.{OnFlowFault, has_key, naming, txn_id_key}
 
 -- what is left from an item on
 drop-get : {X : Type 0} (xs : List X) (i : ℕ) (x : X) → slice_get xs i ≡ Some x

@@ -1,3 +1,3 @@
-pub mod Acquiring
+pub mod Receivers
 pub mod Acquisitions
-pub mod Ending
+pub mod Ends

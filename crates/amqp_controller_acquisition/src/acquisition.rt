@@ -2,9 +2,9 @@
 
 ghost use Rattle.std.specs.Prelude.{◌≡◌};
 ghost use Rattle.amqp_links.specs.OneCall.{OneCredit, OneReceipt};
-ghost use Rattle.amqp_controller_acquisition.specs.Acquiring.{OneCleanup};
+ghost use Rattle.amqp_controller_acquisition.specs.Receivers.{OneCleanup};
 
-use crate::receiving::{TxnIdKey, clean_up_on_link};
+use crate::receiver::{TxnIdKey, clean_up_on_link};
 use amqp_controller_calls::TransactionBase;
 use amqp_controller_posting::TransactionRetirement;
 use amqp_controller_transactions::TransactionDischarge;
@@ -170,7 +170,7 @@ impl<'r, Txn: TransactionDischarge, R> TxnAcquisition<'r, Txn, R> {
 impl<'r, Txn: TransactionRetirement, R: ReceiverLink> TxnAcquisition<'r, Txn, R> {
     ghost use Rattle.amqp_txn_types.specs.declared.delivery.Outcome.TheVariants as outcomes;
     ghost use Rattle.amqp_links.specs.OneCall.{OneDisposition};
-    ghost use Rattle.amqp_controller_posting.specs.Retiring.{Retires};
+    ghost use Rattle.amqp_controller_posting.specs.Retirements.{Retires};
     ghost use Rattle.amqp_controller_acquisition.specs.Acquisitions.{lent_to, recver_of, txn_of};
 
     /// Retires a delivery as accepted. See [`TransactionRetirement::accept`].

@@ -91,12 +91,12 @@
 //! standard' is OASIS AMQP 1.0.
 #![tactic(auto)]
 
-mod acquiring;
+mod acquire;
 mod acquisition;
-mod discharging;
-mod receiving;
+mod discharge;
+mod receiver;
 
-pub use acquiring::{TransactionAcquisition, TransactionExt};
+pub use acquire::{TransactionAcquisition, TransactionExt};
 pub use acquisition::TxnAcquisition;
-pub use discharging::AcquisitionDischarging;
-pub use receiving::{TxnIdKey, acquire_on_link, clean_up_on_link};
+pub use discharge::AcquisitionDischarging;
+pub use receiver::{TxnIdKey, acquire_on_link, clean_up_on_link};

@@ -1,3 +1,3 @@
 pub mod Errors
-pub mod Posting
-pub mod Retiring
+pub mod Posts
+pub mod Retirements

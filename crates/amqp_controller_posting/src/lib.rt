@@ -45,11 +45,11 @@
 #![tactic(auto)]
 
 mod errors;
-mod posting;
+mod post;
 mod results;
-mod retiring;
+mod retirement;
 
 pub use errors::PostError;
-pub use posting::{DeliveryFut, TransactionPosting};
+pub use post::{DeliveryFut, TransactionPosting};
 pub use results::{FromDeliveryFailure, FromDeliveryState, FromPreSettled, PostResult};
-pub use retiring::TransactionRetirement;
+pub use retirement::TransactionRetirement;

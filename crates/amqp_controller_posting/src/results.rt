@@ -4,7 +4,7 @@ ghost use Rattle.std.specs.Prelude.{◌≡◌, Ok, Err};
 ghost use Rattle.amqp_links.specs.declared.errors.LinkStateError.TheVariants as links;
 ghost use Rattle.amqp_txn_types.specs.declared.delivery.Outcome.TheVariants as outcomes;
 ghost use Rattle.amqp_controller_posting.specs.declared.errors.PostError.TheVariants as errors;
-ghost use Rattle.amqp_controller_posting.specs.Posting.{outcome_by};
+ghost use Rattle.amqp_controller_posting.specs.Posts.{outcome_by};
 
 use crate::errors::PostError;
 use amqp_links::LinkStateError;
@@ -15,13 +15,13 @@ pub type PostResult = Result<Outcome, PostError>;
 
 /// A result that is made of the answer to a send.
 pub trait FromDeliveryState: Sized {
-    ghost use Rattle.amqp_txn_types.specs.declared.delivery.DeliveryState.{DeliveryState as State};
+    ghost use Rattle.amqp_txn_types.specs.declared.delivery.DeliveryState.{DeliveryState};
 
     /// What no state makes.
     ghost none_gives: { Self };
 
     /// What a state makes.
-    ghost state_gives: { State → Self };
+    ghost state_gives: { DeliveryState → Self };
 
     /// That of an answer without a state.
     fn from_none() -> Self
@@ -44,11 +44,11 @@ pub trait FromPreSettled: Sized {
 
 /// A result that is made where no answer comes.
 pub trait FromDeliveryFailure: Sized {
-    ghost use Rattle.amqp_txn_types.specs.declared.delivery.SessionStopReason.{SessionStopReason as Stop};
-    ghost use Rattle.amqp_links.specs.declared.errors.LinkStateError.{LinkStateError as Fault};
+    ghost use Rattle.amqp_txn_types.specs.declared.delivery.SessionStopReason.{SessionStopReason};
+    ghost use Rattle.amqp_links.specs.declared.errors.LinkStateError.{LinkStateError};
 
     /// What a state of the link makes.
-    ghost fault_gives: { Fault → Self };
+    ghost fault_gives: { LinkStateError → Self };
 
     /// That of a link whose session stopped.
     fn from_session_stop_reason(reason: SessionStopReason) -> Self

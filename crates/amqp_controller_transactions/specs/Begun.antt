@@ -55,8 +55,8 @@ PollsDischarge is_rollback old new waiting (waits.Ready (Ok done)) = new ≡ dis
 PollsDischarge is_rollback old new waiting (waits.Ready (Err error)) =
     (new ≡ read_by (is_rollback error) old) × (old.is_discharged ≡ false)
 
--- what becomes of a transaction that is given up: nothing is put where it was discharged, or else
--- where it was rolled back, or else where there are no trials
+-- what becomes of a transaction that is given up: the answer says exactly whether it was
+-- discharged, or else was rolled back, or else has no trials
 pub record GivesUp (begun : Begun) (end : Abandoned) : Type 0 where
   pub discharged : (end ≡ ends.Discharged) ↔ (begun.is_discharged ≡ true)
   pub rolled_back : (end ≡ ends.RolledBack)

@@ -1,7 +1,7 @@
 pub mod Begun
 pub mod Locked
-pub mod Declaring
-pub mod Attaching
+pub mod Declares
+pub mod Attaches
 pub mod Owned
 pub mod Transactions
-pub mod Discharging
+pub mod Discharges

@@ -24,10 +24,10 @@ use Rattle.amqp_controller_transactions.specs.declared.owned_errors.OwnedDischar
 use Rattle.amqp_controller_transactions.specs.declared.owned_errors.OwnedDischargeError.TheVariants as discharges
 use Rattle.amqp_controller_transactions.specs.declared.owned_transaction.OwnedDeclaringOn.{OwnedDeclaringOn}
 use Rattle.amqp_controller_transactions.specs.declared.owned_transaction.OwnedTransaction.{OwnedTransaction}
-use Rattle.amqp_controller_transactions.specs.declared.owned_declaring.Awaited.{Awaited}
-use Rattle.amqp_controller_transactions.specs.declared.owned_declaring.Awaited.TheVariants as awaits
-use Rattle.amqp_controller_transactions.specs.Attaching.{IsStopped}
-use Rattle.amqp_controller_transactions.specs.Declaring.{PollsToBegin}
+use Rattle.amqp_controller_transactions.specs.declared.owned_declare.Awaited.{Awaited}
+use Rattle.amqp_controller_transactions.specs.declared.owned_declare.Awaited.TheVariants as awaits
+use Rattle.amqp_controller_transactions.specs.Attaches.{IsStopped}
+use Rattle.amqp_controller_transactions.specs.Declares.{PollsToBegin}
 use Rattle.amqp_controller_transactions.specs.Locked.{ClosesOn, ClosesUnder, DischargesUnder, PollsUnder, SendsUnder, declare_of}
 
 -- the error is that of the close of the link
@@ -85,7 +85,7 @@ OwnedPolls gives told waiting result =
     (found : Progress Sent (Result Unit ControllerSendError))
     × PollsUnder gives told waiting found × (result ≡ owned_by_poll found)
 
--- a discharged transaction is let go: its link is closed
+-- a discharged transaction is dropped: its link is closed
 abbrev pub ClosesAtEnd : {L : Type 0} → ClosesOn L → (L → SenderTold)
     → Result Unit OwnedDischargeError → Type 0
 ClosesAtEnd gives told result =

@@ -2,9 +2,9 @@
 
 ghost use Rattle.std.specs.Prelude.{◌≡◌, [], None, IfOk};
 ghost use Rattle.amqp_txn_types.specs.declared.small.SenderSettleMode.TheVariants as modes;
-ghost use Rattle.amqp_controller_transactions.specs.Attaching.{AttachesBy, NamesAttach, TellsAttach, attach_of, relay_of};
+ghost use Rattle.amqp_controller_transactions.specs.Attaches.{AttachesBy, NamesAttach, TellsAttach, attach_of, relay_of};
 
-use crate::attaching::Attaching;
+use crate::attach::Attaching;
 use crate::controller::Controller;
 use amqp_below_sessions::{Relay, SenderAttachError, Session};
 use amqp_links::WireSender;
@@ -26,7 +26,7 @@ pub struct ControllerBuilder {
 }
 
 impl Model for ControllerBuilder {
-    ghost use Rattle.amqp_controller_transactions.specs.Attaching.{Wanted};
+    ghost use Rattle.amqp_controller_transactions.specs.Attaches.{Wanted};
 
     ghost Value = { Wanted };
 

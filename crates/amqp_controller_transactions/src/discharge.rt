@@ -2,10 +2,10 @@
 
 ghost use Rattle.std.specs.Prelude.{◌≡◌, true, false, IfErr, IfOk, OnErr};
 ghost use Rattle.amqp_controller_transactions.specs.Begun.{AsksToDischarge, GivesUp, IfTried, IfUndischarged, OnPolledErr, PollsDischarge};
-ghost use Rattle.amqp_controller_transactions.specs.Discharging.{asked_of, value_of};
+ghost use Rattle.amqp_controller_transactions.specs.Discharges.{asked_of, value_of};
 ghost use Rattle.amqp_controller_transactions.specs.Locked.{error_of};
 
-use crate::discharging::Discharging;
+use crate::awaited_discharge::Discharging;
 use amqp_controller_calls::Abandoned;
 use amqp_links::Progress;
 use std::sync::Wait;
@@ -48,7 +48,7 @@ pub trait TransactionDischarge: Sized {
     /// What its control link answers where it is given up with a rollback.
     ghost abandon_gives: { Begun → Abandoned → Type 0 };
 
-    /// What its control link answers where it is let go.
+    /// What its control link answers where it is dropped.
     ghost spend_gives: { Result Unit Self.Error → Type 0 };
 
     /// Whether a discharge was accepted.
@@ -80,7 +80,7 @@ pub trait TransactionDischarge: Sized {
         ensures gives { IfUndischarged (begun self.old) (poll_gives waiting result) }
         ensures cause { OnPolledErr result (λ error. of_spend error ≡ false) };
 
-    /// Lets a discharged transaction go.
+    /// Drops a discharged transaction.
     ///
     /// # Requires
     ///
@@ -93,8 +93,7 @@ pub trait TransactionDischarge: Sized {
 
     /// Gives it up: see [`abandon_on_link`](amqp_controller_calls::abandon_on_link). `Discharged`
     /// exactly where it was discharged, else `RolledBack` exactly where a poll of its discharge
-    /// read that the coordinator rolled it back, else `Skipped` exactly where its trials are 0;
-    /// nothing is put in these cases.
+    /// read that the coordinator rolled it back, else `Skipped` exactly where its trials are 0.
     fn abandon<R: Wait>(self, rt: &R) -> Abandoned
         ensures given { GivesUp (begun self) result }
         ensures gives { IfTried (begun self) (abandon_gives (begun self) result) };

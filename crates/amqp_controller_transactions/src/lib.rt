@@ -9,7 +9,7 @@
 //! | [`TransactionDischarge`], [`Discharging`] | how both end |
 //!
 //! Calls of this crate that take the runtime take the lock; each makes one call of
-//! `amqp_controller_calls` under it, and lets the lock go. A poll takes it anew, so two
+//! `amqp_controller_calls` under it, and releases the lock. A poll takes it anew, so two
 //! transactions over one controller are polled in any order. A call that is made while the guard of
 //! [`Controller::link`] lives waits for ever: drop the guard first. `transactions` of
 //! `amqp_examples_controller`:
@@ -82,24 +82,24 @@
 //! standard' is OASIS AMQP 1.0.
 #![tactic(auto)]
 
-mod attaching;
+mod attach;
+mod awaited_discharge;
 mod begun;
 mod builder;
 mod controller;
 mod discharge;
-mod discharging;
-mod owned_declaring;
+mod owned_declare;
 mod owned_errors;
 mod owned_transaction;
 mod transaction;
 
-pub use attaching::Attaching;
+pub use attach::Attaching;
+pub use awaited_discharge::Discharging;
 pub use begun::{Begun, DEFAULT_ROLLBACK_ON_DROP_TRIALS};
 pub use builder::ControllerBuilder;
 pub use controller::Controller;
 pub use discharge::TransactionDischarge;
-pub use discharging::Discharging;
-pub use owned_declaring::OwnedDeclaring;
+pub use owned_declare::OwnedDeclaring;
 pub use owned_errors::{OwnedDeclareError, OwnedDischargeError};
 pub use owned_transaction::{OwnedDeclaringOn, OwnedTransaction};
 pub use transaction::{Declaring, Transaction};

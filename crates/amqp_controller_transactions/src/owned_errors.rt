@@ -38,7 +38,7 @@ impl From<ControllerSendError> for OwnedDeclareError {
     }
 }
 
-/// Why an owned transaction isn't discharged, or not let go.
+/// Why an owned transaction isn't discharged, or not dropped.
 #[derive(Debug, Drop, PartialEq, ThisError)]
 pub enum OwnedDischargeError {
     /// The discharge isn't sent, or something else was answered than that it is done.

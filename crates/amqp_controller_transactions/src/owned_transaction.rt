@@ -2,7 +2,7 @@
 
 ghost use Rattle.std.specs.Prelude.{◌≡◌};
 ghost use Rattle.amqp_controller_transactions.specs.Begun.{with_trials};
-ghost use Rattle.amqp_controller_transactions.specs.Declaring.{PollsToBegin};
+ghost use Rattle.amqp_controller_transactions.specs.Declares.{PollsToBegin};
 ghost use Rattle.amqp_controller_transactions.specs.Locked.{GivesUpUnder, SendsUnder, declare_of};
 ghost use Rattle.amqp_controller_transactions.specs.Owned.{ClosesAtEnd, OwnedDischarges, OwnedPolls, is_close_error, is_owned_rollback, owned_begun, owned_declare_sent, owned_sent};
 

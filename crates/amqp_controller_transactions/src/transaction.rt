@@ -3,7 +3,7 @@
 ghost use Rattle.std.specs.Prelude.{◌≡◌, Ok, false, IfOk};
 ghost use Rattle.amqp_controller_calls.specs.Errors.{is_rollback};
 ghost use Rattle.amqp_controller_transactions.specs.Begun.{with_trials};
-ghost use Rattle.amqp_controller_transactions.specs.Declaring.{OnBegun, PollsToBegin};
+ghost use Rattle.amqp_controller_transactions.specs.Declares.{OnBegun, PollsToBegin};
 ghost use Rattle.amqp_controller_transactions.specs.Locked.{DischargesUnder, GivesUpUnder, PollsUnder, SendsUnder, declare_of};
 ghost use Rattle.amqp_controller_transactions.specs.Transactions.{begun_of, controller_of, declare_sent, put_over, sent_of};
 

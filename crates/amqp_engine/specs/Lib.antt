@@ -2,10 +2,10 @@ pub use Rattle.amqp_below_layer.specs.OneFrame
 pub use Rattle.amqp_engine_events.specs.States
 pub use Rattle.amqp_engine_events.specs.Texts
 pub use Rattle.amqp_engine_events.specs.Turns
-pub use Rattle.amqp_engine_events.specs.Asking
+pub use Rattle.amqp_engine_events.specs.Calls
 pub use Rattle.amqp_engine_events.specs.Reasons
-pub use Rattle.amqp_engine_events.specs.Beginning
-pub use Rattle.amqp_engine_events.specs.Ending
+pub use Rattle.amqp_engine_events.specs.Begins
+pub use Rattle.amqp_engine_events.specs.Ends
 pub use Rattle.amqp_engine_events.specs.Incoming
 pub use Rattle.amqp_engine_events.specs.Outgoing
 pub use Rattle.amqp_engine_events.specs.Controls

@@ -35,8 +35,8 @@ use Rattle.amqp_engine_events.specs.declared.controls.SessionControl.{SessionCon
 use Rattle.amqp_engine_events.specs.declared.controls.SessionControl.TheVariants as controls
 use Rattle.amqp_engine_events.specs.declared.turn.Running.TheVariants.{Continue}
 use Rattle.amqp_engine_events.specs.declared.turn.Turn.{Turn}
-use Rattle.amqp_engine_events.specs.Asking.{OrNoCopy, OrNoMemory}
-use Rattle.amqp_engine_events.specs.Ending.{KeepsAndEnds}
+use Rattle.amqp_engine_events.specs.Calls.{OrNoCopy, OrNoMemory}
+use Rattle.amqp_engine_events.specs.Ends.{KeepsAndEnds}
 use Rattle.amqp_engine_events.specs.Outgoing.{Passes}
 use Rattle.amqp_engine_events.specs.Reasons.{copies_local}
 use Rattle.amqp_engine_events.specs.States.{is_mapped}
@@ -87,7 +87,7 @@ Links told kept names Gives old new name state result =
     × (result ≡ Ok (replying (replies.Linked answer)))
     × LinkAsked told kept names Gives old new name state answer
 
--- a link is let go
+-- a link is deallocated
 abbrev pub Frees : {S : Type 0} → (S → Told) → (S → Kept) → (S → Names)
     → (S → S → OutputHandle → Bool → Type 0)
     → S → S → OutputHandle → Result Turn SessionInnerError → Type 0

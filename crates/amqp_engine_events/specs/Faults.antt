@@ -9,7 +9,7 @@ use Rattle.amqp_txn_types.specs.declared.small.TransactionError.TheVariants as t
 use Rattle.amqp_below_layer.specs.declared.inner_error.SessionInnerError.{SessionInnerError}
 use Rattle.amqp_below_layer.specs.declared.inner_error.SessionInnerError.TheVariants as faults
 use Rattle.amqp_engine_events.specs.declared.turn.Turn.{Turn}
-use Rattle.amqp_engine_events.specs.Asking.{OrNoCopy, OrNoMemory}
+use Rattle.amqp_engine_events.specs.Calls.{OrNoCopy, OrNoMemory}
 use Rattle.amqp_engine_events.specs.Turns.{Unasked}
 
 -- an error without a text

@@ -18,7 +18,7 @@ use Rattle.amqp_engine_events.specs.declared.turn.Running.TheVariants.{Continue}
 use Rattle.amqp_engine_events.specs.declared.turn.SessionFrameBody.{SessionFrameBody}
 use Rattle.amqp_engine_events.specs.declared.turn.SessionFrameBody.TheVariants as bodies
 use Rattle.amqp_engine_events.specs.declared.turn.Turn.{Turn}
-use Rattle.amqp_engine_events.specs.Beginning.{BeginGiven}
+use Rattle.amqp_engine_events.specs.Begins.{BeginGiven}
 use Rattle.amqp_engine_events.specs.States.{takes_end}
 use Rattle.amqp_engine_events.specs.Turns.{quiet, sending}
 

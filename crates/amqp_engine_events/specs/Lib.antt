@@ -1,10 +1,10 @@
 pub mod States
 pub mod Texts
 pub mod Turns
-pub mod Asking
+pub mod Calls
 pub mod Reasons
-pub mod Beginning
-pub mod Ending
+pub mod Begins
+pub mod Ends
 pub mod Incoming
 pub mod Outgoing
 pub mod Controls

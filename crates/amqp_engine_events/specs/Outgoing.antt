@@ -16,7 +16,7 @@ use Rattle.amqp_below_layer.specs.Told.{Told}
 use Rattle.amqp_below_sessions.specs.Names.{Names}
 use Rattle.amqp_below_sessions.specs.Sessions.{Kept}
 use Rattle.amqp_engine_events.specs.declared.turn.Turn.{Turn}
-use Rattle.amqp_engine_events.specs.Asking.{Checked}
+use Rattle.amqp_engine_events.specs.Calls.{Checked}
 use Rattle.amqp_engine_events.specs.Turns.{sending_one}
 
 -- a frame that the session passed is sent

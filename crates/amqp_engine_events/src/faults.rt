@@ -3,11 +3,11 @@
 ghost use Rattle.std.specs.Prelude.{◌≡◌, IfOk, OnErr, false, true};
 ghost use Rattle.std.specs.Bool.{OnFalse};
 ghost use Rattle.amqp_txn_types.specs.Counts.{Rose};
-ghost use Rattle.amqp_engine_events.specs.Ending.{EndsSession};
+ghost use Rattle.amqp_engine_events.specs.Ends.{EndsSession};
 ghost use Rattle.amqp_engine_events.specs.Faults.{EndsFor, copies_for, error_of_fault, is_cut_off, plain_error, told_error};
 ghost use Rattle.amqp_engine_events.specs.Turns.{CausedBy};
 
-use crate::ending::end_session;
+use crate::end::end_session;
 use crate::turn::Turn;
 use amqp_below_layer::SessionInnerError;
 use amqp_below_sessions::Session;

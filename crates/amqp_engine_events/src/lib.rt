@@ -67,19 +67,19 @@
 //! the table of its events. 'The standard' is OASIS AMQP 1.0.
 #![tactic(auto)]
 
-mod beginning;
-mod controlling;
+mod begin;
 mod controls;
-mod ending;
+mod end;
 mod engine;
 mod faults;
 mod incoming;
 mod outgoing;
 mod reasons;
+mod serve;
 mod states;
 mod turn;
 
-pub use beginning::ClientBegin;
+pub use begin::ClientBegin;
 pub use controls::{ConnectionControl, ControlReply, SessionControl};
 pub use engine::SessionEngine;
 pub use turn::{Running, SessionFrame, SessionFrameBody, Turn};

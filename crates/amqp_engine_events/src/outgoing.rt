@@ -4,7 +4,7 @@ ghost use Rattle.std.specs.Prelude.{◌≡◌, ◌<◌, [], false, vec_capacity,
 ghost use Rattle.amqp_txn_types.specs.declared.performatives.Frame.TheVariants as frames;
 ghost use Rattle.amqp_txn_types.specs.declared.performatives.Transfer.{Transfer};
 ghost use Rattle.amqp_txn_types.specs.Counts.{Rose};
-ghost use Rattle.amqp_engine_events.specs.Asking.{OrNoMemory};
+ghost use Rattle.amqp_engine_events.specs.Calls.{OrNoMemory};
 ghost use Rattle.amqp_engine_events.specs.Turns.{CausedBy};
 ghost use Rattle.amqp_engine_events.specs.Outgoing.{Passes, SendsFlow, SendsLink};
 

@@ -10,7 +10,7 @@ use Rattle.amqp_below_connections.specs.Connections.{Allocates, ConnectionTold, 
 use Rattle.amqp_below_connections.specs.declared.connection.AllocSessionError.{AllocSessionError}
 use Rattle.amqp_below_connections.specs.declared.connection.IncomingSession.{IncomingSession}
 use Rattle.amqp_accept_links.specs.declared.control.ControlLinkAcceptor.{ControlLinkAcceptor}
-use Rattle.amqp_engine_events.specs.Beginning.{StoppedEarly}
+use Rattle.amqp_engine_events.specs.Begins.{StoppedEarly}
 use Rattle.amqp_engine_builder.specs.declared.builder.Builder.{Builder}
 use Rattle.amqp_resource_accepted.specs.declared.accepted.AcceptedSession.{AcceptedSession}
 use Rattle.amqp_engine_builder.specs.Builders.{begin_built}

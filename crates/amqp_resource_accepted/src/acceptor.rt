@@ -2,7 +2,7 @@
 
 ghost use Rattle.std.specs.Prelude.{◌≡◌};
 ghost use Rattle.amqp_engine_builder.specs.Builders.{default_builder};
-ghost use Rattle.amqp_engine_events.specs.Beginning.{StoppedEarly};
+ghost use Rattle.amqp_engine_events.specs.Begins.{StoppedEarly};
 ghost use Rattle.amqp_resource_accepted.specs.Accepted.{AcceptsOn};
 ghost use Rattle.amqp_resource_accepted.specs.Accepting.{AcceptsNext, AcceptsOrNoMemory};
 

@@ -1,7 +1,7 @@
 use Rattle.std.proofs.Common.{rules, ◌≡◌, Result, Ok, Err, IfErr, subst, sym}
 use Rattle.std.specs.Prelude.{IsErrAnd}
 use Rattle.amqp_accept_links.proofs.Opened.{placed-freed}
-use Rattle.amqp_accept_links.specs.declared.opening.OpenError.{OpenError}
+use Rattle.amqp_accept_links.specs.declared.open_link.OpenError.{OpenError}
 use Rattle.amqp_accept_listener.specs.Controlling.{CausedBelow, control_refusal}
 use Rattle.amqp_accept_listener.proofs.control_links.open_held.Goals as goal
 
