@@ -22,12 +22,13 @@ AreNext-along : (f g : ℕ → TransactionId) (n : ℕ) (ds : List TransactionId
 AreNext-along f g n [] same a = tt
 AreNext-along f g n (d ∷ ds) same a = (a.0 ∙ same n, AreNext-along f g (n + 1) ds same a.1)
 
--- what a drive says where nothing was taken, opened or refused before
-pub is_run : (f ids : ℕ → TransactionId) (steps : List Step) (told : Told) (driven : Driven) (taken : Option (List (Frame × List Frame))) (opened : Option (List (Attach × List Frame))) (refused : Option (List Refusal)) (vetoed : Option (List (List Frame))) → ((n : ℕ) → f n ≡ ids n) → taken ≡ Some [] → opened ≡ Some [] → refused ≡ Some [] → IsLegal driven.entries → driven.at ≡ length driven.entries → steps_of driven.entries ≡ take driven.at steps → AreNext f 0 (drawn_of driven.entries) → ((driven.stop ≡ stops.Done) ↔ (steps_of driven.entries ≡ steps)) → StopCause steps driven.entries driven.stop → RunTook taken told.taken steps driven.entries driven.stop driven.handed → told.opened ≡ grown opened (opens driven.entries) → RunRefused refused told.refused steps driven.entries driven.stop driven.handed → told.reviews.vetoed ≡ grown vetoed (vetoes driven.entries) → IsRun ids steps vetoed told driven
-is_run f ids steps told driven taken opened refused vetoed same none_taken none_opened none_refused legal at front drawn done cause took opens_too refused_too vetoed_too =
+-- what a drive says where nothing was taken, opened or refused before, and what was vetoed is known
+pub is_run : (f ids : ℕ → TransactionId) (steps : List Step) (told : Told) (driven : Driven) (taken : Option (List (Frame × List Frame))) (opened : Option (List (Attach × List Frame))) (refused : Option (List Refusal)) (vetoed before : Option (List (List Frame))) → ((n : ℕ) → f n ≡ ids n) → taken ≡ Some [] → opened ≡ Some [] → refused ≡ Some [] → vetoed ≡ before → IsLegal driven.entries → driven.at ≡ length driven.entries → steps_of driven.entries ≡ take driven.at steps → AreNext f 0 (drawn_of driven.entries) → ((driven.stop ≡ stops.Done) ↔ (steps_of driven.entries ≡ steps)) → StopCause steps driven.entries driven.stop → RunTook taken told.taken steps driven.entries driven.stop driven.handed → told.opened ≡ grown opened (opens driven.entries) → RunRefused refused told.refused steps driven.entries driven.stop driven.handed → told.reviews.vetoed ≡ grown vetoed (vetoes driven.entries) → IsRun ids steps before told driven
+is_run f ids steps told driven taken opened refused vetoed before same none_taken none_opened none_refused same_vetoed legal at front drawn done cause took opens_too refused_too vetoed_too =
     let T : Option (List (Frame × List Frame)) → Type 0 = λ o. RunTook o told.taken steps driven.entries driven.stop driven.handed in
     let O : Option (List (Attach × List Frame)) → Type 0 = λ o. told.opened ≡ grown o (opens driven.entries) in
     let R : Option (List Refusal) → Type 0 = λ o. RunRefused o told.refused steps driven.entries driven.stop driven.handed in
+    let V : Option (List (List Frame)) → Type 0 = λ o. told.reviews.vetoed ≡ grown o (vetoes driven.entries) in
     record {
       legal = legal;
       drawn = AreNext-along f ids 0 (drawn_of driven.entries) same drawn;
@@ -38,5 +39,5 @@ is_run f ids steps told driven taken opened refused vetoed same none_taken none_
       taken = subst T none_taken took;
       opened = subst O none_opened opens_too;
       refused = subst R none_refused refused_too;
-      vetoed = vetoed_too;
+      vetoed = subst V same_vetoed vetoed_too;
     }
