@@ -61,7 +61,7 @@ fn a_plan_vetoes_its_calls(rt: HostRuntime) {
     below.set_plan(call_numbers(alloc, &[2]).expect(&rt, "an Ok"));
     assert!(rt; judges(alloc, &mut below, 3, Verdict::Veto));
     assert!(rt; vetoed(&below) == (1, 2));
-    assert!(rt; !below.is_fresh());
+    assert!(rt; below.is_fresh());
     assert_eq!(rt; below.exchanges().len(), 0);
 }
 

@@ -25,8 +25,8 @@ pub fn accept_link<S: ListenerSessionEndpoint>(
     answer
 }
 
-/// Looks once for a link: its end with the frames to be sent, `None` where none is there now,
-/// or why the session stopped, after which none comes.
+/// Looks once for a link: its end with the frames to be sent, `None` where none waits or the one
+/// that waited isn't accepted, or why the session stopped, after which none comes.
 pub fn next_link<S: ListenerSessionEndpoint>(
     alloc: Global,
     engine: &mut SessionEngine<S>,
@@ -39,8 +39,8 @@ pub fn next_link<S: ListenerSessionEndpoint>(
     }
 }
 
-/// Closes the listener, as who ends the session does: what waits is still accepted, and then
-/// `next_link` answers why the session stopped.
+/// Closes the listener, as who ends the session does: no attach waits from then on but those that
+/// do, and once they are taken `next_link` answers why the session stopped.
 pub fn close_listener<S: ListenerSessionEndpoint>(engine: &mut SessionEngine<S>) {
     engine.session_mut().close_listener();
 }

@@ -464,13 +464,7 @@ fn flows_are_put(rt: HostRuntime) {
 
 fn deliver(wire: &mut WireReceiver, alloc: Global, delivery_id: u32) -> Result<(), NoMemory> {
     let delivery = delivery(alloc, delivery_id)?;
-    match wire.deliver(delivery) {
-        Ok(()) => Ok(()),
-        Err((unkept, error)) => {
-            drop(unkept);
-            Err(error)
-        }
-    }
+    wire.append_delivery(delivery)
 }
 
 /// A copy of the delivery of that number.
