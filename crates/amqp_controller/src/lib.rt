@@ -88,14 +88,11 @@
 //!     rt: &R,
 //!     transaction: Transaction<'_, L>,
 //! ) -> Result<CommitEnd, ControllerSendError> {
-//!     let commit = match transaction.commit(rt) {
-//!         Ok(commit) => commit,
-//!         Err((refused, error)) => {
-//!             drop(refused.abandon(rt)); // the commit wasn't sent
-//!             return Err(error);
-//!         }
+//!     let answer = match transaction.commit(rt) {
+//!         Ok(commit) => commit.poll(rt),
+//!         Err(unsent) => Progress::Ready(Err(unsent)),
 //!     };
-//!     match commit.poll(rt) {
+//!     match answer {
 //!         Progress::Ready(Ok(())) => Ok(CommitEnd::Accepted),
 //!         Progress::Ready(Err((transaction, error))) => {
 //!             let is_rolled_back = transaction.is_rolled_back();
@@ -148,7 +145,7 @@
 //!   both. [`Controller::new`] takes any [`SenderLink`], so a link of one's own needs no session.
 //! - A commit that isn't sent, or is refused, hands the transaction back: it is committed again, or
 //!   given up. One that the coordinator answered by a rollback of its own hands it back with
-//!   `is_rolled_back`: it isn't discharged, and giving it up puts nothing.
+//!   `is_rolled_back`: it isn't discharged, and is given up as `RolledBack`.
 //!
 //! The life of a transaction on this side:
 //!

@@ -16,11 +16,11 @@ use std::alloc::Global;
 /// What became of a transaction that was given up.
 #[derive(Debug, Drop, PartialEq)]
 pub enum Abandoned {
-    /// It was discharged before: nothing was put.
+    /// It was discharged before.
     Discharged,
-    /// The coordinator rolled it back before: nothing was put.
+    /// The coordinator rolled it back before.
     RolledBack,
-    /// Its trials are 0, so it was to be given up without a rollback: nothing was put.
+    /// Its trials are 0, so it was to be given up without a rollback.
     Skipped,
     /// A rollback was put, and this is its outcome; `None` is an answer without a state.
     Answered(Option<DeliveryState>),

@@ -10,8 +10,8 @@
 //! lends.
 //!
 //! ```text
-//! /// Declares a transaction on a control link and commits it: whether the commit was accepted. What
-//! /// wasn't answered yet is given up with one look.
+//! /// Declares a transaction on a control link and commits it: whether the commit was answered as
+//! /// accepted. A commit that wasn't answered yet is given up with one look.
 //! fn commit_on_link<L: SenderLink>(
 //!     alloc: Global,
 //!     link: &mut L,

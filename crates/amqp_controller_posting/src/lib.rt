@@ -23,7 +23,7 @@
 //!     }
 //! }
 //!
-//! /// Receives a message and retires it as accepted: its octets, or `None` where none came.
+//! /// Receives a message and retires it as accepted: its octets, or `None` where none was received.
 //! pub fn take_once<T: TransactionRetirement, R: ReceiverLink>(
 //!     transaction: &T,
 //!     receiver: &mut R,

@@ -55,8 +55,8 @@ pub trait TransactionDischarge: Sized {
     fn is_discharged(&self) -> bool
         ensures { result ≡ (begun self.now).is_discharged };
 
-    /// Puts one discharge: a rollback where `fail` is true, else a commit. Where it was discharged
-    /// before it puts nothing.
+    /// Puts one discharge, where it wasn't discharged before: a rollback where `fail` is true, else a
+    /// commit.
     ///
     /// # Errors
     ///

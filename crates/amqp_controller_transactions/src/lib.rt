@@ -15,7 +15,7 @@
 //! `amqp_examples_controller`:
 //!
 //! ```rust
-//! /// Declares a transaction and commits it: whether the commit was accepted.
+//! /// Declares a transaction and commits it: whether the commit was answered as accepted.
 //! pub fn commit_once<L: SenderLink, R: Wait>(
 //!     rt: &R,
 //!     controller: &Controller<L>,

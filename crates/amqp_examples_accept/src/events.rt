@@ -12,7 +12,7 @@ pub fn take<S: Session>(
     match engine.on_incoming(frame) {
         Ok(turn) => Ok(turn),
         Err(fault) => {
-            let turn = engine.on_error(&fault); // an Err: nothing more can be sent
+            let turn = engine.on_error(&fault); // out of memory: it may be called again
             drop(fault);
             turn
         }

@@ -54,14 +54,11 @@ pub fn commit<L: SenderLink, R: Wait>(
     rt: &R,
     transaction: Transaction<'_, L>,
 ) -> Result<CommitEnd, ControllerSendError> {
-    let commit = match transaction.commit(rt) {
-        Ok(commit) => commit,
-        Err((refused, error)) => {
-            drop(refused.abandon(rt)); // the commit wasn't sent
-            return Err(error);
-        }
+    let answer = match transaction.commit(rt) {
+        Ok(commit) => commit.poll(rt),
+        Err(unsent) => Progress::Ready(Err(unsent)),
     };
-    match commit.poll(rt) {
+    match answer {
         Progress::Ready(Ok(())) => Ok(CommitEnd::Accepted),
         Progress::Ready(Err((transaction, error))) => {
             let is_rolled_back = transaction.is_rolled_back();

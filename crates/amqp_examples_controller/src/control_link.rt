@@ -6,8 +6,8 @@ use amqp_controller_calls::{
 use amqp_links::{Progress, SenderLink};
 use std::alloc::Global;
 
-/// Declares a transaction on a control link and commits it: whether the commit was accepted. What
-/// wasn't answered yet is given up with one look.
+/// Declares a transaction on a control link and commits it: whether the commit was answered as
+/// accepted. A commit that wasn't answered yet is given up with one look.
 pub fn commit_on_link<L: SenderLink>(
     alloc: Global,
     link: &mut L,

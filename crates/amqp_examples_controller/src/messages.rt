@@ -16,7 +16,7 @@ pub fn post_once<T: TransactionPosting, L: SenderLink>(
     }
 }
 
-/// Receives a message and retires it as accepted: its octets, or `None` where none came.
+/// Receives a message and retires it as accepted: its octets, or `None` where none was received.
 pub fn take_once<T: TransactionRetirement, R: ReceiverLink>(
     transaction: &T,
     receiver: &mut R,

@@ -8,7 +8,8 @@ use amqp_txn_types::Outcome;
 use std::alloc::Global;
 use std::sync::Wait;
 
-/// Receives a delivery and posts it on: the outcome of the post, or `None` where nothing came.
+/// Receives a delivery and posts it on: the outcome of the post, or `None` where there is none, be
+/// it that nothing came, that a call failed or that the answer is still out.
 pub fn pass_on<T: TransactionAcquisition + TransactionPosting, R: ReceiverLink, L: SenderLink>(
     acquisition: &mut TxnAcquisition<'_, T, R>,
     sender: &mut L,
@@ -29,7 +30,7 @@ pub fn pass_on<T: TransactionAcquisition + TransactionPosting, R: ReceiverLink, 
     }
 }
 
-/// Passes one delivery on under the transaction: whether that was committed.
+/// Passes one delivery on under the transaction: whether a commit was answered as accepted.
 pub fn relay_once<L: SenderLink, R: ReceiverLink, S: SenderLink, W: Wait>(
     rt: &W,
     alloc: Global,
@@ -37,25 +38,39 @@ pub fn relay_once<L: SenderLink, R: ReceiverLink, S: SenderLink, W: Wait>(
     receiver: &mut R,
     sender: &mut S,
 ) -> bool {
-    let mut acquisition = match transaction.acquire(alloc, receiver, 1) {
-        Ok(acquisition) => acquisition,
-        Err((refused, _error)) => {
-            drop(refused.abandon(rt));
-            return false;
+    match transaction.acquire(alloc, receiver, 1) {
+        Ok(acquisition) => relay_under(rt, acquisition, sender),
+        Err((transaction, _error)) => {
+            drop(transaction.abandon(rt));
+            false
         }
-    };
-    if pass_on(&mut acquisition, sender) != Some(Outcome::Accepted) {
-        drop(acquisition.abandon(rt));
-        return false;
     }
-    let commit = match acquisition.commit(rt) {
-        Ok(commit) => commit,
-        Err((acquisition, _error)) => {
-            drop(acquisition.abandon(rt));
-            return false;
-        }
+}
+
+/// Passes one delivery on under the acquisition, and ends it.
+fn relay_under<L: SenderLink, R: ReceiverLink, S: SenderLink, W: Wait>(
+    rt: &W,
+    mut acquisition: TxnAcquisition<'_, Transaction<'_, L>, R>,
+    sender: &mut S,
+) -> bool {
+    if pass_on(&mut acquisition, sender) == Some(Outcome::Accepted) {
+        commit_under(rt, acquisition)
+    } else {
+        drop(acquisition.abandon(rt));
+        false
+    }
+}
+
+/// Commits the transaction of the acquisition, and looks once for the answer.
+fn commit_under<L: SenderLink, R: ReceiverLink, W: Wait>(
+    rt: &W,
+    acquisition: TxnAcquisition<'_, Transaction<'_, L>, R>,
+) -> bool {
+    let answer = match acquisition.commit(rt) {
+        Ok(commit) => commit.poll(rt),
+        Err(unsent) => Progress::Ready(Err(unsent)),
     };
-    match commit.poll(rt) {
+    match answer {
         Progress::Ready(Ok(())) => true,
         Progress::Ready(Err((acquisition, _error))) => {
             drop(acquisition.abandon(rt));

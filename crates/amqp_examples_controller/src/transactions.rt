@@ -5,7 +5,7 @@ use amqp_controller_transactions::{Controller, Transaction, TransactionDischarge
 use amqp_links::{Progress, SenderLink};
 use std::sync::Wait;
 
-/// Declares a transaction and commits it: whether the commit was accepted.
+/// Declares a transaction and commits it: whether the commit was answered as accepted.
 pub fn commit_once<L: SenderLink, R: Wait>(
     rt: &R,
     controller: &Controller<L>,
