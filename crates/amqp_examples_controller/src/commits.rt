@@ -29,34 +29,14 @@ pub fn post_and_commit<L: SenderLink, S: SenderLink, R: Wait>(
         Progress::Ready(declared) => declared?,
         Progress::Pending(_declaring) => return Ok(CommitEnd::GivenUp),
     };
-    if is_accepted(&transaction, sender, sendable) {
-        return commit(rt, transaction);
+    if !is_accepted(&transaction, sender, sendable) {
+        drop(transaction.abandon(rt));
+        return Ok(CommitEnd::GivenUp);
     }
-    drop(transaction.abandon(rt));
-    Ok(CommitEnd::GivenUp)
-}
-
-/// Posts a message under the transaction, and looks once whether it was accepted.
-pub fn is_accepted<T: TransactionPosting, S: SenderLink>(
-    transaction: &T,
-    sender: &mut S,
-    sendable: Sendable,
-) -> bool {
-    match transaction.post(sender, sendable) {
-        Ok(post) => post.poll(sender) == Progress::Ready(Ok(Outcome::Accepted)),
-        Err(_error) => false,
-    }
-}
-
-/// Commits the transaction, and looks once for the answer.
-pub fn commit<L: SenderLink, R: Wait>(
-    rt: &R,
-    transaction: Transaction<'_, L>,
-) -> Result<CommitEnd, ControllerSendError> {
     let commit = match transaction.commit(rt) {
         Ok(commit) => commit,
-        Err((refused, error)) => {
-            drop(refused.abandon(rt)); // the commit wasn't sent
+        Err((transaction, error)) => {
+            drop(transaction.abandon(rt)); // the commit wasn't sent
             return Err(error);
         }
     };
@@ -75,5 +55,17 @@ pub fn commit<L: SenderLink, R: Wait>(
             drop(commit.into_value().abandon(rt));
             Ok(CommitEnd::GivenUp)
         }
+    }
+}
+
+/// Posts a message under the transaction, and looks once whether it was accepted.
+pub fn is_accepted<T: TransactionPosting, S: SenderLink>(
+    transaction: &T,
+    sender: &mut S,
+    sendable: Sendable,
+) -> bool {
+    match transaction.post(sender, sendable) {
+        Ok(post) => post.poll(sender) == Progress::Ready(Ok(Outcome::Accepted)),
+        Err(_error) => false,
     }
 }

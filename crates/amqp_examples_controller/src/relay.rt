@@ -1,12 +1,9 @@
 //! A delivery that is passed on under a transaction.
 
 use amqp_controller_acquisition::{TransactionAcquisition, TxnAcquisition};
-use amqp_controller_posting::{TransactionPosting, TransactionRetirement};
-use amqp_controller_transactions::{Transaction, TransactionDischarge};
+use amqp_controller_posting::TransactionPosting;
 use amqp_links::{Poll, Progress, ReceiverLink, Sendable, SenderLink};
 use amqp_txn_types::Outcome;
-use std::alloc::Global;
-use std::sync::Wait;
 
 /// Receives a delivery and posts it on: the outcome of the post, or `None` where nothing came.
 pub fn pass_on<T: TransactionAcquisition + TransactionPosting, R: ReceiverLink, L: SenderLink>(
@@ -26,44 +23,5 @@ pub fn pass_on<T: TransactionAcquisition + TransactionPosting, R: ReceiverLink, 
     match post.poll(sender) {
         Progress::Ready(outcome) => outcome.ok(),
         Progress::Pending(_post) => None,
-    }
-}
-
-/// Passes one delivery on under the transaction: whether that was committed.
-pub fn relay_once<L: SenderLink, R: ReceiverLink, S: SenderLink, W: Wait>(
-    rt: &W,
-    alloc: Global,
-    transaction: Transaction<'_, L>,
-    receiver: &mut R,
-    sender: &mut S,
-) -> bool {
-    let mut acquisition = match transaction.acquire(alloc, receiver, 1) {
-        Ok(acquisition) => acquisition,
-        Err((refused, _error)) => {
-            drop(refused.abandon(rt));
-            return false;
-        }
-    };
-    if pass_on(&mut acquisition, sender) != Some(Outcome::Accepted) {
-        drop(acquisition.abandon(rt));
-        return false;
-    }
-    let commit = match acquisition.commit(rt) {
-        Ok(commit) => commit,
-        Err((acquisition, _error)) => {
-            drop(acquisition.abandon(rt));
-            return false;
-        }
-    };
-    match commit.poll(rt) {
-        Progress::Ready(Ok(())) => true,
-        Progress::Ready(Err((acquisition, _error))) => {
-            drop(acquisition.abandon(rt));
-            false
-        }
-        Progress::Pending(commit) => {
-            drop(commit.into_value().abandon(rt));
-            false
-        }
     }
 }
