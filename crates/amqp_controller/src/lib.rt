@@ -48,7 +48,8 @@
 //!     Accepted,
 //!     /// The coordinator rolled the transaction back: the work may be sent again in a new one.
 //!     RolledBack,
-//!     /// The work wasn't accepted, or an answer is still out: the transaction was given up.
+//!     /// The work wasn't accepted, or an answer is still out: the transaction was given up. How a
+//!     /// commit without an answer ended isn't known.
 //!     GivenUp,
 //! }
 //!

@@ -14,7 +14,8 @@ pub enum CommitEnd {
     Accepted,
     /// The coordinator rolled the transaction back: the work may be sent again in a new one.
     RolledBack,
-    /// The work wasn't accepted, or an answer is still out: the transaction was given up.
+    /// The work wasn't accepted, or an answer is still out: the transaction was given up. How a
+    /// commit without an answer ended isn't known.
     GivenUp,
 }
 

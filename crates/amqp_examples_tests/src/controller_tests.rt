@@ -122,13 +122,14 @@ fn declared<'t, R: Wait + Abort>(
     }
 }
 
-/// The transaction with the receiver, whose deliveries it acquires.
-fn acquired<'r, 't>(
-    rt: &impl Abort,
+/// A transaction over the controller, with the receiver whose deliveries it acquires.
+fn acquired<'r, 't, R: Wait + Abort>(
+    rt: &R,
     alloc: Global,
-    transaction: Transaction<'t, ReadyLink>,
+    controller: &'t Controller<ReadyLink>,
     receiver: &'r mut WireReceiver,
 ) -> TxnAcquisition<'r, Transaction<'t, ReadyLink>, WireReceiver> {
+    let transaction = declared(rt, controller);
     match transaction.acquire(alloc, receiver, 1) {
         Ok(acquisition) => acquisition,
         Err(_refused) => panic!(rt; "it is refused"),
@@ -139,9 +140,8 @@ fn acquired<'r, 't>(
 fn a_delivery_is_passed_on(rt: HostRuntime) {
     let alloc = rt.alloc();
     let controller = Controller::new(alloc, declaring(alloc, Some(DeliveryState::Accepted)));
-    let transaction = declared(&rt, &controller);
     let mut receiver = receiver(&rt, alloc);
-    let mut acquisition = acquired(&rt, alloc, transaction, &mut receiver);
+    let mut acquisition = acquired(&rt, alloc, &controller, &mut receiver);
     let mut sender = accepting(alloc);
     let passed = pass_on(&mut acquisition, &mut sender);
     drop(sender);
