@@ -14,8 +14,8 @@ pub enum CommitEnd {
     Accepted,
     /// The coordinator rolled the transaction back: the work may be sent again in a new one.
     RolledBack,
-    /// The work wasn't accepted, or an answer is still out: the transaction was given up. What was
-    /// declared or committed meanwhile isn't known here.
+    /// The work wasn't accepted, or an answer is still out: the transaction was given up. How a
+    /// commit without an answer ended isn't known.
     GivenUp,
 }
 
@@ -30,33 +30,16 @@ pub fn post_and_commit<L: SenderLink, S: SenderLink, R: Wait>(
         Progress::Ready(declared) => declared?,
         Progress::Pending(_declaring) => return Ok(CommitEnd::GivenUp),
     };
-    if is_accepted(&transaction, sender, sendable) {
-        return commit(rt, transaction);
+    if !is_accepted(&transaction, sender, sendable) {
+        drop(transaction.abandon(rt));
+        return Ok(CommitEnd::GivenUp);
     }
-    drop(transaction.abandon(rt));
-    Ok(CommitEnd::GivenUp)
-}
-
-/// Posts a message under the transaction, and looks once whether it was accepted.
-pub fn is_accepted<T: TransactionPosting, S: SenderLink>(
-    transaction: &T,
-    sender: &mut S,
-    sendable: Sendable,
-) -> bool {
-    match transaction.post(sender, sendable) {
-        Ok(post) => post.poll(sender) == Progress::Ready(Ok(Outcome::Accepted)),
-        Err(_error) => false,
-    }
-}
-
-/// Commits the transaction, and looks once for the answer.
-pub fn commit<L: SenderLink, R: Wait>(
-    rt: &R,
-    transaction: Transaction<'_, L>,
-) -> Result<CommitEnd, ControllerSendError> {
-    let answer = match transaction.commit(rt) {
-        Ok(commit) => commit.poll(rt),
-        Err(unsent) => Progress::Ready(Err(unsent)),
+    let commit = match transaction.commit(rt) {
+        Ok(commit) => commit,
+        Err((transaction, error)) => {
+            drop(transaction.abandon(rt)); // the commit wasn't sent
+            return Err(error);
+        }
     };
     match answer {
         Progress::Ready(Ok(())) => Ok(CommitEnd::Accepted),
@@ -73,5 +56,17 @@ pub fn commit<L: SenderLink, R: Wait>(
             drop(commit.into_value().abandon(rt));
             Ok(CommitEnd::GivenUp)
         }
+    }
+}
+
+/// Posts a message under the transaction, and looks once whether it was accepted.
+pub fn is_accepted<T: TransactionPosting, S: SenderLink>(
+    transaction: &T,
+    sender: &mut S,
+    sendable: Sendable,
+) -> bool {
+    match transaction.post(sender, sendable) {
+        Ok(post) => post.poll(sender) == Progress::Ready(Ok(Outcome::Accepted)),
+        Err(_error) => false,
     }
 }

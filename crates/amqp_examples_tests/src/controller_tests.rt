@@ -1,11 +1,12 @@
 //! Transactions of this side.
 
 use crate::ready_link::{ReadyLink, accepting, declaring, id, rolled_back};
+use amqp_controller_acquisition::{TransactionAcquisition, TxnAcquisition};
 use amqp_controller_calls::TransactionBase;
 use amqp_controller_posting::{TransactionPosting, TransactionRetirement};
-use amqp_controller_transactions::{Controller, Transaction};
+use amqp_controller_transactions::{Controller, Transaction, TransactionDischarge};
 use amqp_examples_controller::{
-    CommitEnd, answer_message, commit_on_link, commit_once, post_and_commit, post_once, relay_once,
+    CommitEnd, answer_message, commit_on_link, commit_once, pass_on, post_and_commit, post_once,
     take_once,
 };
 use amqp_links::{
@@ -121,18 +122,33 @@ fn declared<'t, R: Wait + Abort>(
     }
 }
 
+/// A transaction over the controller, with the receiver whose deliveries it acquires.
+fn acquired<'r, 't, R: Wait + Abort>(
+    rt: &R,
+    alloc: Global,
+    controller: &'t Controller<ReadyLink>,
+    receiver: &'r mut WireReceiver,
+) -> TxnAcquisition<'r, Transaction<'t, ReadyLink>, WireReceiver> {
+    let transaction = declared(rt, controller);
+    match transaction.acquire(alloc, receiver, 1) {
+        Ok(acquisition) => acquisition,
+        Err(_refused) => panic!(rt; "it is refused"),
+    }
+}
+
 #[test]
 fn a_delivery_is_passed_on(rt: HostRuntime) {
     let alloc = rt.alloc();
     let controller = Controller::new(alloc, declaring(alloc, Some(DeliveryState::Accepted)));
-    let transaction = declared(&rt, &controller);
     let mut receiver = receiver(&rt, alloc);
+    let mut acquisition = acquired(&rt, alloc, &controller, &mut receiver);
     let mut sender = accepting(alloc);
-    let passed = relay_once(&rt, alloc, transaction, &mut receiver, &mut sender);
+    let passed = pass_on(&mut acquisition, &mut sender);
     drop(sender);
+    drop(acquisition.abandon(&rt));
     drop(receiver);
     drop(controller);
-    assert!(rt; passed);
+    assert!(rt; passed == Some(Outcome::Accepted));
 }
 
 #[test]
