@@ -36,25 +36,9 @@
 //!     }
 //! }
 //!
-//! /// Passes one delivery on under the transaction: whether a commit was answered as accepted.
-//! pub fn relay_once<L: SenderLink, R: ReceiverLink, S: SenderLink, W: Wait>(
-//!     rt: &W,
-//!     alloc: Global,
-//!     transaction: Transaction<'_, L>,
-//!     receiver: &mut R,
-//!     sender: &mut S,
-//! ) -> bool {
-//!     match transaction.acquire(alloc, receiver, 1) {
-//!         Ok(acquisition) => relay_under(rt, acquisition, sender),
-//!         Err((transaction, _error)) => {
-//!             drop(transaction.abandon(rt));
-//!             false
-//!         }
-//!     }
-//! }
-//!
-//! /// Passes one delivery on under the acquisition, and ends it.
-//! fn relay_under<L: SenderLink, R: ReceiverLink, S: SenderLink, W: Wait>(
+//! /// Passes one delivery on under the acquisition, and ends it: whether a commit was answered as
+//! /// accepted.
+//! pub fn relay_under<L: SenderLink, R: ReceiverLink, S: SenderLink, W: Wait>(
 //!     rt: &W,
 //!     mut acquisition: TxnAcquisition<'_, Transaction<'_, L>, R>,
 //!     sender: &mut S,

@@ -21,5 +21,5 @@ pub use commits::{CommitEnd, is_accepted, post_and_commit};
 pub use control_link::commit_on_link;
 pub use controller::{answer_message, attach, poll_attach};
 pub use messages::{post_once, take_once};
-pub use relay::pass_on;
+pub use relay::{pass_on, relay_under};
 pub use transactions::commit_once;
