@@ -75,7 +75,7 @@
 //!             return Err(error);
 //!         }
 //!     };
-//!     match answer {
+//!     match commit.poll(rt) {
 //!         Progress::Ready(Ok(())) => Ok(CommitEnd::Accepted),
 //!         Progress::Ready(Err((transaction, error))) => {
 //!             let is_rolled_back = transaction.is_rolled_back();

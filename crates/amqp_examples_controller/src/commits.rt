@@ -41,7 +41,7 @@ pub fn post_and_commit<L: SenderLink, S: SenderLink, R: Wait>(
             return Err(error);
         }
     };
-    match answer {
+    match commit.poll(rt) {
         Progress::Ready(Ok(())) => Ok(CommitEnd::Accepted),
         Progress::Ready(Err((transaction, error))) => {
             let is_rolled_back = transaction.is_rolled_back();
