@@ -1,0 +1,14 @@
+pub mod Words
+pub mod Snoc
+pub mod Mails
+pub mod Naming
+pub mod Listing
+pub mod Copying
+pub mod Refusing
+pub mod Linking
+pub mod Removing
+pub mod Replying
+pub mod Kept
+pub mod Telling
+pub mod Admitting
+pub mod Answered
