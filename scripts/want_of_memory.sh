@@ -13,6 +13,7 @@ top=$(cd "$(dirname "$(readlink -f "$0")")/.." && pwd) || exit 1
 [ $# -ne 1 ] || { echo "usage: want_of_memory.sh [FILE WORD..]" >&2; exit 2; }
 runs=${PROGRAM:-$("$top/txn_program" --which run)} || exit 1
 listens=${PROGRAM:-$("$top/txn_program" --which listen)} || exit 1
+brokers=${PROGRAM:-$("$top/txn_program" --which broker)} || exit 1
 work=$(mktemp -d) || exit 1
 trap 'rm -r "$work"' EXIT
 
@@ -50,7 +51,10 @@ gcc -O1 -shared -fPIC -o "$work/failing.so" "$work/failing.c" -ldl || exit 1
 # The text of the run in which that allocation fails, and its status.
 run_with() {
   local program=$runs
-  [ "${words[0]}" != listen ] || program=$listens
+  case ${words[0]} in
+    listen) program=$listens ;;
+    broker) program=$brokers ;;
+  esac
   head -c 8 /dev/zero >"$work/count"
   COUNT_IN=$work/count FAIL_AT=$1 LD_PRELOAD=$work/failing.so "$program" "${words[@]}" <"$file" 2>/dev/null
   echo "status $?"

@@ -1,10 +1,9 @@
 -- A transfer that is admitted, by the links that are kept.
-use Rattle.txn_broker_queues.proofs.Words.{Bool, Frame, Handle, Keeps, Lines, Link, Linked, List, Mark, None, Ok, Option, Result, Err, Sent, SessionInnerError, Some, [], ap, arith, came, inl, inr, length, length-map, link_after, map, messages, option_map, peer_link, any_refused, list_all, refl, refusal, refused_by, sent_on, slice_get, subst, sym, transfer_refusal, true, Bool, ℕ, ◌++◌, ◌<◌, ◌∙◌, ◌∷◌, ◌≡◌, ◌≤◌, ◌⊎◌}
+use Rattle.txn_broker_queues.proofs.Words.{Bool, Frame, Handle, Keeps, Lines, Link, Linked, List, None, Ok, Option, Err, SessionInnerError, [], ap, arith, came, inl, inr, length, length-map, link_after, messages, option_map, peer_link, any_refused, list_all, refl, refused_by, sent_on, slice_get, subst, sym, transfer_refusal, true, Bool, ℕ, ◌++◌, ◌∙◌, ◌∷◌, ◌≡◌, ◌≤◌, ◌⊎◌}
 use Rattle.amqp_below_layer.specs.Reviewing.{is_bare}
 use Rattle.amqp_below_layer.specs.declared.inner_error.SessionInnerError.TheVariants as faults
 use Rattle.amqp_txn_types.specs.declared.performatives.Frame.TheVariants as frames
 use Rattle.amqp_txn_types.specs.declared.performatives.Transfer.{Transfer}
-use Rattle.txn_broker_queues.specs.Given.{max_messages}
 use Rattle.txn_broker_queues.specs.Keeping.{AdmitsTransfer, queue_names}
 use Rattle.txn_broker_queues.specs.Taking.{Admitted, Board, NotTook, frames_of, taken_of}
 use Rattle.txn_broker_queues.proofs.Kept.{keeps_transfer}

@@ -1,5 +1,5 @@
 -- What is read of a message by its number.
-use Rattle.txn_broker_queues.proofs.Words.{Frame, IsDistinct, Lines, List, Mail, MailsStand, Mark, Message, None, Option, Sent, Some, [], ap, arith, cons_option, enumerate_from, filter_map, inl, inr, length, length-map, link_at, mail_at, mail_of, map, messages, none-some, numbers_in, option_map, queue, range_with_len, refl, same_Some, sent_at, sent_by, sent_on, slice_get, slice_get_within, suc, subst, sym, take, zero, ℕ, ◌+◌, ◌<◌, ◌∙◌, ◌∷◌, ◌≡◌, ◌≤◌, is_sender, is_waiting_in, Linked, cond, Bool, true, false, numbers_from, take_all}
+use Rattle.txn_broker_queues.proofs.Words.{Frame, IsDistinct, Lines, List, Mail, MailsStand, Mark, Message, None, Option, Sent, Some, [], ap, arith, cons_option, enumerate_from, filter_map, length, length-map, link_at, mail_at, mail_of, map, messages, none-some, numbers_in, option_map, queue, range_with_len, refl, same_Some, sent_at, sent_by, sent_on, slice_get, suc, subst, sym, take, zero, ℕ, ◌+◌, ◌<◌, ◌∙◌, ◌∷◌, ◌≡◌, ◌≤◌, is_sender, is_waiting_in, Linked, cond, Bool, true, false, numbers_from, take_all}
 use Rattle.std.proofs.Common.{get_or}
 use Rattle.std.specs.List.{take-map}
 use Rattle.std.proofs.lemmas.Option.{slice_get-get_or, slice_get-map}

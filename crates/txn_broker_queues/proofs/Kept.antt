@@ -1,17 +1,16 @@
 -- What is kept stays so, frame by frame.
-use Rattle.txn_broker_queues.proofs.Words.{Attach, Bool, Disposition, Frame, Handle, Keeps, Lines, Link, Linked, List, Mail, MailsStand, Mark, None, Option, Sent, Some, [], ap, append-nil, arith, came, cond, cons_option, drop, enumerate_from, false, filter_map, filter_map-append, inl, inr, is_sender, is_some, length, length_push, link_after, link_back, list_any, mail_at, mail_of, map, messages, named_link, nat_eq, none-some, option_map, option_to_list, pointwise, refl, removes, reverse, same_Some, sent_on, slice_get, slice_get_within, subst, suc, sym, true, zero, ℕ, ◌++◌, ◌+◌, ◌<◌, ◌∙◌, ◌∷◌, ◌≡◌, ◌≤◌}
+use Rattle.txn_broker_queues.proofs.Words.{Attach, Bool, Disposition, Frame, Handle, Keeps, Lines, Link, List, Mail, Mark, None, Option, Sent, Some, [], ap, arith, came, cond, cons_option, enumerate_from, false, filter_map, filter_map-append, is_some, length, length_push, link_after, list_any, mail_at, mail_of, map, messages, named_link, nat_eq, none-some, option_map, option_to_list, pointwise, refl, same_Some, sent_on, slice_get, slice_get_within, subst, suc, sym, true, zero, ℕ, ◌++◌, ◌+◌, ◌<◌, ◌∙◌, ◌∷◌, ◌≡◌, ◌≤◌}
 use Rattle.amqp_txn_types.specs.declared.performatives.Detach.{Detach}
 use Rattle.amqp_txn_types.specs.declared.performatives.Flow.{Flow}
 use Rattle.amqp_txn_types.specs.declared.performatives.Frame.TheVariants as frames
 use Rattle.amqp_txn_types.specs.declared.performatives.Transfer.{Transfer}
 use Rattle.indexmap.specs.IndexSet.{insert_all, insert_key}
-use Rattle.std.specs.Prelude.{fold}
 use Rattle.std.proofs.lemmas.Grind.{fold-append}
 use Rattle.txn_broker_queues.specs.Given.{max_messages}
 use Rattle.txn_broker_queues.specs.Keeping.{Fades, attached_address, queue_names, same_handle}
 use Rattle.txn_broker_queues.specs.Queues.{address_of, link_of}
 use Rattle.txn_broker_queues.proofs.Mails.{mails_new, mails_removed, mails_same}
-use Rattle.txn_broker_queues.proofs.Snoc.{link_more, sent_new}
+use Rattle.txn_broker_queues.proofs.Snoc.{link_more}
 
 abbrev same_name : List ℕ → List ℕ → Bool
 same_name a b = pointwise nat_eq a b

@@ -1,5 +1,5 @@
 -- What the kept links say of the frames that were taken.
-use Rattle.txn_broker_queues.proofs.Words.{Bool, Frame, Handle, Keeps, Lines, Link, Linked, List, Mail, None, Option, Sent, SessionInnerError, Some, [], ap, arith, cond, enumerate_from, false, inl, inr, is_sender, is_some, length, length-map, link_after, list_all, mail_at, mail_of, map, messages, named_link, none-some, option_map, peer_link, refl, same_Some, sent_on, slice_get, slice_get_cases, subst, sym, transfer_refusal, true, ℕ, ◌+◌, ◌<◌, ◌&&◌, ◌||◌, ◌∙◌, ◌∷◌, ◌≡◌}
+use Rattle.txn_broker_queues.proofs.Words.{Bool, Frame, Handle, Keeps, Lines, Link, Linked, List, Mail, None, Option, Some, [], ap, arith, cond, enumerate_from, false, inl, inr, is_sender, is_some, length, length-map, link_after, list_all, mail_at, mail_of, messages, named_link, option_map, refl, sent_on, slice_get, slice_get_cases, subst, sym, transfer_refusal, true, ℕ, ◌<◌, ◌&&◌, ◌||◌, ◌∙◌, ◌∷◌, ◌≡◌}
 use Rattle.amqp_below_layer.specs.Reviewing.{is_bare}
 use Rattle.amqp_below_layer.specs.declared.inner_error.SessionInnerError.TheVariants as faults
 use Rattle.amqp_txn_types.specs.declared.performatives.Frame.TheVariants as frames

@@ -1,5 +1,5 @@
 -- The numbers that wait in a queue are those of its messages.
-use Rattle.txn_broker_queues.proofs.Words.{Bool, Frame, IsDistinct, Lines, List, Mail, MailsStand, Mark, Message, None, Option, Sent, Some, [], ap, arith, cond, cons_option, enumerate_from, eqb_tells, false, filter_map, inl, inr, is_gone, is_waiting_in, length, mail_at, mail_of, map, messages, none-some, not, numbers_from, numbers_in, pointwise, nat_eq, queue, refl, same_Some, slice_get, slice_get_within, suc, sym, true, waiting, zero, ℕ, ◌&&◌, ◌+◌, ◌<◌, ◌==◌, ◌∙◌, ◌∷◌, ◌≡◌, ◌≤◌}
+use Rattle.txn_broker_queues.proofs.Words.{Bool, Frame, Lines, List, Mail, Mark, Message, None, Sent, Some, [], ap, arith, cond, cons_option, enumerate_from, false, filter_map, is_gone, is_waiting_in, mail_at, mail_of, map, not, numbers_from, pointwise, nat_eq, refl, slice_get, suc, sym, true, waiting, ℕ, ◌&&◌, ◌+◌, ◌==◌, ◌∙◌, ◌∷◌, ◌≡◌}
 
 -- where a queue's number decides as its name does, the messages of the numbers that wait are those
 -- of the queue

@@ -1,5 +1,5 @@
 -- What is kept of the messages, as frames are taken.
-use Rattle.txn_broker_queues.proofs.Words.{Bool, Disposition, Frame, Lines, List, Mail, MailsStand, Mark, None, Option, Removes, Sent, Some, [], ap, append-nil, arith, came, cond, cons_option, enumerate_from, false, filter_map, gone, inl, inr, is_gone, leb_tells, length, length-append, length-map, mail_at, mail_of, map, map-append, messages, none-some, not, option_map, option_to_list, range_with_len, refl, removes, same_Some, sent_at, slice_get, slice_get_cases, slice_get_within, subst, suc, sym, true, zero, ℕ, ◌&&◌, ◌++◌, ◌+◌, ◌<◌, ◌||◌, ◌∙◌, ◌∷◌, ◌≡◌, ◌≤◌}
+use Rattle.txn_broker_queues.proofs.Words.{Bool, Frame, Lines, List, Mail, MailsStand, Mark, None, Option, Sent, Some, [], ap, append-nil, arith, came, cons_option, enumerate_from, false, filter_map, is_gone, length, mail_at, mail_of, map, map-append, messages, none-some, not, option_map, option_to_list, range_with_len, refl, removes, same_Some, sent_at, slice_get, subst, suc, sym, true, zero, ℕ, ◌&&◌, ◌++◌, ◌+◌, ◌<◌, ◌||◌, ◌∙◌, ◌∷◌, ◌≡◌}
 use Rattle.txn_broker_queues.specs.Keeping.{faded}
 use Rattle.txn_broker_queues.proofs.Snoc.{gone_more, gone_new, messages_more, or_false, sent_new, sent_place}
 

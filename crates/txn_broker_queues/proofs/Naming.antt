@@ -1,6 +1,6 @@
 -- The names of the queues differ, and are those that some frame attached a link to.
-use Rattle.txn_broker_queues.proofs.Words.{Bool, Frame, List, None, Option, Some, [], ap, arith, cond, cons_option, eqb_tells, false, filter_map, inl, inr, length, list_any, none-some, pointwise, nat_eq, refl, same_Some, slice_get, slice_get_within, suc, subst, sym, true, zero, ℕ, ◌++◌, ◌+◌, ◌<◌, ◌==◌, ◌||◌, ◌∙◌, ◌∷◌, ◌≡◌, ◌≤◌}
-use Rattle.std.specs.Prelude.{fold, position}
+use Rattle.txn_broker_queues.proofs.Words.{Bool, Frame, List, None, Option, Some, [], ap, arith, cond, cons_option, eqb_tells, false, filter_map, inl, inr, length, list_any, none-some, pointwise, nat_eq, refl, same_Some, slice_get, slice_get_within, suc, sym, true, ℕ, ◌++◌, ◌+◌, ◌<◌, ◌==◌, ◌||◌, ◌∙◌, ◌∷◌, ◌≡◌}
+use Rattle.std.specs.Prelude.{position}
 use Rattle.std.specs.List.{IsDistinct, position_from}
 use Rattle.std.proofs.Common.{get_or}
 use Rattle.std.proofs.lemmas.Bool.Decides.{leb_tells}

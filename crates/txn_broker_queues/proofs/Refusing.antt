@@ -1,6 +1,6 @@
 -- Refusals by the links that are kept are those of the frames that were taken.
-use Rattle.txn_broker_queues.proofs.Words.{Bool, Frame, Handle, Link, Linked, List, None, Option, Sent, SessionInnerError, Some, [], any_refused, ap, append-nil, arith, cond, false, is_some, is_sender, is_work, length, length-append, link_after, list_all, messages, option_map, option_to_list, peer_link, refl, refusal, refused_by, sent_on, subst, suc, sym, transfer_refusal, true, zero, ℕ, ◌&&◌, ◌++◌, ◌+◌, ◌||◌, ◌∙◌, ◌∷◌, ◌≡◌}
-use Rattle.txn_broker_queues.proofs.Snoc.{link_work, messages_more, sent_new}
+use Rattle.txn_broker_queues.proofs.Words.{Bool, Frame, Handle, Link, Linked, List, None, Option, Sent, SessionInnerError, Some, [], any_refused, ap, append-nil, arith, cond, false, is_some, is_sender, is_work, length, length-append, link_after, list_all, messages, option_to_list, peer_link, refl, refusal, refused_by, sent_on, subst, sym, transfer_refusal, true, ℕ, ◌++◌, ◌+◌, ◌||◌, ◌∙◌, ◌∷◌, ◌≡◌}
+use Rattle.txn_broker_queues.proofs.Snoc.{link_work, messages_more}
 use Rattle.amqp_txn_types.specs.declared.performatives.Frame.TheVariants as frames
 use Rattle.amqp_txn_types.specs.declared.performatives.Transfer.{Transfer}
 use Rattle.amqp_below_layer.specs.declared.inner_error.SessionInnerError.TheVariants as faults

@@ -1,5 +1,5 @@
 -- What a disposition takes from what is kept.
-use Rattle.txn_broker_queues.proofs.Words.{Bool, Disposition, List, Mark, None, Option, Removes, Some, ap, arith, cond, covers, false, gone, inl, inr, is_final, is_receiver, leb_tells, length, none-some, option_map, refl, removed_numbers, removes, same_Some, slice_get, sym, true, unwrap_or, ℕ, ◌+◌, ◌&&◌, ◌<◌, ◌∙◌, ◌≡◌, ◌≤◌, ◌⊎◌, nat_le}
+use Rattle.txn_broker_queues.proofs.Words.{Bool, Disposition, List, Mark, None, Option, Removes, Some, ap, arith, cond, covers, false, inl, inr, is_final, is_receiver, leb_tells, none-some, option_map, refl, removed_numbers, removes, same_Some, slice_get, sym, true, unwrap_or, ℕ, ◌+◌, ◌&&◌, ◌∙◌, ◌≡◌, nat_le}
 use Rattle.amqp_txn_types.specs.declared.performatives.Frame.TheVariants as frames
 use Rattle.txn_broker_queues.specs.Keeping.{Fades, faded}
 

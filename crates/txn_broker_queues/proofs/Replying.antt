@@ -1,5 +1,5 @@
 -- What a broker refuses, and what it gives back, by the links that it keeps.
-use Rattle.txn_broker_queues.proofs.Words.{Bool, Frame, Handle, Keeps, Lines, Link, Linked, List, Message, None, Option, SessionInnerError, Some, [], ap, cond, false, is_sender, is_some, link_after, map, none-some, queue, refl, refusal, same_Some, slice_get, sym, take, true, ℕ, ◌∙◌, ◌≡◌}
+use Rattle.txn_broker_queues.proofs.Words.{Frame, Handle, Keeps, Lines, Link, Linked, List, Message, None, Option, Some, [], ap, cond, false, is_sender, is_some, link_after, map, queue, refl, refusal, slice_get, sym, take, true, ℕ, ◌∙◌, ◌≡◌}
 use Rattle.amqp_below_layer.specs.declared.inner_error.SessionInnerError.TheVariants as faults
 use Rattle.amqp_txn_types.specs.declared.performatives.Attach.{Attach}
 use Rattle.amqp_txn_types.specs.declared.performatives.Detach.{Detach}

@@ -1,5 +1,5 @@
 -- One more frame.
-use Rattle.txn_broker_queues.proofs.Words.{Bool, Frame, Linked, List, None, Option, Sent, Some, [], ap, append-nil, arith, cond, cons_option, drop, drop-append-le, drop_all, false, filter_map, filter_map-append, is_gone, is_sender, is_some, is_work, length, length_push, link_after, link_at, link_back, list_any, list_any-append, messages, none-some, option_to_list, range_with_len, refl, removes, reverse, reverse-append, same_Some, sent_at, sent_by, sent_on, slice_get, slice_get_cases, slice_get_within, suc, sym, take, take-append-le, take_all, true, zero, ℕ, ◌++◌, ◌+◌, ◌<◌, ◌||◌, ◌∙◌, ◌∷◌, ◌≡◌, ◌≤◌}
+use Rattle.txn_broker_queues.proofs.Words.{Bool, Frame, Linked, List, None, Option, Sent, Some, [], ap, arith, cond, cons_option, drop, drop-append-le, drop_all, false, filter_map, filter_map-append, is_gone, is_sender, is_work, length, length_push, link_after, link_at, link_back, list_any, list_any-append, messages, none-some, option_to_list, range_with_len, refl, removes, reverse, reverse-append, same_Some, sent_at, sent_by, sent_on, slice_get, suc, sym, take, take-append-le, take_all, true, zero, ℕ, ◌++◌, ◌+◌, ◌<◌, ◌||◌, ◌∙◌, ◌∷◌, ◌≡◌, ◌≤◌}
 use Rattle.amqp_txn_types.specs.declared.performatives.Frame.TheVariants as frames
 
 -- ---- links

@@ -1,5 +1,5 @@
 -- What a broker tells after its calls.
-use Rattle.txn_broker_queues.proofs.Words.{Bool, Err, Frame, List, None, Ok, Option, Result, SessionInnerError, Some, [], ap, arith, cond, false, map, refl, sym, true, ℕ, ◌++◌, ◌+◌, ◌∙◌, ◌∷◌, ◌≡◌, ◌≤◌}
+use Rattle.txn_broker_queues.proofs.Words.{Bool, Err, Frame, List, None, Ok, Result, SessionInnerError, Some, [], ap, arith, cond, false, refl, sym, true, ℕ, ◌++◌, ◌∙◌, ◌∷◌, ◌≡◌, ◌≤◌}
 use Rattle.std.specs.Prelude.{IsErrAnd}
 use Rattle.std.proofs.lemmas.List.{map_push}
 use Rattle.amqp_below_layer.specs.Faults.{is_no_memory}

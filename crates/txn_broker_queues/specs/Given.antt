@@ -1,5 +1,5 @@
 -- What a broker refuses, and what it gives back.
-use Rattle.std.specs.Prelude.{ℕ, ◌≡◌, ◌+◌, ◌<◌, ◌||◌, ◌++◌, Bool, true, false, cond, Option, Some, None, List, [], ◌∷◌, is_some, length, map, nat_le, take}
+use Rattle.std.specs.Prelude.{ℕ, ◌||◌, ◌++◌, Bool, false, cond, Option, Some, None, List, [], ◌∷◌, is_some, length, map, nat_le, take}
 use Rattle.std.specs.Int.{to_be_bytes, w32}
 use Rattle.amqp_txn_types.specs.declared.performatives.Attach.{Attach}
 use Rattle.amqp_txn_types.specs.declared.performatives.Detach.{Detach}

@@ -1,5 +1,5 @@
 -- A broker goes on to take the frames that it accepted: the law of `LayerBelow` on incoming frames.
-use Rattle.std.specs.Prelude.{ℕ, ◌≡◌, ◌≤◌, ◌+◌, ◌++◌, ◌&&◌, ◌||◌, Bool, true, false, cond, Option, Some, None, Result, Ok, Err, List, [], ◌∷◌, count_by, is_some, length, map}
+use Rattle.std.specs.Prelude.{◌≡◌, ◌+◌, ◌++◌, ◌&&◌, ◌||◌, Bool, true, false, cond, Option, Some, Result, Ok, Err, List, [], ◌∷◌, count_by, is_some, map}
 use Rattle.std.specs.List.{list_all}
 use Rattle.std.proofs.Common.{ap, arith, inl, inr, refl, subst, sym, ◌∙◌}
 use Rattle.std.proofs.lemmas.List.{map_push}

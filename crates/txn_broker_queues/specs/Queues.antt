@@ -1,5 +1,5 @@
 -- The queues of a list of frames, which look back over it.
-use Rattle.std.specs.Prelude.{ℕ, ◌≡◌, ◌+◌, ◌==◌, ◌&&◌, Bool, true, false, not, cond, Option, Some, None, List, [], ◌∷◌, drop, length, nat_eq, nat_le, reverse, slice_get, take, unwrap_or}
+use Rattle.std.specs.Prelude.{ℕ, ◌+◌, ◌==◌, ◌&&◌, Bool, true, false, not, cond, Option, Some, None, List, [], ◌∷◌, drop, length, nat_eq, nat_le, reverse, slice_get, take, unwrap_or}
 use Rattle.std.specs.List.{enumerate_from, filter_map, list_any, range_with_len}
 use Rattle.std.specs.Option.{option_map, option_or}
 use Rattle.std.specs.Cmp.Lexicographic.{pointwise}

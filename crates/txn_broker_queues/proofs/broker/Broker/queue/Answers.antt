@@ -1,4 +1,4 @@
-use Rattle.std.proofs.Common.{None, Some, ap, length, sym, take, ◌∙◌, ◌≡◌}
+use Rattle.std.proofs.Common.{Some, ap, length, sym, take, ◌∙◌}
 use Rattle.txn_broker_queues.specs.Queues.{queue, queue_found}
 use Rattle.txn_broker_queues.specs.Taking.{frames_of}
 use Rattle.txn_broker_queues.proofs.Copying.{queue_whole}

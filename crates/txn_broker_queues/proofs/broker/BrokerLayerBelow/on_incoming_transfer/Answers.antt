@@ -1,9 +1,8 @@
-use Rattle.std.proofs.Common.{[], ap, arith, length, subst, sym, ◌∙◌, ◌≡◌}
+use Rattle.std.proofs.Common.{ap, arith, subst, sym, ◌∙◌, ◌≡◌}
 use Rattle.std.specs.HashMap.{get}
 use Rattle.amqp_txn_types.specs.Counts.{one_more}
 use Rattle.amqp_txn_types.specs.declared.performatives.Frame.TheVariants as frames
 use Rattle.txn_broker_queues.specs.Keeping.{Keeps, same_handle}
-use Rattle.txn_broker_queues.specs.Taking.{frames_of}
 use Rattle.txn_broker_queues.proofs.Admitting.{keeps_admitted}
 use Rattle.txn_broker_queues.proofs.Answered.{answered_more}
 use Rattle.txn_broker_queues.proofs.Telling.{frames_more, refused_gives, refused_told}

@@ -1,4 +1,4 @@
-use Rattle.std.proofs.Common.{Bool, ap, arith, cond, false, sym, true, ◌∙◌, ◌≡◌}
+use Rattle.std.proofs.Common.{ap, arith, cond, false, sym, true, ◌∙◌, ◌≡◌}
 use Rattle.std.specs.HashMap.{get}
 use Rattle.std.proofs.lemmas.List.Sums.{count_by-le-length}
 use Rattle.amqp_txn_types.specs.Counts.{one_more}
