@@ -1,0 +1,5 @@
+use Rattle.std.proofs.Common.{length}
+use Rattle.txn_mailbox_serving.proofs.serving.serve_two.Given as goal
+
+abbrev pub ghosts-serve_in : goal.ghosts-serve_in
+ghosts-serve_in g a = record { first = length a.first.now; second = length a.second.now }
