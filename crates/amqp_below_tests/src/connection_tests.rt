@@ -4,7 +4,7 @@ use amqp_below_connections::*;
 use amqp_below_layer::SessionInnerError;
 use amqp_below_sessions::{AllocLinkError, BeginError, ReceiverAttachError, SenderAttachError};
 use amqp_links::Poll;
-use amqp_test_values::{begin, other_text, same};
+use amqp_test_values::{begin, is_done, other_text, same};
 use amqp_txn_types::{ConnectionStopReason, OutgoingChannel, SessionStopReason, TryClone};
 
 fn incoming(channel: u16) -> IncomingSession {
@@ -18,18 +18,18 @@ fn incoming(channel: u16) -> IncomingSession {
 fn sessions_come_in_order(rt: HostRuntime) {
     let mut connection = MemoryConnection::new(rt.alloc(), 1);
     assert!(rt; same(connection.next_incoming_session(), Poll::Pending));
-    connection.push_session(incoming(3)).expect(&rt, "an Ok");
-    connection.append_session(incoming(4)).expect(&rt, "an Ok");
+    assert!(rt; is_done(connection.push_session(incoming(3))));
+    assert!(rt; is_done(connection.append_session(incoming(4))));
     assert!(rt;
         same(
             connection.next_incoming_session(),
             Poll::Ready(Some(incoming(3)))
         )
     );
-    assert!(rt;
-        connection.next_incoming_session()
-            == Poll::Ready(Some(incoming(4).try_clone().expect(&rt, "an Ok")))
-    );
+    let second = incoming(4);
+    let copy = second.try_clone().expect(&rt, "an Ok");
+    drop(second);
+    assert!(rt; same(connection.next_incoming_session(), Poll::Ready(Some(copy))));
     connection.set_stop_reason(ConnectionStopReason::Closed);
     assert!(rt; same(connection.next_incoming_session(), Poll::Ready(None)));
 }
@@ -52,21 +52,21 @@ fn channels_are_given_once(rt: HostRuntime) {
 
 #[test]
 fn refusals_go_on_by_name(rt: HostRuntime) {
+    let max_reached = BeginError::from(AllocSessionError::ChannelMaxReached);
+    assert!(rt; same(max_reached, BeginError::LocalChannelMaxReached));
     let closed = ConnectionStopReason::Closed;
+    let stopped = BeginError::from(AllocSessionError::ConnectionStopped(closed));
+    let wanted = BeginError::ConnectionStopped(ConnectionStopReason::Closed);
+    assert!(rt; same(stopped, wanted));
+    let in_use = SenderAttachError::from(AllocLinkError::HandleInUse);
     assert!(rt;
-        BeginError::from(AllocSessionError::ChannelMaxReached) == BeginError::LocalChannelMaxReached
+        same(
+            in_use,
+            SenderAttachError::Alloc(AllocLinkError::HandleInUse)
+        )
     );
-    assert!(rt;
-        BeginError::from(AllocSessionError::ConnectionStopped(closed))
-            == BeginError::ConnectionStopped(ConnectionStopReason::Closed)
-    );
-    assert!(rt;
-        SenderAttachError::from(AllocLinkError::HandleInUse)
-            == SenderAttachError::Alloc(AllocLinkError::HandleInUse)
-    );
-    assert!(rt;
-        ReceiverAttachError::from(AllocLinkError::NoMemory) == ReceiverAttachError::NoMemory
-    );
+    let lacking = ReceiverAttachError::from(AllocLinkError::NoMemory);
+    assert!(rt; same(lacking, ReceiverAttachError::NoMemory));
 }
 
 #[test]
@@ -77,7 +77,9 @@ fn errors_of_channels_have_their_texts(rt: HostRuntime) {
         (stopped, "the connection stopped: Closed"),
         (AllocSessionError::NoMemory, "out of memory"),
     ];
-    assert_eq!(rt; other_text(rt.alloc(), &table).expect(&rt, "an Ok"), None);
+    let other = other_text(rt.alloc(), &table);
+    drop(table);
+    assert!(rt; other == Ok(None));
 }
 
 #[test]
@@ -97,7 +99,9 @@ fn errors_of_senders_have_their_texts(rt: HostRuntime) {
         ),
         (SenderAttachError::NoMemory, "out of memory"),
     ];
-    assert_eq!(rt; other_text(rt.alloc(), &table).expect(&rt, "an Ok"), None);
+    let other = other_text(rt.alloc(), &table);
+    drop(table);
+    assert!(rt; other == Ok(None));
 }
 
 #[test]
@@ -117,5 +121,7 @@ fn errors_of_receivers_have_their_texts(rt: HostRuntime) {
         ),
         (ReceiverAttachError::NoMemory, "out of memory"),
     ];
-    assert_eq!(rt; other_text(rt.alloc(), &table).expect(&rt, "an Ok"), None);
+    let other = other_text(rt.alloc(), &table);
+    drop(table);
+    assert!(rt; other == Ok(None));
 }

@@ -22,7 +22,9 @@ fn errors_have_their_texts(rt: HostRuntime) {
         (AllocLinkError::HandleMaxReached, "no handle is left"),
         (AllocLinkError::NoMemory, "out of memory"),
     ];
-    assert_eq!(rt; other_text(alloc, &unallocated).expect(&rt, "an Ok"), None);
+    let other = other_text(alloc, &unallocated);
+    drop(unallocated);
+    assert!(rt; other == Ok(None));
     let unbegun = [
         (
             BeginError::ConnectionStopped(ConnectionStopReason::Closed),
@@ -38,7 +40,9 @@ fn errors_have_their_texts(rt: HostRuntime) {
         (BeginError::IllegalState, "the state does not allow it"),
         (BeginError::NoMemory, "out of memory"),
     ];
-    assert_eq!(rt; other_text(alloc, &unbegun).expect(&rt, "an Ok"), None);
+    let other = other_text(alloc, &unbegun);
+    drop(unbegun);
+    assert!(rt; other == Ok(None));
     let undrawn = [
         (
             AllocTxnIdError::NotImplemented,
@@ -50,7 +54,9 @@ fn errors_have_their_texts(rt: HostRuntime) {
         ),
         (AllocTxnIdError::NoMemory, "out of memory"),
     ];
-    assert_eq!(rt; other_text(alloc, &undrawn).expect(&rt, "an Ok"), None);
+    let other = other_text(alloc, &undrawn);
+    drop(undrawn);
+    assert!(rt; other == Ok(None));
     let uncommitted = [
         (CommitFault::NoMemory, "out of memory"),
         (
@@ -61,5 +67,7 @@ fn errors_have_their_texts(rt: HostRuntime) {
             "the commit was refused below: the handle is in use",
         ),
     ];
-    assert_eq!(rt; other_text(alloc, &uncommitted).expect(&rt, "an Ok"), None);
+    let other = other_text(alloc, &uncommitted);
+    drop(uncommitted);
+    assert!(rt; other == Ok(None));
 }

@@ -1,15 +1,18 @@
 //! What no clause says: that the calls succeed where there is memory, and the texts of errors.
 
 use amqp_below_layer::*;
-use amqp_test_values::{detach, judges, not_allowed, other_text, same, takes_work};
-use amqp_txn_types::{ConnectionStopReason, Frame, TryClone};
+use amqp_test_values::{detach, gives, judges, not_allowed, other_text, takes_work};
+use amqp_txn_types::{ConnectionStopReason, Frame, Frames, TryClone};
 
 #[test]
 fn an_open_session_takes_everything(rt: HostRuntime) {
     let mut below = OpenSession::new(rt.alloc());
-    let answers = take_frame(&mut below, Frame::Detach(detach(3))).expect(&rt, "an Ok");
-    assert_eq!(rt; answers.given.len(), 0);
-    assert!(rt; answers.window.is_none());
+    let answers = Answers {
+        given: Frames::new(rt.alloc()),
+        window: None,
+    };
+    assert!(rt; gives(take_frame(&mut below, Frame::Detach(detach(3))), answers));
+    drop(below);
 }
 
 #[test]
@@ -57,13 +60,15 @@ fn errors_have_their_texts(rt: HostRuntime) {
         ),
         (SessionInnerError::NoMemory, "out of memory"),
     ];
-    assert_eq!(rt; other_text(rt.alloc(), &table).expect(&rt, "an Ok"), None);
+    let other = other_text(rt.alloc(), &table);
+    drop(table);
+    assert!(rt; other == Ok(None));
 }
 
 #[test]
 fn errors_are_copied(rt: HostRuntime) {
     let ended = SessionInnerError::RemoteEndedWithError(not_allowed());
-    assert!(rt; same(ended.try_clone().expect(&rt, "an Ok"), ended));
+    assert!(rt; gives(ended.try_clone(), ended));
     let stopped = SessionInnerError::ConnectionStopped(ConnectionStopReason::Closed);
-    assert!(rt; same(stopped.try_clone().expect(&rt, "an Ok"), stopped));
+    assert!(rt; gives(stopped.try_clone(), stopped));
 }

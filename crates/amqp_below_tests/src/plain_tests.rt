@@ -8,7 +8,7 @@ use amqp_test_values::{
     sender_attach, takes_work, transfer,
 };
 use amqp_txn_types::{
-    ConnectionStopReason, End, Frame, Frames, Handle, IncomingChannel, InputHandle, LinkFlow,
+    ConnectionStopReason, End, Flow, Frame, Frames, Handle, IncomingChannel, InputHandle, LinkFlow,
     LinkFlows, OutputHandle, Payload, Role, SessionState, SessionStopReason, Text,
     TransactionError, TransactionId,
 };
@@ -27,55 +27,65 @@ fn link_flow(handle: u32) -> LinkFlow {
     }
 }
 
+fn name_of(rt: &impl Abort, alloc: Global, name: &str) -> Text {
+    Text::from_str(alloc, name).expect(rt, "an Ok")
+}
+
 /// Allocates a link of this side's receiver.
-fn allocate(
+fn allocate<S: Session>(
+    rt: &impl Abort,
     alloc: Global,
-    plain: &mut PlainSession,
+    session: &mut S,
     name: &str,
 ) -> Result<OutputHandle, AllocLinkError> {
-    match Text::from_str(alloc, name) {
-        Ok(name) => plain.allocate_link(name, relay(alloc, Role::Receiver)),
-        Err(_) => Err(AllocLinkError::NoMemory),
-    }
+    session.allocate_link(name_of(rt, alloc, name), relay(alloc, Role::Receiver))
 }
 
 /// The peer attaches a link on handle 5.
-fn attach_to(
+fn attach_to<S: LayerBelow>(
+    rt: &impl Abort,
     alloc: Global,
-    plain: &mut PlainSession,
+    below: &mut S,
     name: &str,
 ) -> Result<Frames, SessionInnerError> {
-    match Text::from_str(alloc, name) {
-        Ok(name) => plain.on_incoming_attach(sender_attach(name, 5, None)),
-        Err(_) => Err(SessionInnerError::NoMemory),
-    }
+    below.on_incoming_attach(sender_attach(name_of(rt, alloc, name), 5, None))
 }
 
 /// A transfer of one octet comes.
 fn transfer_to<S: LayerBelow>(
+    rt: &impl Abort,
     alloc: Global,
     below: &mut S,
     handle: u32,
 ) -> Result<Frames, SessionInnerError> {
-    match Payload::from_slice(alloc, b"m") {
-        Ok(payload) => below.on_incoming_transfer(transfer(handle), payload),
-        Err(_) => Err(SessionInnerError::NoMemory),
-    }
+    let payload = Payload::from_slice(alloc, b"m").expect(rt, "an Ok");
+    below.on_incoming_transfer(transfer(handle), payload)
 }
 
 /// Whether the name is known so.
-fn is_known(alloc: Global, plain: &PlainSession, name: &str, state: NameState) -> bool {
-    match Text::from_str(alloc, name) {
-        Ok(name) => plain.name_state(&name) == state,
-        Err(_) => false,
-    }
+fn is_known<S: Session>(
+    rt: &impl Abort,
+    alloc: Global,
+    session: &S,
+    name: &str,
+    state: NameState,
+) -> bool {
+    let name = name_of(rt, alloc, name);
+    let known = session.name_state(&name);
+    drop(name);
+    known == state
+}
+
+/// Frees a link: whether there was one.
+fn frees<S: Session>(session: &mut S, output: u32) -> bool {
+    session.deallocate_link(OutputHandle(output))
 }
 
 #[test]
 fn a_transfer_on_an_unmapped_handle_is_refused(rt: HostRuntime) {
     let alloc = rt.alloc();
     let mut plain = plain_session(alloc, SessionState::Mapped, 9);
-    let answer = transfer_to(alloc, &mut plain, 4);
+    let answer = transfer_to(&rt, alloc, &mut plain, 4);
     assert!(rt; refuses(answer, SessionInnerError::UnattachedHandle));
     drop(plain);
 }
@@ -84,9 +94,9 @@ fn a_transfer_on_an_unmapped_handle_is_refused(rt: HostRuntime) {
 fn a_name_is_allocated_once(rt: HostRuntime) {
     let alloc = rt.alloc();
     let mut plain = plain_session(alloc, SessionState::Mapped, 9);
-    assert!(rt; gives(allocate(alloc, &mut plain, "a"), OutputHandle(0)));
-    assert!(rt; is_known(alloc, &plain, "a", NameState::Waiting));
-    let again = allocate(alloc, &mut plain, "a");
+    assert!(rt; gives(allocate(&rt, alloc, &mut plain, "a"), OutputHandle(0)));
+    assert!(rt; is_known(&rt, alloc, &plain, "a", NameState::Waiting));
+    let again = allocate(&rt, alloc, &mut plain, "a");
     assert!(rt; refuses(again, AllocLinkError::DuplicatedLinkName));
     drop(plain);
 }
@@ -95,10 +105,10 @@ fn a_name_is_allocated_once(rt: HostRuntime) {
 fn a_freed_handle_comes_next(rt: HostRuntime) {
     let alloc = rt.alloc();
     let mut plain = plain_session(alloc, SessionState::Mapped, 9);
-    assert!(rt; gives(allocate(alloc, &mut plain, "a"), OutputHandle(0)));
-    assert!(rt; plain.deallocate_link(OutputHandle(0)));
-    assert!(rt; !plain.deallocate_link(OutputHandle(0)));
-    assert!(rt; gives(allocate(alloc, &mut plain, "b"), OutputHandle(0)));
+    assert!(rt; gives(allocate(&rt, alloc, &mut plain, "a"), OutputHandle(0)));
+    assert!(rt; frees(&mut plain, 0));
+    assert!(rt; !frees(&mut plain, 0));
+    assert!(rt; gives(allocate(&rt, alloc, &mut plain, "b"), OutputHandle(0)));
     drop(plain);
 }
 
@@ -106,38 +116,45 @@ fn a_freed_handle_comes_next(rt: HostRuntime) {
 fn the_last_freed_handle_comes_first(rt: HostRuntime) {
     let alloc = rt.alloc();
     let mut plain = plain_session(alloc, SessionState::Mapped, 9);
-    assert!(rt; is_done(allocate(alloc, &mut plain, "a")));
-    assert!(rt; is_done(allocate(alloc, &mut plain, "b")));
-    assert!(rt; is_done(allocate(alloc, &mut plain, "c")));
-    assert!(rt; plain.deallocate_link(OutputHandle(0)));
-    assert!(rt; plain.deallocate_link(OutputHandle(2)));
-    assert!(rt; plain.deallocate_link(OutputHandle(1)));
-    assert!(rt; gives(allocate(alloc, &mut plain, "d"), OutputHandle(1)));
-    assert!(rt; gives(allocate(alloc, &mut plain, "e"), OutputHandle(2)));
-    assert!(rt; gives(allocate(alloc, &mut plain, "f"), OutputHandle(0)));
+    assert!(rt; is_done(allocate(&rt, alloc, &mut plain, "a")));
+    assert!(rt; is_done(allocate(&rt, alloc, &mut plain, "b")));
+    assert!(rt; is_done(allocate(&rt, alloc, &mut plain, "c")));
+    assert!(rt; frees(&mut plain, 0));
+    assert!(rt; frees(&mut plain, 2));
+    assert!(rt; frees(&mut plain, 1));
+    assert!(rt; gives(allocate(&rt, alloc, &mut plain, "d"), OutputHandle(1)));
+    assert!(rt; gives(allocate(&rt, alloc, &mut plain, "e"), OutputHandle(2)));
+    assert!(rt; gives(allocate(&rt, alloc, &mut plain, "f"), OutputHandle(0)));
     drop(plain);
 }
 
-/// Allocates the link "a" of this side's receiver, which the peer attached on handle 5.
-fn allocate_incoming(
+/// Allocates the link "a" of this side, which the peer attached on handle 5.
+fn allocate_as<S: Session>(
+    rt: &impl Abort,
     alloc: Global,
-    plain: &mut PlainSession,
+    session: &mut S,
+    role: Role,
 ) -> Result<OutputHandle, AllocLinkError> {
-    match Text::from_str(alloc, "a") {
-        Ok(name) => {
-            plain.allocate_incoming_link(name, relay(alloc, Role::Receiver), InputHandle(5))
-        }
-        Err(_) => Err(AllocLinkError::NoMemory),
-    }
+    let relay = relay(alloc, role);
+    session.allocate_incoming_link(name_of(rt, alloc, "a"), relay, InputHandle(5))
+}
+
+/// The same of this side's receiver.
+fn allocate_incoming<S: Session>(
+    rt: &impl Abort,
+    alloc: Global,
+    session: &mut S,
+) -> Result<OutputHandle, AllocLinkError> {
+    allocate_as(rt, alloc, session, Role::Receiver)
 }
 
 #[test]
 fn an_incoming_link_is_taken_at_once(rt: HostRuntime) {
     let alloc = rt.alloc();
     let mut plain = plain_session(alloc, SessionState::Mapped, 9);
-    assert!(rt; gives(allocate_incoming(alloc, &mut plain), OutputHandle(0)));
-    assert!(rt; is_known(alloc, &plain, "a", NameState::Taken));
-    let again = allocate_incoming(alloc, &mut plain);
+    assert!(rt; gives(allocate_incoming(&rt, alloc, &mut plain), OutputHandle(0)));
+    assert!(rt; is_known(&rt, alloc, &plain, "a", NameState::Taken));
+    let again = allocate_incoming(&rt, alloc, &mut plain);
     assert!(rt; refuses(again, AllocLinkError::DuplicatedLinkName));
     drop(plain);
 }
@@ -146,17 +163,28 @@ fn an_incoming_link_is_taken_at_once(rt: HostRuntime) {
 fn the_relay_keeps_a_flow(rt: HostRuntime) {
     let alloc = rt.alloc();
     let mut plain = plain_session(alloc, SessionState::Mapped, 9);
-    let output = allocate_incoming(alloc, &mut plain).expect(&rt, "an Ok");
+    let output = allocate_incoming(&rt, alloc, &mut plain).expect(&rt, "an Ok");
     let mut came = flow(Some(Handle(5)));
     came.link_credit = Some(10);
-    plain.on_incoming_flow(came).expect(&rt, "an Ok");
+    assert!(rt; hears_flow(&mut plain, came));
     let mut wanted = LinkFlows::new(alloc);
-    wanted.push(link_flow(5)).expect(&rt, "an Ok");
-    let kept = match plain.relay(output) {
+    assert!(rt; is_done(wanted.push(link_flow(5))));
+    assert!(rt; keeps_flows(&plain, output, &wanted));
+    drop(wanted);
+    drop(plain);
+}
+
+/// Whether a flow that comes is an Ok.
+fn hears_flow<S: LayerBelow>(below: &mut S, flow: Flow) -> bool {
+    is_done(below.on_incoming_flow(flow))
+}
+
+/// Whether these flows are kept for the link.
+fn keeps_flows(plain: &PlainSession, output: OutputHandle, wanted: &LinkFlows) -> bool {
+    match plain.relay(output) {
         None => false,
-        Some(relay) => relay.flows == wanted,
-    };
-    assert!(rt; kept);
+        Some(relay) => relay.flows == *wanted,
+    }
 }
 
 /// A transfer of one octet, which is no work of a transaction.
@@ -181,22 +209,31 @@ fn told_window(alloc: Global, next_incoming_id: u32) -> Answers {
 fn each_transfer_of_a_run_tells_a_window_of_two(rt: HostRuntime) {
     let alloc = rt.alloc();
     let mut plain = plain_session(alloc, SessionState::BeginSent, 9);
-    plain
-        .on_incoming_begin(IncomingChannel(3), begin(9))
-        .expect(&rt, "an Ok");
-    allocate_incoming(alloc, &mut plain).expect(&rt, "an Ok");
-    let first = take_frame(&mut plain, plain_transfer(&rt, alloc, 5));
-    assert!(rt; gives(first, told_window(alloc, 1)));
-    let second = take_frame(&mut plain, plain_transfer(&rt, alloc, 5));
-    assert!(rt; gives(second, told_window(alloc, 2)));
+    assert!(rt; hears_begin(&mut plain, 9));
+    assert!(rt; is_done(allocate_incoming(&rt, alloc, &mut plain)));
+    let first = plain_transfer(&rt, alloc, 5);
+    assert!(rt; takes_so(&mut plain, first, told_window(alloc, 1)));
+    let second = plain_transfer(&rt, alloc, 5);
+    assert!(rt; takes_so(&mut plain, second, told_window(alloc, 2)));
+    drop(plain);
+}
+
+/// Whether the peer's begin is an Ok.
+fn hears_begin<S: Session>(session: &mut S, handle_max: u32) -> bool {
+    is_done(session.on_incoming_begin(IncomingChannel(3), begin(handle_max)))
+}
+
+/// Whether a frame is taken, and answered so.
+fn takes_so<S: LayerBelow>(below: &mut S, frame: Frame, wanted: Answers) -> bool {
+    gives(take_frame(below, frame), wanted)
 }
 
 #[test]
 fn no_handle_above_the_greatest(rt: HostRuntime) {
     let alloc = rt.alloc();
     let mut plain = plain_session(alloc, SessionState::Mapped, 0);
-    assert!(rt; gives(allocate(alloc, &mut plain, "a"), OutputHandle(0)));
-    let next = allocate(alloc, &mut plain, "b");
+    assert!(rt; gives(allocate(&rt, alloc, &mut plain, "a"), OutputHandle(0)));
+    let next = allocate(&rt, alloc, &mut plain, "b");
     assert!(rt; refuses(next, AllocLinkError::HandleMaxReached));
     drop(plain);
 }
@@ -205,75 +242,110 @@ fn no_handle_above_the_greatest(rt: HostRuntime) {
 fn a_link_lives_from_attach_to_detach(rt: HostRuntime) {
     let alloc = rt.alloc();
     let mut plain = plain_session(alloc, SessionState::Mapped, 9);
-    assert!(rt; is_done(allocate(alloc, &mut plain, "a")));
-    assert!(rt; is_done(attach_to(alloc, &mut plain, "a")));
-    assert!(rt; is_known(alloc, &plain, "a", NameState::Taken));
-    assert!(rt; is_done(transfer_to(alloc, &mut plain, 5)));
-    assert!(rt; is_done(plain.on_incoming_detach(detach(5))));
-    assert!(rt; is_known(alloc, &plain, "a", NameState::Unknown));
+    assert!(rt; is_done(allocate(&rt, alloc, &mut plain, "a")));
+    assert!(rt; is_done(attach_to(&rt, alloc, &mut plain, "a")));
+    assert!(rt; is_known(&rt, alloc, &plain, "a", NameState::Taken));
+    assert!(rt; is_done(transfer_to(&rt, alloc, &mut plain, 5)));
+    assert!(rt; hears_detach(&mut plain));
+    assert!(rt; is_known(&rt, alloc, &plain, "a", NameState::Unknown));
     drop(plain);
+}
+
+/// Whether a detach of handle 5 is an Ok.
+fn hears_detach<S: LayerBelow>(below: &mut S) -> bool {
+    is_done(below.on_incoming_detach(detach(5)))
 }
 
 #[test]
 fn the_window_is_told_once(rt: HostRuntime) {
     let alloc = rt.alloc();
     let mut plain = plain_session(alloc, SessionState::Mapped, 9);
-    assert!(rt; is_done(allocate(alloc, &mut plain, "a")));
-    assert!(rt; is_done(attach_to(alloc, &mut plain, "a")));
-    assert!(rt; is_done(transfer_to(alloc, &mut plain, 5)));
-    assert!(rt; is_some(plain.maybe_outgoing_session_flow()));
-    assert!(rt; !is_some(plain.maybe_outgoing_session_flow()));
+    assert!(rt; is_done(allocate(&rt, alloc, &mut plain, "a")));
+    assert!(rt; is_done(attach_to(&rt, alloc, &mut plain, "a")));
+    assert!(rt; is_done(transfer_to(&rt, alloc, &mut plain, 5)));
+    assert!(rt; tells_window(&mut plain));
+    assert!(rt; !tells_window(&mut plain));
     drop(plain);
+}
+
+/// Whether there is a window to tell.
+fn tells_window<S: LayerBelow>(below: &mut S) -> bool {
+    is_some(below.maybe_outgoing_session_flow())
 }
 
 /// Whether there is one.
 fn is_some<T: Drop>(answer: Option<T>) -> bool {
-    answer.is_some()
+    let some = answer.is_some();
+    drop(answer);
+    some
+}
+
+/// A session begins, and ends on this side first.
+fn begins_and_ends<S: Session>(rt: &impl Abort, session: &mut S) {
+    assert!(rt; hears_begin(session, 4));
+    assert!(rt; is_done(session.send_begin()));
+    assert!(rt; session.local_state() == SessionState::Mapped);
+    assert!(rt; gives(session.send_end(None), End { error: None }));
+    assert!(rt; session.local_state() == SessionState::EndSent);
+    let end = End { error: None };
+    assert!(rt; is_done(session.on_incoming_end(IncomingChannel(3), &end)));
+    drop(end);
+    assert!(rt; session.local_state() == SessionState::Unmapped);
 }
 
 #[test]
 fn a_session_begins_and_ends(rt: HostRuntime) {
-    let alloc = rt.alloc();
-    let mut plain = plain_session(alloc, SessionState::Unmapped, 9);
-    assert!(rt; is_done(plain.on_incoming_begin(IncomingChannel(3), begin(4))));
-    assert!(rt; is_done(plain.send_begin()));
-    assert!(rt; plain.local_state() == SessionState::Mapped);
-    assert!(rt; gives(plain.send_end(None), End { error: None }));
-    assert!(rt; plain.local_state() == SessionState::EndSent);
-    let end = End { error: None };
-    assert!(rt; is_done(plain.on_incoming_end(IncomingChannel(3), &end)));
-    drop(end);
-    assert!(rt; plain.local_state() == SessionState::Unmapped);
+    let mut plain = plain_session(rt.alloc(), SessionState::Unmapped, 9);
+    begins_and_ends(&rt, &mut plain);
     drop(plain);
+}
+
+/// What goes out is answered by whether a first transfer has a tag.
+fn checks_what_goes_out<S: Session>(rt: &impl Abort, session: &mut S) {
+    let mut sent = transfer(0);
+    let untagged = session.on_outgoing_transfer(InputHandle(2), &mut sent, true);
+    assert!(rt; refuses(untagged, SessionInnerError::IllegalState));
+    assert!(rt; is_done(session.on_outgoing_transfer(InputHandle(2), &mut sent, false)));
+    drop(sent);
+    assert!(rt; is_done(session.on_outgoing_flow(link_flow(0))));
+    let answer = disposition(0);
+    assert!(rt; is_done(session.on_outgoing_disposition(&answer)));
+    drop(answer);
+    let last = detach(0);
+    assert!(rt; is_done(session.on_outgoing_detach(&last)));
+    drop(last);
 }
 
 #[test]
 fn what_goes_out_is_checked(rt: HostRuntime) {
-    let alloc = rt.alloc();
-    let mut plain = plain_session(alloc, SessionState::Mapped, 9);
-    let mut sent = transfer(0);
-    let untagged = plain.on_outgoing_transfer(InputHandle(2), &mut sent, true);
-    assert!(rt; refuses(untagged, SessionInnerError::IllegalState));
-    assert!(rt; is_done(plain.on_outgoing_transfer(InputHandle(2), &mut sent, false)));
-    assert!(rt; is_done(plain.on_outgoing_flow(link_flow(0))));
-    let answer = disposition(0);
-    assert!(rt; is_done(plain.on_outgoing_disposition(&answer)));
-    drop(answer);
-    let last = detach(0);
-    assert!(rt; is_done(plain.on_outgoing_detach(&last)));
-    drop(last);
-    drop(sent);
+    let mut plain = plain_session(rt.alloc(), SessionState::Mapped, 9);
+    checks_what_goes_out(&rt, &mut plain);
     drop(plain);
+}
+
+/// Each call for a transaction is refused.
+pub fn does_no_transactions<S: HandleDeclare + HandleDischarge>(rt: &impl Abort, session: &mut S) {
+    let id = TransactionId::from([7; 16]);
+    let allocated = session.allocate_transaction_id(&mut CountIds::new());
+    assert!(rt; refuses(allocated, AllocTxnIdError::NotImplemented));
+    let unknown = TransactionError::UnknownId;
+    assert!(rt; gives(session.commit_transaction(&id), Err(unknown)));
+    assert!(rt; refuses(session.rollback_transaction(&id), unknown));
+}
+
+/// Two stop reasons are given, and one of the connection.
+fn stops<S: Session>(session: &mut S) {
+    session.set_session_stop_reason(SessionStopReason::Ended);
+    session.set_session_stop_reason(SessionStopReason::RemoteEnded);
+    session.set_connection_stop_reason(ConnectionStopReason::Closed);
 }
 
 #[test]
 fn the_first_stop_reason_is_kept(rt: HostRuntime) {
     let alloc = rt.alloc();
     let mut plain = plain_session(alloc, SessionState::Mapped, 9);
-    plain.set_session_stop_reason(SessionStopReason::Ended);
-    plain.set_session_stop_reason(SessionStopReason::RemoteEnded);
-    plain.set_connection_stop_reason(ConnectionStopReason::Closed);
-    let stopped = allocate(alloc, &mut plain, "a");
+    stops(&mut plain);
+    let stopped = allocate(&rt, alloc, &mut plain, "a");
     let wanted = AllocLinkError::SessionStopped(SessionStopReason::Ended);
     assert!(rt; refuses(stopped, wanted));
     drop(plain);
@@ -283,16 +355,7 @@ fn the_first_stop_reason_is_kept(rt: HostRuntime) {
 fn a_plain_session_does_no_transactions(rt: HostRuntime) {
     let alloc = rt.alloc();
     let mut plain = plain_session(alloc, SessionState::Mapped, 9);
-    let id = TransactionId::from([7; 16]);
-    let allocated = plain.allocate_transaction_id(&mut CountIds::new());
-    assert!(rt; refuses(allocated, AllocTxnIdError::NotImplemented));
-    assert!(rt;
-        gives(
-            plain.commit_transaction(&id),
-            Err(TransactionError::UnknownId)
-        )
-    );
-    assert!(rt; refuses(plain.rollback_transaction(&id), TransactionError::UnknownId));
+    does_no_transactions(&rt, &mut plain);
     drop(plain);
 }
 
@@ -300,7 +363,7 @@ fn a_plain_session_does_no_transactions(rt: HostRuntime) {
 fn a_plain_session_takes_what_it_accepted(rt: HostRuntime) {
     let alloc = rt.alloc();
     let mut plain = plain_session(alloc, SessionState::Mapped, 9);
-    assert!(rt; is_done(allocate_incoming(alloc, &mut plain)));
+    assert!(rt; is_done(allocate_incoming(&rt, alloc, &mut plain)));
     assert!(rt; judges(alloc, &mut plain, 5, Verdict::Accept));
     assert!(rt; takes_work(alloc, &mut plain, 5));
     drop(plain);
@@ -318,21 +381,26 @@ fn a_transfer_on_an_unmapped_handle_is_vetoed(rt: HostRuntime) {
 fn a_transfer_to_a_sender_is_vetoed(rt: HostRuntime) {
     let alloc = rt.alloc();
     let mut plain = plain_session(alloc, SessionState::Mapped, 9);
-    let name = Text::from_str(alloc, "a").expect(&rt, "an Ok");
-    plain
-        .allocate_incoming_link(name, relay(alloc, Role::Sender), InputHandle(5))
-        .expect(&rt, "an Ok");
+    assert!(rt; is_done(allocate_as(&rt, alloc, &mut plain, Role::Sender)));
     assert!(rt; judges(alloc, &mut plain, 5, Verdict::Veto));
+    drop(plain);
+}
+
+/// Whether a review of no frames answers this.
+fn reviews_none<S: LayerBelow>(alloc: Global, below: &mut S, wanted: Verdict) -> bool {
+    let none = Frames::new(alloc);
+    let answer = below.review(&none);
+    drop(none);
+    gives(answer, wanted)
 }
 
 #[test]
 fn only_a_mapped_session_accepts(rt: HostRuntime) {
     let alloc = rt.alloc();
-    let none = Frames::new(alloc);
     let mut plain = plain_session(alloc, SessionState::Mapped, 9);
-    assert!(rt; gives(plain.review(&none), Verdict::Accept));
-    let mut ended = plain_session(alloc, SessionState::EndSent, 9);
-    assert!(rt; gives(ended.review(&none), Verdict::Veto));
+    assert!(rt; reviews_none(alloc, &mut plain, Verdict::Accept));
     drop(plain);
+    let mut ended = plain_session(alloc, SessionState::EndSent, 9);
+    assert!(rt; reviews_none(alloc, &mut ended, Verdict::Veto));
     drop(ended);
 }
