@@ -1,0 +1,9 @@
+pub mod Walking
+pub mod Ended
+pub mod Going
+pub mod Judged
+pub mod Declared
+pub mod Framed
+pub mod Committed
+pub mod Auditing
+pub mod Lines
