@@ -40,7 +40,7 @@ use Rattle.amqp_resource_held.specs.Held.{Stands}
 use Rattle.amqp_resource_held.specs.Views.{view_of_record}
 use Rattle.amqp_resource_session.specs.declared.session.TxnSession.{TxnSession}
 use Rattle.amqp_resource_session.specs.Session.{StopAfter, below_of, held_of, stop_of, told_of}
-use Rattle.amqp_resource_session.specs.StepClauses.{StepRecords, StepSays}
+use Rattle.amqp_resource_session.specs.StepClauses.{StepSays}
 use Rattle.amqp_resource_session.specs.Steps.{AnswersEnd, IfAttachRefused, IfVeto, IsControlAttach, MayFault, StopsSurely, TookFirst, UnderDead, ended_by, entry_of, is_unknown}
 use Rattle.amqp_resource_shared.specs.declared.receipt.Receipt.{Receipt}
 use Rattle.amqp_resource_shared.specs.declared.receipt.StoppedAt.{StoppedAt}

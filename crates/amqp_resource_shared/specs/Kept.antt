@@ -1,5 +1,5 @@
 -- What holds of the value under the lock.
-use Rattle.std.specs.Prelude.{ℕ, ◌≡◌, ◌+◌, ◌-◌, ◌^◌, ◌≤◌, min, Bool, true, false, cond, Option, Some, None, List, [], ◌++◌, length, take, IfSome}
+use Rattle.std.specs.Prelude.{ℕ, ◌≡◌, ◌+◌, ◌-◌, ◌^◌, ◌≤◌, min, Bool, true, false, cond, Option, Some, None, List, ◌++◌, length, take, IfSome}
 use Rattle.std.specs.List.{zip}
 use Rattle.amqp_txn_types.specs.declared.id.TransactionId.{TransactionId}
 use Rattle.amqp_txn_types.specs.declared.performatives.Frame.{Frame}

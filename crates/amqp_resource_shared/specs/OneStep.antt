@@ -15,7 +15,6 @@ use Rattle.amqp_resource_record.specs.Hands.{hands}
 use Rattle.amqp_resource_record.specs.Stops.{ended_code, fault_code}
 use Rattle.amqp_resource_held.specs.Views.{view_of_record}
 use Rattle.amqp_resource_session.specs.Steps.{IsControlAttach, MayFault, OpenedBy, RefusedBy, StopsSurely, TookHands, UnderDead, VetoedBy, ended_by, is_unknown}
-use Rattle.amqp_resource_shared.specs.SharedView.{SharedView}
 use Rattle.amqp_resource_shared.specs.declared.receipt.Receipt.{Receipt}
 use Rattle.amqp_resource_shared.specs.declared.receipt.StoppedAt.{StoppedAt}
 use Rattle.amqp_resource_shared.specs.declared.reply_code.ReplyCode.{ReplyCode}
@@ -35,8 +34,8 @@ pub record IsAppended (old new : List Entry) (asked : Step) (receipt : Receipt) 
 abbrev pub Appended : List Entry → List Entry → Step → Receipt → Type 0
 Appended old new step receipt = (entry : Entry) × IsAppended old new step receipt entry
 
--- what the layer below did at the step of that entry is what its reply says: it took the frames that
--- the step hands, each with what was given back, and opened, refused and vetoed so (4.4)
+-- what the layer below did at the step of that entry is what its reply says: it took the frames
+-- that the step hands, each with what was given back, and opened, refused and vetoed so (4.4)
 pub record DidBelow (old new : List Entry) (old_told new_told : Told) (entry : Entry) : Type 0 where
   pub entries : new ≡ old ++ entry ∷ []
   pub taken : TookHands old_told new_told old entry.step entry.reply

@@ -21,8 +21,8 @@ pub fn receipts_are_the_entries()
 
 /// Each entry has a receipt among such receipts: the one with its number is of it.
 pub fn each_entry_has_its_receipt()
-    ensures { (receipts : List Receipt) (entries : List Entry) → IsDistinct eqb (numbers_of receipts)
-        → EachOfEntry entries receipts → length receipts ≡ length entries
-        → (number : ℕ) (entry : Entry) → slice_get entries number ≡ Some entry
-        → HasReceipt receipts number entry }
+    ensures { (receipts : List Receipt) (entries : List Entry)
+        → IsDistinct eqb (numbers_of receipts) → EachOfEntry entries receipts
+        → length receipts ≡ length entries → (number : ℕ) (entry : Entry)
+        → slice_get entries number ≡ Some entry → HasReceipt receipts number entry }
 {}

@@ -91,9 +91,10 @@ impl<S: LayerBelow, G: IdSource, L: Ledger> SharedTxnSession<S, G, L> {
         shares: Vec<Share<L>>,
         receipts: Vec<Receipt>,
     ) -> Result<Closed<S, G>, (Closed<S, G>, CloseWhy)>
-        ensures kept { Kept (held_of (closed_of result).session) (stop_of (closed_of result).session)
-            (told_of S.told (closed_of result).session) (G.start (closed_of result).ids)
-            (G.next (closed_of result).ids) (closed_of result).entries (closed_of result).stopped }
+        ensures kept { Kept (held_of (closed_of result).session)
+            (stop_of (closed_of result).session) (told_of S.told (closed_of result).session)
+            (G.start (closed_of result).ids) (G.next (closed_of result).ids)
+            (closed_of result).entries (closed_of result).stopped }
         ensures why { ClosedBy (sum_by (λ s. s.count) shares.items) (closed_of result).entries
             receipts.items (why_of result) }
         ensures whole { sum_by (λ s. s.parts) shares.items ≡ L.parts
@@ -107,7 +108,8 @@ impl<S: LayerBelow, G: IdSource, L: Ledger> SharedTxnSession<S, G, L> {
 impl<'a, S: LayerBelow, G: IdSource, L: Ledger> Locked<'a, S, G, L> {
     /// The entry with this number; `None` from the number of entries on.
     pub fn entry(&self, number: usize) -> Option<&Entry>
-        ensures { option_copied result ≡ slice_get (mutex_guard_value self.now.guard).entries number }
+        ensures { option_copied result
+            ≡ slice_get (mutex_guard_value self.now.guard).entries number }
     {
         self.guard.entry(number)
     }

@@ -110,7 +110,8 @@ impl<S: LayerBelow, G: IdSource, L: Ledger> SharedState<S, G, L> {
         ensures below { OnOk result (DidSo self.old.entries self.new.entries self.old.told
             self.new.told) }
         ensures causes { self.old.stop ≡ None
-            → Causes S.sure self.old.entries self.old.told self.new.told self.new.stop step.now result }
+            → Causes S.sure self.old.entries self.old.told self.new.told self.new.stop step.now
+            result }
         ensures counts { Counts share.old.count share.new.count result }
         ensures parts { share.new.parts ≡ share.old.parts }
     {
@@ -143,9 +144,10 @@ impl<S: LayerBelow, G: IdSource, L: Ledger> SharedState<S, G, L> {
         shares: Vec<Share<L>>,
         receipts: Vec<Receipt>,
     ) -> Result<Closed<S, G>, (Closed<S, G>, CloseWhy)>
-        ensures kept { Kept (held_of (closed_of result).session) (stop_of (closed_of result).session)
-            (told_of S.told (closed_of result).session) (G.start (closed_of result).ids)
-            (G.next (closed_of result).ids) (closed_of result).entries (closed_of result).stopped }
+        ensures kept { Kept (held_of (closed_of result).session)
+            (stop_of (closed_of result).session) (told_of S.told (closed_of result).session)
+            (G.start (closed_of result).ids) (G.next (closed_of result).ids)
+            (closed_of result).entries (closed_of result).stopped }
         ensures entries { (closed_of result).entries ≡ self.entries }
         ensures stopped { (closed_of result).stopped ≡ self.stopped }
         ensures why { ClosedBy (sum_by (λ s. s.count) shares.items) self.entries receipts.items

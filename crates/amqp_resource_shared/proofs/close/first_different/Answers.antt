@@ -1,5 +1,5 @@
-use Rattle.std.proofs.Common.{rules, ◌≡◌, ◌<◌, ℕ, arith, length}
-use Rattle.amqp_resource_shared.proofs.Closing.{each-next, not-at, read-at}
+use Rattle.std.proofs.Common.{rules, ◌<◌, length}
+use Rattle.amqp_resource_shared.proofs.Closing.{each-next, read-at}
 use Rattle.amqp_resource_shared.proofs.close.first_different.Goals as goal
 
 pub loop-place-preserved : goal.loop-place-preserved

@@ -1,5 +1,4 @@
-use Rattle.std.proofs.Common.{rules, ◌≡◌, ◌+◌, ◌≤◌, [], length, ℕ, arith, refl, sym, ◌∙◌, ap, Ok, Err}
-use Rattle.amqp_resource_session.specs.Session.{held_of, below_of, stop_of}
+use Rattle.std.proofs.Common.{rules, arith, refl}
 use Rattle.amqp_resource_session.specs.Steps.{entry_of}
 use Rattle.amqp_resource_shared.proofs.Few.{few-at_all, few-attached, few-drawn}
 use Rattle.amqp_resource_shared.proofs.Keeping.{causes-err, causes-ok, did-ok, kept-err, kept-ok, standing-runs}

@@ -1,7 +1,4 @@
-use Rattle.std.proofs.Common.{◌≡◌, List, None, Option, [], length, sym, ◌∙◌, ap, subst}
-use Rattle.amqp_resource_record.specs.declared.entry.Entry.{Entry}
-use Rattle.amqp_resource_session.specs.Session.{held_of, stop_of}
-use Rattle.amqp_resource_shared.specs.Kept.{Kept}
+use Rattle.std.proofs.Common.{length, sym, ◌∙◌, ap}
 use Rattle.amqp_resource_shared.proofs.Keeping.{kept-new}
 use Rattle.amqp_resource_shared.proofs.shared_state.SharedState.new.Goals as goal
 
