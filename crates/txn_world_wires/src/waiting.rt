@@ -1,6 +1,6 @@
 //! The items that wait on the forward wire.
 
-ghost use Rattle.std.specs.Prelude.{◌≡◌, ◌∷◌, ◌++◌, [], List, MatchOption, IfOk, OnOk, OnErr, option_to_list};
+ghost use Rattle.std.specs.Prelude.{◌≡◌, ◌∷◌, ◌++◌, [], List, MatchOption, IfOk, OnOk, OnErr, drop, option_to_list};
 ghost use Rattle.txn_parties.specs.declared.item.Item.{Item};
 ghost use Rattle.txn_parties.specs.declared.item.Item.TheVariants as items;
 ghost use Rattle.txn_parties.specs.Items.{step_of};
@@ -171,7 +171,8 @@ impl ForwardWire {
 
     /// The first item, which leaves the wire.
     pub fn pop(&mut self) -> Option<Waiting>
-        ensures { self.old ≡ option_to_list result ++ self.new }
+        ensures item { self.old ≡ option_to_list result ++ self.new }
+        ensures rest { self.new ≡ drop 1 self.old }
     {
         self.items.pop_front()
     }
