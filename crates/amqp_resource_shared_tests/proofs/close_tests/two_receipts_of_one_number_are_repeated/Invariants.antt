@@ -1,0 +1,7 @@
+use Rattle.amqp_resource_shared_tests.proofs.close_tests.two_receipts_of_one_number_are_repeated.Given as goal
+
+abbrev pub ghosts-told_elsewhere : goal.ghosts-told_elsewhere
+ghosts-told_elsewhere g a = record { name = a.blank.name; parts = a.blank.parts }
+
+abbrev pub ghosts-why_with : goal.ghosts-why_with
+ghosts-why_with g a = record { name = a.blank.name; parts = a.blank.parts }
