@@ -1,0 +1,3 @@
+pub mod Working
+pub mod Tallying
+pub mod Replying

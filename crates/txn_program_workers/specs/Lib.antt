@@ -1,0 +1,3 @@
+pub mod WorkerSteps
+pub mod Tallies
+pub mod Works
