@@ -1,0 +1,4 @@
+pub mod AuditInput
+pub mod Parting
+pub mod Auditing
+pub mod Process
