@@ -257,7 +257,7 @@ pub out_line-read : (frame : Frame) → CanBeShown frame → is_out_line (out_te
 unfolding out_line out_words
 out_line-read frame s =
     let words : words_of (out_text frame) ≡ codes "out" ∷ kind_of frame ∷ words_after frame =
-        ap (λ text. words_of (codes "out " ++ text)) (text_of_words frame)
-        ∙ words-spaced (codes "out") (kind_of frame ∷ words_after frame) refl
-        (ap (λ t. t && list_all (is_free 32) (words_after frame)) (free_kind false frame) ∙ free_after false frame s) in
+    ap (λ text. words_of (codes "out " ++ text)) (text_of_words frame)
+    ∙ words-spaced (codes "out") (kind_of frame ∷ words_after frame) refl
+    (ap (λ t. t && list_all (is_free 32) (words_after frame)) (free_kind false frame) ∙ free_after false frame s) in
     ap (λ ws. is_some (word_at ws >>= (λ first. out_words first.0 first.1))) words ∙ ap is_some (frame-read frame s)
