@@ -6,7 +6,7 @@
 top=$(cd "$(dirname "$(readlink -f "$0")")/.." && pwd) || exit 1
 program=${1:-$top/txn_program}
 if [ $# -eq 0 ]; then
-  for word in run listen broker mailbox; do
+  for word in run listen broker mailbox audit; do
     "$program" --which "$word" >/dev/null || exit 1
   done
 fi
@@ -40,7 +40,7 @@ run_unproved() {
     example=${words%.words}
     name=${example##*/}
     line=$(head -n 1 "$words")
-    case $line in listen | broker | mailbox) ;; *) line=run ;; esac
+    case $line in listen | broker | mailbox | audit) ;; *) line=run ;; esac
     [ $line = "$which" ] || continue
     cp "$example.steps" "$folder/$name"
     cp "$words" "$folder/$name.args"
@@ -63,6 +63,7 @@ if [ "$program" = --unproved ]; then
   run_unproved txn_main_listen listen
   run_unproved txn_main_broker broker
   run_unproved txn_main_mailbox mailbox
+  run_unproved txn_main_audit audit
   echo "$count runs, $failed of them wrong"
   [ "$failed" -eq 0 ]
   exit
@@ -99,7 +100,7 @@ planned --starve 3 7 8 "$want 1\n${first}taken transfer 1 1 true - 50\n"
 
 # The stored run of each main is one of them.
 for stored in txn_main:interleaved txn_main_listen:listen-late-post \
-  txn_main_broker:broker-commit txn_main_mailbox:mailbox-commit; do
+  txn_main_broker:broker-commit txn_main_mailbox:mailbox-commit txn_main_audit:audit; do
   for pair in stdin:steps args:words stdout:report status:status; do
     example=$top/examples/${stored#*:}.${pair#*:}
     [ ! -e "$example" ] || cmp "$top/crates/${stored%:*}/${pair%:*}" "$example" || failed=$((failed + 1))
