@@ -1,0 +1,5 @@
+//! Tests of the audit, over a source and a sink in memory.
+#![tactic(auto)]
+
+#[cfg(test)]
+mod tests;
