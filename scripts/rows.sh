@@ -6,7 +6,7 @@
 top=$(cd "$(dirname "$(readlink -f "$0")")/.." && pwd) || exit 1
 program=${1:-$top/txn_program}
 if [ $# -eq 0 ]; then
-  for word in run listen; do
+  for word in run listen agree; do
     "$program" --which "$word" >/dev/null || exit 1
   done
 fi
@@ -39,7 +39,8 @@ run_unproved() {
   for words in "$top"/examples/*.words; do
     example=${words%.words}
     name=${example##*/}
-    if [ "$(head -n 1 "$words")" = listen ]; then line=listen; else line=run; fi
+    line=$(head -n 1 "$words")
+    case $line in listen | agree) ;; *) line=run ;; esac
     [ $line = "$which" ] || continue
     cp "$example.steps" "$folder/$name"
     cp "$words" "$folder/$name.args"
@@ -60,6 +61,7 @@ run_unproved() {
 if [ "$program" = --unproved ]; then
   run_unproved txn_main run
   run_unproved txn_main_listen listen
+  run_unproved txn_main_agree agree
   echo "$count runs, $failed of them wrong"
   [ "$failed" -eq 0 ]
   exit
@@ -95,7 +97,7 @@ planned --starve 2 7 8 "$want 0\n$first"
 planned --starve 3 7 8 "$want 1\n${first}taken transfer 1 1 true - 50\n"
 
 # The stored run of each main is one of them.
-for stored in txn_main:interleaved txn_main_listen:listen-late-post; do
+for stored in txn_main:interleaved txn_main_listen:listen-late-post txn_main_agree:agree-commit; do
   for pair in stdin:steps args:words stdout:report status:status; do
     example=$top/examples/${stored#*:}.${pair#*:}
     [ ! -e "$example" ] || cmp "$top/crates/${stored%:*}/${pair%:*}" "$example" || failed=$((failed + 1))
