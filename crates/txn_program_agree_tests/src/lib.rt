@@ -1,0 +1,5 @@
+//! Tests of the command `agree`, over layers of their own.
+#![tactic(auto)]
+
+#[cfg(test)]
+mod row_tests;
