@@ -3,6 +3,7 @@ use Rattle.std.proofs.Common.{ℕ, Option, Some, None}
 use Rattle.amqp_below_layer.specs.Told.{Told}
 use Rattle.amqp_below_recorder.specs.declared.recorder.Recorder.{Recorder}
 use Rattle.amqp_below_streams.specs.Streams.{SinkTold, SourceTold}
+use Rattle.txn_program_agree.proofs.Unmade.{serves-no_memory as agree-no_memory}
 use Rattle.txn_program_runs.proofs.Memory.{served-no_memory}
 use Rattle.txn_program.specs.Commands.{Serves}
 use Rattle.txn_program.specs.declared.commands.Command.{Command}
@@ -14,3 +15,5 @@ pub serves-no_memory : {S : Type 0} (told : Recorder S → Told) (command : Opti
 serves-no_memory told None below input output = served-no_memory told None below input output
 serves-no_memory told (Some (commands.Run command)) below input output =
     served-no_memory told (Some command) below input output
+serves-no_memory told (Some (commands.Agree command)) below input output =
+    agree-no_memory told (Some command) below input output

@@ -3,6 +3,9 @@ use Rattle.std.specs.Prelude.{ℕ, Option, Some, None, List}
 use Rattle.amqp_below_layer.specs.Told.{Told}
 use Rattle.amqp_below_recorder.specs.declared.recorder.Recorder.{Recorder}
 use Rattle.amqp_below_streams.specs.Streams.{SinkTold, SourceTold}
+use Rattle.txn_program_agree.specs.AgreeWords.{agree_command_of, IsWithin as IsAgreeWithin}
+use Rattle.txn_program_agree.specs.Serving.{ServesAgree}
+use Rattle.txn_program_agree.specs.declared.agree_words.AgreeCommand.{AgreeCommand}
 use Rattle.txn_program_runs.specs.RunWords.{run_command_of, IsWithin as IsRunWithin}
 use Rattle.txn_program_runs.specs.Serving.{ServesRun}
 use Rattle.txn_program_runs.specs.declared.run_words.RunCommand.{RunCommand}
@@ -15,14 +18,26 @@ abbrev pub of_run : Option RunCommand → Option Command
 of_run None = None
 of_run (Some command) = Some (commands.Run command)
 
+-- a command of two parties
+abbrev pub of_agree : Option AgreeCommand → Option Command
+of_agree None = None
+of_agree (Some command) = Some (commands.Agree command)
+
+-- the first that is there
+abbrev pub or_else : Option Command → Option Command → Option Command
+or_else None other = other
+or_else (Some command) other = Some command
+
 -- the command that the arguments give
 abbrev pub command_of : List (List ℕ) → Option Command
-command_of arguments = of_run (run_command_of arguments)
+command_of arguments =
+    or_else (of_run (run_command_of arguments)) (of_agree (agree_command_of arguments))
 
 -- a command stays within the limits of the table
 abbrev pub IsWithin : Option Command → Type 0
 IsWithin None = Unit {0}
 IsWithin (Some (commands.Run command)) = IsRunWithin (Some command)
+IsWithin (Some (commands.Agree command)) = IsAgreeWithin (Some command)
 
 -- a call for a command, none for arguments outside the table: over a recorder, of which `told` says
 -- what it tells, with what the source tells before and after, and the sink
@@ -34,3 +49,6 @@ Serves told None below input left output written ran =
 -- `run`, `listen` and `make`
 Serves told (Some (commands.Run command)) below input left output written ran =
     ServesRun told (Some command) below input left output written ran
+-- `agree`
+Serves told (Some (commands.Agree command)) below input left output written ran =
+    ServesAgree told (Some command) below input left output written ran

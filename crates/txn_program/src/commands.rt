@@ -4,7 +4,8 @@ ghost use Rattle.std.specs.Prelude.{◌≡◌, IfOk};
 ghost use Rattle.amqp_below_recorder.specs.Recording.{IsFresh, is_unused};
 ghost use Rattle.txn_program_edges.specs.Reading.{source_of};
 ghost use Rattle.txn_program_edges.specs.Writing.{sink_of};
-ghost use Rattle.txn_program.specs.Commands.{IsWithin, Serves, command_of};
+ghost use Rattle.txn_program.specs.Commands.{IsWithin, Serves, command_of, of_agree};
+ghost use Rattle.txn_program_agree.specs.AgreeWords.{agree_command_of};
 
 use amqp_below_layer::{LayerBelow, Tells};
 use amqp_below_recorder::Recorder;
@@ -13,6 +14,7 @@ use amqp_txn_types::{NoMemory, Text};
 use std::alloc::Global;
 use std::sync::Wait;
 use std::thread::Threads;
+use txn_program_agree::{AgreeCommand, agree_command_of, serve_agree};
 use txn_program_runs::{Ran, RunCommand, end_without_memory, run_command_of, serve_run};
 
 /// What the arguments ask for.
@@ -20,6 +22,8 @@ use txn_program_runs::{Ran, RunCommand, end_without_memory, run_command_of, serv
 pub enum Command {
     /// `run`, `listen` or `make`: a run of steps.
     Run(RunCommand),
+    /// `agree`: a run of two parties.
+    Agree(AgreeCommand),
 }
 
 /// The command that the arguments give, `None` where they are outside the table of words. The only
@@ -30,6 +34,17 @@ pub fn command_of(alloc: Global, arguments: &[Text]) -> Result<Option<Command>, 
 {
     match run_command_of(alloc, arguments)? {
         Some(command) => Ok(Some(Command::Run(command))),
+        None => other_command_of(alloc, arguments),
+    }
+}
+
+/// The command that the arguments give which ask for no run of steps.
+fn other_command_of(alloc: Global, arguments: &[Text]) -> Result<Option<Command>, NoMemory>
+    ensures command { IfOk result (λ command. command ≡ of_agree (agree_command_of arguments.now)) }
+    ensures within { IfOk result IsWithin }
+{
+    match agree_command_of(alloc, arguments)? {
+        Some(command) => Ok(Some(Command::Agree(command))),
         None => Ok(None),
     }
 }
@@ -107,6 +122,7 @@ pub fn run_command<S: LayerBelow + Send, I: ByteSource, O: ByteSink>(
 {
     match command {
         Some(Command::Run(command)) => serve_run(alloc, Some(command), below, input, output),
+        Some(Command::Agree(command)) => serve_agree(alloc, Some(command), below, input, output),
         None => serve_run(alloc, None, below, input, output),
     }
 }

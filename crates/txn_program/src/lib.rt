@@ -1,9 +1,9 @@
 //! The program over a transactional session, as a library: arguments and lines in, a text out.
 //!
 //! [`run`] is the top call: it reads the arguments and does what they ask for, as the crate of each
-//! command has it; `run`, `listen` and `make` are runs of steps. [`command_of`] reads the arguments
-//! alone, and [`run_command`] is the rest of it. [`spells`] reads the lines of a run, and
-//! [`report`] writes what it made:
+//! command has it; `run`, `listen` and `make` are runs of steps, and `agree` is a run of two parties.
+//! [`command_of`] reads the arguments alone, and [`run_command`] is the rest of it. [`spells`] reads
+//! the lines of a run, and [`report`] writes what it made:
 //!
 //! ```
 //! let below = Recorder::new(alloc, OpenSession::new(alloc));
@@ -21,6 +21,7 @@
 mod commands;
 
 pub use commands::{Command, command_of, run, run_command, run_commands};
+pub use txn_program_agree::AgreeCommand;
 pub use txn_program_edges::{Ids, Reading, StdSink, StdSource, TransactionIds, status};
 pub use txn_program_lines::{SpellError, spells};
 pub use txn_program_report::report;
