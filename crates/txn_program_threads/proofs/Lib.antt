@@ -1,0 +1,5 @@
+pub mod Each
+pub mod Joining
+pub mod Statuses
+pub mod Histories
+pub mod RunEnds

@@ -1,0 +1,4 @@
+use Rattle.txn_program_threads.proofs.serving.serve_threads.Given as goal
+
+abbrev pub ghosts-serve_in : goal.ghosts-serve_in
+ghosts-serve_in g a = record { name = a.blank.name; parts = a.blank.parts }

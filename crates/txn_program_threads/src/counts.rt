@@ -1,0 +1,130 @@
+//! What is counted of a history, and the status that it ends with.
+
+ghost use Rattle.std.specs.Prelude.{◌≡◌, ◌≤◌, length, option_copied};
+ghost use Rattle.std.specs.List.{count_by};
+ghost use Rattle.amqp_txn_codec.specs.Reading.{message_of};
+ghost use Rattle.amqp_resource_shared.specs.Receipts.{is_recorded};
+ghost use Rattle.txn_program_runs.specs.Made.{ends_by, ends_count, step_ends_by};
+ghost use Rattle.txn_program_threads.specs.Statuses.{first_refused, is_refused_attach, is_refused_reply, is_starved_attach, starved_by, threads_status};
+
+use amqp_below_layer::SessionInnerError;
+use amqp_resource_record::{Entry, Reply, Step, StopCode};
+use amqp_resource_shared::CloseWhy;
+use amqp_txn_codec::{ControlMessageBody, decode, rolls_back};
+use txn_program_edges::status;
+
+/// How many accepted discharges were rollbacks, or else commits.
+pub(crate) fn ends_count(entries: &[Entry], rollback: bool) -> usize
+    ensures count { result ≡ ends_count rollback entries.now }
+    ensures few { result ≤ length entries.now }
+{
+    entries
+        .iter()
+        .filter(|entry| step_ends_by(rollback, &entry.step, &entry.reply))
+        .count()
+}
+
+/// Whether the step is such a discharge, and was accepted.
+fn step_ends_by(rollback: bool, step: &Step, reply: &Reply) -> bool
+    ensures { result ≡ step_ends_by rollback step.now reply.now }
+{
+    match (step, reply) {
+        (Step::Control { payload, .. }, Reply::Accepted(_)) => ends_by(
+            rollback,
+            payload.as_slice(),
+        ),
+        _ => false,
+    }
+}
+
+fn ends_by(rollback: bool, payload: &[u8]) -> bool
+    ensures { result ≡ ends_by rollback (message_of payload.now) }
+{
+    match decode(payload) {
+        Ok(ControlMessageBody::Discharge(discharge)) => rolls_back(discharge.fail) == rollback,
+        _ => false,
+    }
+}
+
+/// How many replies are neither `Attached`, `Declared`, `Frames` nor `Accepted`.
+pub(crate) fn count_refused(entries: &[Entry]) -> usize
+    ensures { result ≡ count_by (λ entry. is_refused_reply entry.reply) entries.now }
+{
+    let mut count = 0;
+    for entry in entries {
+        if is_refused_reply(&entry.reply) {
+            count += 1;
+        }
+    }
+    count
+}
+
+#[tactic(auto, unfolding(crate::specs::Statuses::is_refused_reply))]
+fn is_refused_reply(reply: &Reply) -> bool
+    ensures { result ≡ is_refused_reply reply.now }
+{
+    match reply {
+        Reply::Frames(_) | Reply::Attached { .. } | Reply::Declared(_) | Reply::Accepted(_) =>
+            false,
+        _ => true,
+    }
+}
+
+/// The first entry whose attach was refused.
+fn first_refused(entries: &[Entry]) -> Option<&Entry>
+    ensures { option_copied result ≡ first_refused entries.now }
+{
+    entries.iter().find(|entry| is_refused_attach(&entry.reply))
+}
+
+fn is_refused_attach(reply: &Reply) -> bool
+    ensures { result ≡ is_refused_attach reply.now }
+{
+    match reply {
+        Reply::AttachRefused(_) => true,
+        _ => false,
+    }
+}
+
+/// Whether the reply is to an attach for which the layer below ran out of memory.
+fn is_starved_attach(reply: &Reply) -> bool
+    ensures { result ≡ is_starved_attach reply.now }
+{
+    match reply {
+        Reply::AttachRefused(SessionInnerError::NoMemory) => true,
+        _ => false,
+    }
+}
+
+/// Whether the layer below ran out of memory for what stopped the session or, without a stop, for
+/// the first attach that it refused.
+fn starved_by(stop: Option<StopCode>, entries: &[Entry]) -> bool
+    ensures { result ≡ starved_by stop entries.now }
+{
+    match stop {
+        Some(StopCode::BelowNoMemory) => true,
+        Some(_) => false,
+        None => match first_refused(entries) {
+            Some(entry) => is_starved_attach(&entry.reply),
+            None => false,
+        },
+    }
+}
+
+/// The status of a history, with what the workers made of it.
+pub(crate) fn status_of(
+    stop: Option<StopCode>,
+    why: &Option<CloseWhy>,
+    refused: usize,
+    entries: &[Entry],
+) -> u8
+    ensures { result ≡ threads_status stop why.now refused entries.now }
+{
+    if stop.is_none() && why.is_none() && refused == 0 {
+        return status::EVERY_STEP;
+    }
+    if starved_by(stop, entries) {
+        return status::NO_MEMORY_BELOW;
+    }
+    status::STOPPED
+}
