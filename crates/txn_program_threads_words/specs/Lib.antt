@@ -1,0 +1,2 @@
+pub mod ThreadsWords
+pub mod Ends
