@@ -99,8 +99,8 @@ fn serve_in<
 /// in the caller's. Before each of its steps a worker passes the gate, with its number from 1 and
 /// its turn from 1.
 ///
-/// It promises nothing of which worker comes first, nor of how long one waits; that workers work
-/// beside each other, a test shows.
+/// It promises nothing of which worker comes first, nor of how long one waits, nor that workers
+/// run beside each other.
 ///
 /// # Requires
 ///
