@@ -1,5 +1,5 @@
 use Rattle.std.proofs.Common.{refl}
-use Rattle.amqp_accept_at_once.proofs.accepting.AcceptingListenerLayerBelow.on_incoming_attach.Goals as goal
+use Rattle.amqp_accept_at_once.proofs.accepting.AcceptingListenerLayerBelow.on_incoming_frame.Goals as goal
 
 -- what the listener and the acceptor answered, counted
 pub returns-clause-gives : goal.returns-clause-gives

@@ -1,5 +1,5 @@
 use Rattle.amqp_resource_session.proofs.Heard.{hears-takes}
-use Rattle.amqp_resource_session.proofs.session.TxnSession.take.Goals as goal
+use Rattle.amqp_resource_session.proofs.as_session.layer_calls.TxnSessionLayerBelow.on_incoming_frame.Goals as goal
 
 pub returns-clause-told : goal.returns-clause-told
 returns-clause-told g c =

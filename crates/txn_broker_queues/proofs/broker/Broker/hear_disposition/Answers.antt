@@ -8,7 +8,7 @@ use Rattle.txn_broker_queues.specs.Taking.{frames_of}
 use Rattle.txn_broker_queues.proofs.Answered.{answered_more}
 use Rattle.txn_broker_queues.proofs.Kept.{keeps_disposition}
 use Rattle.txn_broker_queues.proofs.Telling.{frames_more}
-use Rattle.txn_broker_queues.proofs.broker.BrokerLayerBelow.on_incoming_disposition.Goals as goal
+use Rattle.txn_broker_queues.proofs.broker.Broker.hear_disposition.Goals as goal
 
 pub invariant_of-self-2 : goal.invariant_of-self-2
 invariant_of-self-2 c =

@@ -7,7 +7,7 @@ use Rattle.txn_broker_queues.specs.Taking.{frames_of}
 use Rattle.txn_broker_queues.proofs.Answered.{answered_more}
 use Rattle.txn_broker_queues.proofs.Kept.{keeps_attach}
 use Rattle.txn_broker_queues.proofs.Telling.{frames_more}
-use Rattle.txn_broker_queues.proofs.broker.BrokerLayerBelow.on_incoming_attach.Goals as goal
+use Rattle.txn_broker_queues.proofs.broker.Broker.hear_attach.Goals as goal
 
 pub invariant_of-self-in-Ok-attach_link : goal.invariant_of-self-in-Ok-attach_link
 invariant_of-self-in-Ok-attach_link c =

@@ -6,7 +6,7 @@ use Rattle.txn_broker_queues.specs.Keeping.{Keeps, same_handle}
 use Rattle.txn_broker_queues.proofs.Admitting.{keeps_admitted}
 use Rattle.txn_broker_queues.proofs.Answered.{answered_more}
 use Rattle.txn_broker_queues.proofs.Telling.{frames_more, refused_gives, refused_told}
-use Rattle.txn_broker_queues.proofs.broker.BrokerLayerBelow.on_incoming_transfer.Goals as goal
+use Rattle.txn_broker_queues.proofs.broker.Broker.hear_transfer.Goals as goal
 
 pub invariant_of-self : goal.invariant_of-self
 invariant_of-self c =

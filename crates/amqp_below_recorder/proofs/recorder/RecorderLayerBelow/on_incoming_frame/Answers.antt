@@ -2,7 +2,7 @@ use Rattle.std.proofs.Common.{ap, rules}
 use Rattle.amqp_below_layer.specs.Inner.{Took}
 use Rattle.amqp_below_recorder.specs.Recording.{inner_of, own_of, plan_of, planned_for, starved_of}
 use Rattle.amqp_below_recorder.proofs.Recorded.{recorded-after, recorded-before}
-use Rattle.amqp_below_recorder.proofs.recorder.Recorder.take.Goals as goal
+use Rattle.amqp_below_recorder.proofs.recorder.RecorderLayerBelow.on_incoming_frame.Goals as goal
 
 -- it doesn't reach the layer
 pub returns-in-Err-clause-gives : goal.returns-in-Err-clause-gives
@@ -23,7 +23,7 @@ pub returns-clause-gives : goal.returns-clause-gives
 returns-clause-gives g c = record {
   recorded =
       recorded-after
-      (Took g.S.Tells.told g.S.LayerBelow.incoming_gives (inner_of c.args.self.now) c.on_incoming_frame-answer.new.below c.args.frame)
+      (Took g.S.Tells.told g.S.LayerBelow.incoming_gives (inner_of c.args.self.now) c.on_incoming_frame-answer.new.self c.args.frame)
       _ (planned_for (plan_of c.args.self.now) (starved_of c.args.self.now) c.saturating_add-self-inside.result) (own_of c.args.self.now) _
       c.after_call.new.refusals c.before_call.new.kept.items c.after_call.new.kept.items c.before_call.new.refused.items
       c.after_call.new.refused.items c.in-Ok.copy c.on_incoming_frame-answer.result c.after_call.result (search rules)

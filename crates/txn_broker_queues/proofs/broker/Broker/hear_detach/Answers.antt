@@ -7,7 +7,7 @@ use Rattle.txn_broker_queues.specs.Taking.{frames_of}
 use Rattle.txn_broker_queues.proofs.Answered.{answered_more}
 use Rattle.txn_broker_queues.proofs.Kept.{keeps_detach}
 use Rattle.txn_broker_queues.proofs.Telling.{frames_more}
-use Rattle.txn_broker_queues.proofs.broker.BrokerLayerBelow.on_incoming_detach.Goals as goal
+use Rattle.txn_broker_queues.proofs.broker.Broker.hear_detach.Goals as goal
 
 pub invariant_of-self : goal.invariant_of-self
 invariant_of-self c =
