@@ -1,12 +1,17 @@
 //! What the controllers know: of each transaction, and of each link.
 
-ghost use Rattle.std.specs.Prelude.{◌≡◌, ◌<◌, ◌≤◌, [], None, Some, length, false, slice_get, replicate, OnOk, OnErr, IfOk};
-ghost use Rattle.txn_parties.specs.BackWire.{declared_id, verdict};
-ghost use Rattle.txn_world_wires.specs.Knowing.{declaring, discharging, ending, has_ended, hearing, is_open_at, with_transaction};
+ghost use Rattle.std.specs.Prelude.{◌≡◌, ◌<◌, [], Some, length, false, slice_get, replicate, IfOk, OnErr, OnOk};
+ghost use Rattle.txn_parties.specs.declared.item.Answered.{Answered};
+ghost use Rattle.txn_world_wires.specs.Answers.{hearing_by};
+ghost use Rattle.txn_world_wires.specs.Knowing.{Hears, declaring, discharging, ending, has_ended, hearing, is_open_at, with_transaction};
 
+use crate::control_call::Hearing;
+use crate::control_links::ControlLinks;
+use amqp_resource_record::Entry;
 use amqp_txn_types::{Items, NoMemory, TransactionId};
 use std::alloc::Global;
-use txn_parties::{Answered, Asked, Heard, ReplyState};
+use std::marker::Model;
+use txn_parties::{Answered, Asked, Heard};
 
 /// What its controller knows of one transaction.
 #[derive(Clone, Copy, Debug, PartialEq, Eq)]
@@ -23,46 +28,42 @@ pub struct Transaction {
     pub awaits: Option<Asked>,
 }
 
-/// The controllers: their transactions by number, and of each link whether its end was sent.
-#[derive(Debug, Drop)]
+/// The controllers: their transactions by number, of each link whether its end was sent, and the
+/// controllers' ends of the links, on which transactions are declared and discharged.
+///
+/// A contract sees the transactions and the ends that were sent. What a transaction awaits its call
+/// on the link awaits, too.
+#[derive(Drop)]
 pub struct Controllers {
     transactions: Items<Transaction>,
     ended: Items<bool>,
+    links: ControlLinks,
 }
 
-/// The id that an answer gives to a transaction.
-fn declared_id(asked: Asked, state: ReplyState) -> Option<TransactionId>
-    ensures { result ≡ declared_id asked state }
-{
-    match (asked, state) {
-        (Asked::Declare, ReplyState::Declared(id)) => Some(id),
-        _ => None,
-    }
+impl Model for Controllers {
+    ghost use Rattle.txn_world_wires.specs.Known.{Known};
+
+    ghost Value = { Known };
+
+    ghost use Rattle.txn_world_wires.specs.Asking.{AreLinked};
+
+    ghost view = { λ c. record { transactions = c.transactions; ended = c.ended } };
+
+    ghost invariant = { λ c. AreLinked c.transactions c.ended c.links };
 }
 
-/// What an answer says of a discharge.
-fn verdict(asked: Asked, state: ReplyState) -> Option<Heard>
-    ensures { result ≡ verdict asked state }
-{
-    match (asked, state) {
-        (Asked::Commit, ReplyState::Accepted) => Some(Heard::Committed),
-        (Asked::Rollback, ReplyState::Accepted) => Some(Heard::RolledBack),
-        (Asked::Commit | Asked::Rollback, ReplyState::Rejected { .. }) => Some(Heard::Rejected),
-        _ => None,
-    }
-}
-
-/// A transaction once it heard the answer.
-fn hearing(txn: Transaction, answer: Answered) -> Transaction
-    ensures { result ≡ hearing txn answer }
+/// A transaction once it heard this.
+fn hearing(txn: Transaction, heard: Hearing) -> Transaction
+    ensures { (answer : Answered) → heard ≡ hearing_by answer.asked answer.state
+        → result ≡ hearing txn answer }
 {
     let id = match txn.id {
         Some(id) => Some(id),
-        None => declared_id(answer.asked, answer.state),
+        None => heard.id,
     };
     let verdict = match txn.verdict {
         Some(verdict) => Some(verdict),
-        None => verdict(answer.asked, answer.state),
+        None => heard.verdict,
     };
     Transaction {
         link: txn.link,
@@ -74,18 +75,22 @@ fn hearing(txn: Transaction, answer: Answered) -> Transaction
 }
 
 impl Controllers {
-    /// Controllers of as many links, without a transaction. Out of memory is the only error.
-    pub fn new(alloc: Global, links: usize) -> Result<Self, NoMemory>
+    /// Controllers of links that were attached so, without a transaction. Out of memory is the only
+    /// error.
+    pub fn new(alloc: Global, attaches: &[Entry]) -> Result<Self, NoMemory>
         ensures transactions { IfOk result (λ known. known.transactions ≡ []) }
-        ensures ended { IfOk result (λ known. known.ended ≡ replicate links false) }
+        ensures ended { IfOk result (λ known. known.ended
+            ≡ replicate (length attaches.now) false) }
     {
+        let links = ControlLinks::new(alloc, attaches)?;
         let mut ended = Items::new(alloc);
-        for _link in 0..links {
+        for _link in 0..attaches.len() {
             ended.append(false)?;
         }
         Ok(Controllers {
             transactions: Items::new(alloc),
             ended,
+            links,
         })
     }
 
@@ -125,6 +130,7 @@ impl Controllers {
 
     /// Declares a new transaction on the link. Where memory runs out nothing changes.
     pub fn declare(&mut self, link: u32) -> Result<(), NoMemory>
+        requires { link < length self.old.ended }
         ensures ok { OnOk result (self.new ≡ declaring self.old link) }
         ensures err { OnErr result (self.new ≡ self.old) }
     {
@@ -135,43 +141,54 @@ impl Controllers {
             sent: false,
             awaits: Some(Asked::Declare),
         };
-        self.transactions.append(txn)
+        self.transactions.items.reserve(1)?;
+        self.links.declare(link)?;
+        self.transactions.items.push_reserved(txn);
+        Ok(())
     }
 
-    /// Keeps another state of the transaction.
-    fn set(&mut self, number: u32, txn: Transaction)
-        requires { number < length self.old.transactions }
-        ensures { self.new ≡ with_transaction self.old number txn }
-    {
-        self.transactions.items[number as usize] = txn;
-    }
-
-    /// Discharges the transaction.
-    pub fn discharge(&mut self, number: u32, txn: Transaction, rollback: bool)
-        requires { number < length self.old.transactions }
-        ensures { self.new ≡ with_transaction self.old number (discharging txn rollback) }
+    /// Discharges the transaction under its id. Where memory runs out nothing changes.
+    pub fn discharge(
+        &mut self,
+        number: u32,
+        txn: Transaction,
+        id: TransactionId,
+        rollback: bool,
+    ) -> Result<(), NoMemory>
+        requires { slice_get self.old.transactions number ≡ Some txn }
+        ensures ok { OnOk result
+            (self.new ≡ with_transaction self.old number (discharging txn rollback)) }
+        ensures err { OnErr result (self.new ≡ self.old) }
     {
         let asked = if rollback {
             Asked::Rollback
         } else {
             Asked::Commit
         };
-        let txn = Transaction {
+        self.links.discharge(number, txn.link, id, rollback)?;
+        self.transactions.items[number as usize] = Transaction {
             link: txn.link,
             id: txn.id,
             verdict: txn.verdict,
             sent: true,
             awaits: Some(asked),
         };
-        self.set(number, txn);
+        Ok(())
     }
 
-    /// The transaction hears the answer.
-    pub fn hear(&mut self, number: u32, txn: Transaction, answer: Answered)
-        requires { number < length self.old.transactions }
-        ensures { self.new ≡ with_transaction self.old number (hearing txn answer) }
+    /// The transaction hears the answer, and tells whether it awaited one to such a request. Where
+    /// memory runs out nothing changes.
+    pub fn hear(&mut self, txn: Transaction, answer: Answered) -> Result<bool, NoMemory>
+        requires { slice_get self.old.transactions answer.txn ≡ Some txn }
+        ensures ok { IfOk result (λ heard. Hears self.old self.new txn answer heard) }
+        ensures err { OnErr result (self.new ≡ self.old) }
     {
-        self.set(number, hearing(txn, answer));
+        let heard = self.links.hear(answer.txn, answer.asked, answer.state)?;
+        let Some(heard) = heard else {
+            return Ok(false);
+        };
+        self.transactions.items[answer.txn as usize] = hearing(txn, heard);
+        Ok(true)
     }
 
     /// Ends the link.
