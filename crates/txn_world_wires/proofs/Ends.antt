@@ -1,5 +1,5 @@
 -- What an answer that is filled in and heard leaves of the end of a link.
-use Rattle.std.proofs.Common.{◌≡◌, ℕ, Bool, true, false, cond, Option, Some, None, Result, Ok, Err, List, [], ◌∷◌, ◌++◌, length, refl, sym, ◌∙◌, ap, subst}
+use Rattle.std.proofs.Common.{◌≡◌, ℕ, Bool, false, cond, Option, Some, Result, Ok, Err, List, [], length, refl, sym, ◌∙◌, ap, subst}
 use Rattle.std.specs.Prelude.{◌==◌, option_map, slice_get, slice_set}
 use Rattle.std.specs.List.{list_any}
 use Rattle.std.proofs.lemmas.Option.{slice_get_within}
@@ -97,15 +97,15 @@ awaited_at w sent token a e =
 pub finds_answer : {R : Type 0} (by_state : DeliveryState → Result R ControllerSendError) (w mid : SenderWire) (sent : Sent) (token : Token) (answer : Answer) (outcome : Result R ControllerSendError) → IsQuiet w → IsAwaited w sent → sendings.Unsettled token ≡ sent → mid ≡ answered w token answer → waits.Ready outcome ≡ found_of by_state (sender_tells mid) sent → outcome ≡ outcome_of by_state answer
 finds_answer {R} by_state w mid sent token answer outcome q a e m f =
     let here : found_of by_state (sender_tells mid) sent ≡ found_of by_state (sender_tells (answered w token answer)) (sendings.Unsettled token) =
-        ap (λ (x : SenderWire). found_of by_state (sender_tells x) sent) m
-        ∙ ap (λ (x : Sent). found_of by_state (sender_tells (answered w token answer)) x) (sym e) in
+    ap (λ (x : SenderWire). found_of by_state (sender_tells x) sent) m
+    ∙ ap (λ (x : Sent). found_of by_state (sender_tells (answered w token answer)) x) (sym e) in
     let ready : waits.Ready outcome ≡ waits.Ready (outcome_of by_state answer) = f ∙ here ∙ finds by_state w token answer q (awaited_at w sent token a e) in
     cc ready
 
 pub hears_answer : (old mid new : SenderWire) (sent : Sent) (token : Token) (answer : Answer) → IsQuiet old → IsAwaited old sent → sendings.Unsettled token ≡ sent → mid ≡ answered old token answer → LooksOnce (λ (a b : SenderWire) (t : Token) (found : Poll Answer). b ≡ looked a t found) sender_tells mid new sent → HasHeard old new sent
 hears_answer old mid new sent token answer q a e m looks =
     let one : LooksOnce (λ (x y : SenderWire) (t : Token) (found : Poll Answer). y ≡ looked x t found) sender_tells mid new (sendings.Unsettled token) =
-        subst (λ (x : Sent). LooksOnce (λ (x y : SenderWire) (t : Token) (found : Poll Answer). y ≡ looked x t found) sender_tells mid new x) (sym e) looks in
+    subst (λ (x : Sent). LooksOnce (λ (x y : SenderWire) (t : Token) (found : Poll Answer). y ≡ looked x t found) sender_tells mid new x) (sym e) looks in
     let found : Poll Answer = polled (ready_on mid token.0) in
     let is : new ≡ looked (answered old token answer) token found = one.1 ∙ ap (λ (x : SenderWire). looked x token found) m in
     subst (λ (x : Sent). HasHeard old new x) e (has_heard old new token answer found q (awaited_at old sent token a e) is)

@@ -1,5 +1,5 @@
 -- What the controllers know, and what was asked on their links.
-use Rattle.std.proofs.Common.{◌≡◌, ℕ, ◌<◌, Bool, true, Option, Some, None, List, [], ◌∷◌, ◌++◌, length, map, refl, sym, ◌∙◌, ap, subst, ◌⊎◌, inl, inr}
+use Rattle.std.proofs.Common.{◌≡◌, ℕ, ◌<◌, Bool, true, Option, Some, None, List, [], ◌∷◌, ◌++◌, length, sym, ◌∙◌, ap, subst, inl, inr}
 use Rattle.std.specs.Prelude.{slice_get, slice_set, option_map}
 use Rattle.std.proofs.lemmas.List.{length-map, length-set, map-append, map-set}
 use Rattle.std.proofs.lemmas.Option.{slice_get-map, slice_get_within}
@@ -7,10 +7,14 @@ use Rattle.amqp_txn_types.specs.declared.id.TransactionId.{TransactionId}
 use Rattle.txn_parties.specs.declared.item.Answered.{Answered}
 use Rattle.txn_parties.specs.declared.item.Asked.{Asked}
 use Rattle.txn_parties.specs.declared.item.Asked.TheVariants as asked
-use Rattle.txn_parties.specs.BackWire.{asked_by}
+use Rattle.txn_parties.specs.declared.event.Heard.{Heard}
+use Rattle.txn_parties.specs.BackWire.{declared_id, verdict as verdict_by_state}
+use Rattle.txn_parties.specs.Items.{or_else}
+use Rattle.txn_world_wires.specs.declared.control_call.Hearing.{Hearing}
+use Rattle.txn_world_wires.specs.Answers.{hearing_by}
 use Rattle.txn_world_wires.specs.declared.controllers.Transaction.{Transaction}
 use Rattle.txn_world_wires.specs.Asking.{AreLinked, asking_too, with_asked}
-use Rattle.txn_world_wires.specs.Knowing.{new_on}
+use Rattle.txn_world_wires.specs.Knowing.{hearing, new_on}
 use Rattle.txn_world_wires.specs.Known.{Asks}
 use Rattle.txn_world_wires.proofs.Lists.{get-push_other, get-push_same, get-set_other, get-set_same, test_eq}
 
@@ -80,3 +84,11 @@ asked_there transactions ended asks number txn a g =
 -- nothing was asked
 pub none_linked : (ended : List Bool) (asks : Asks) → asks.links ≡ length ended → asks.asked ≡ [] → AreLinked [] ended asks
 none_linked ended asks l e = record { links = l; asked = e; within = λ n txn h. cc h }
+
+-- a transaction once it heard what its answer says
+pub heard_later : (txn : Transaction) (answer : Answered) (heard : Hearing) (id : Option TransactionId) (verdict : Option Heard) → id ≡ or_else txn.id heard.id → verdict ≡ or_else txn.verdict heard.verdict → heard ≡ hearing_by answer.asked answer.state → ◌≡◌ {A = Transaction} (record txn { id = id; verdict = verdict; awaits = None }) (hearing txn answer)
+heard_later txn answer heard id verdict i v h =
+    let id_is : id ≡ or_else txn.id (declared_id answer.asked answer.state) = i ∙ ap (λ (x : Hearing). or_else txn.id x.id) h in
+    let verdict_is : verdict ≡ or_else txn.verdict (verdict_by_state answer.asked answer.state) = v ∙ ap (λ (x : Hearing). or_else txn.verdict x.verdict) h in
+    ap (λ (x : Option TransactionId). let t : Transaction = record txn { id = x; verdict = verdict; awaits = None } in t) id_is
+    ∙ ap (λ (x : Option Heard). let t : Transaction = record txn { id = or_else txn.id (declared_id answer.asked answer.state); verdict = x; awaits = None } in t) verdict_is

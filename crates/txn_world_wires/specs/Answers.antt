@@ -1,10 +1,9 @@
 -- What is answered on a control link, and what the calls on it that await the answer hear.
-use Rattle.std.specs.Prelude.{ℕ, ◌≡◌, Option, Some, None, Result, Ok, Err}
+use Rattle.std.specs.Prelude.{Option, Some, None, Result, Ok, Err}
 use Rattle.amqp_txn_types.specs.declared.delivery.Declared.{Declared}
 use Rattle.amqp_txn_types.specs.declared.delivery.DeliveryState.TheVariants as delivery_states
 use Rattle.amqp_txn_types.specs.declared.delivery.ErrorCondition.TheVariants as conditions
 use Rattle.amqp_txn_types.specs.declared.small.Accepted.{Accepted}
-use Rattle.amqp_txn_types.specs.declared.id.TransactionId.{TransactionId}
 use Rattle.amqp_resource_record.specs.Texts.{text_of}
 use Rattle.amqp_links.specs.Sending.{Answer}
 use Rattle.amqp_links.specs.declared.errors.LinkStateError.TheVariants as link_errors

@@ -1,9 +1,8 @@
 -- The controllers' ends of their control links, and the calls on them that await an answer.
-use Rattle.std.specs.Prelude.{ℕ, ◌≡◌, false, Option, Some, None, Result, List, [], ◌∷◌, ◌++◌, length, map, slice_get, slice_set}
+use Rattle.std.specs.Prelude.{ℕ, ◌≡◌, false, Option, Some, None, List, [], ◌∷◌, ◌++◌, length, map, slice_get}
 use Rattle.std.specs.Option.{option_map}
 use Rattle.amqp_txn_types.specs.declared.small.Token.{Token}
 use Rattle.amqp_txn_codec.specs.declared.message.ControlMessageBody.{ControlMessageBody}
-use Rattle.amqp_links.specs.declared.answer_slot.AnswerSlot.{AnswerSlot}
 use Rattle.amqp_links.specs.declared.answer_slot.AnswerSlot.TheVariants as slots
 use Rattle.amqp_links.specs.declared.sendable.Sent.{Sent}
 use Rattle.amqp_links.specs.declared.sendable.Sent.TheVariants as sendings
@@ -11,7 +10,6 @@ use Rattle.amqp_links.specs.Sending.{as_sent, unsettled_count}
 use Rattle.amqp_links.specs.SenderWire.{SenderWire}
 use Rattle.amqp_controller_calls.specs.Sends.{control_sendable}
 use Rattle.txn_parties.specs.declared.item.Asked.{Asked}
-use Rattle.txn_world_wires.specs.declared.control_call.ControlCall.{ControlCall}
 use Rattle.txn_world_wires.specs.declared.control_links.Request.{Request}
 use Rattle.txn_world_wires.specs.Answers.{asked_in, sent_of}
 

@@ -1,14 +1,12 @@
 //! What the controllers know: of each transaction, and of each link.
 
 ghost use Rattle.std.specs.Prelude.{◌≡◌, ◌<◌, [], Some, length, false, slice_get, replicate, IfOk, OnErr, OnOk};
-ghost use Rattle.txn_parties.specs.declared.item.Answered.{Answered};
-ghost use Rattle.txn_world_wires.specs.Answers.{hearing_by};
-ghost use Rattle.txn_world_wires.specs.Knowing.{Hears, declaring, discharging, ending, has_ended, hearing, is_open_at, with_transaction};
+ghost use Rattle.txn_parties.specs.Items.{or_else};
+ghost use Rattle.txn_world_wires.specs.Knowing.{Hears, declaring, discharging, ending, has_ended, is_open_at, with_transaction};
 
-use crate::control_call::Hearing;
 use crate::control_links::ControlLinks;
 use amqp_resource_record::Entry;
-use amqp_txn_types::{Items, NoMemory, TransactionId};
+use amqp_txn_types::{NoMemory, TransactionId};
 use std::alloc::Global;
 use std::marker::Model;
 use txn_parties::{Answered, Asked, Heard};
@@ -35,8 +33,8 @@ pub struct Transaction {
 /// on the link awaits, too.
 #[derive(Drop)]
 pub struct Controllers {
-    transactions: Items<Transaction>,
-    ended: Items<bool>,
+    transactions: Vec<Transaction>,
+    ended: Vec<bool>,
     links: ControlLinks,
 }
 
@@ -47,30 +45,18 @@ impl Model for Controllers {
 
     ghost use Rattle.txn_world_wires.specs.Asking.{AreLinked};
 
-    ghost view = { λ c. record { transactions = c.transactions; ended = c.ended } };
+    ghost view = { λ c. record { transactions = c.transactions.items; ended = c.ended.items } };
 
-    ghost invariant = { λ c. AreLinked c.transactions c.ended c.links };
+    ghost invariant = { λ c. AreLinked c.transactions.items c.ended.items c.links };
 }
 
-/// A transaction once it heard this.
-fn hearing(txn: Transaction, heard: Hearing) -> Transaction
-    ensures { (answer : Answered) → heard ≡ hearing_by answer.asked answer.state
-        → result ≡ hearing txn answer }
+/// The first that is there.
+fn first_of<T: Copy>(first: Option<T>, second: Option<T>) -> Option<T>
+    ensures { result ≡ or_else first second }
 {
-    let id = match txn.id {
-        Some(id) => Some(id),
-        None => heard.id,
-    };
-    let verdict = match txn.verdict {
-        Some(verdict) => Some(verdict),
-        None => heard.verdict,
-    };
-    Transaction {
-        link: txn.link,
-        id,
-        verdict,
-        sent: txn.sent,
-        awaits: None,
+    match first {
+        Some(value) => Some(value),
+        None => second,
     }
 }
 
@@ -83,12 +69,12 @@ impl Controllers {
             ≡ replicate (length attaches.now) false) }
     {
         let links = ControlLinks::new(alloc, attaches)?;
-        let mut ended = Items::new(alloc);
+        let mut ended = Vec::new(alloc);
         for _link in 0..attaches.len() {
-            ended.append(false)?;
+            ended.push(false)?;
         }
         Ok(Controllers {
-            transactions: Items::new(alloc),
+            transactions: Vec::new(alloc),
             ended,
             links,
         })
@@ -141,9 +127,9 @@ impl Controllers {
             sent: false,
             awaits: Some(Asked::Declare),
         };
-        self.transactions.items.reserve(1)?;
+        self.transactions.reserve(1)?;
         self.links.declare(link)?;
-        self.transactions.items.push_reserved(txn);
+        self.transactions.push_reserved(txn);
         Ok(())
     }
 
@@ -166,7 +152,7 @@ impl Controllers {
             Asked::Commit
         };
         self.links.discharge(number, txn.link, id, rollback)?;
-        self.transactions.items[number as usize] = Transaction {
+        self.transactions[number as usize] = Transaction {
             link: txn.link,
             id: txn.id,
             verdict: txn.verdict,
@@ -183,12 +169,21 @@ impl Controllers {
         ensures ok { IfOk result (λ heard. Hears self.old self.new txn answer heard) }
         ensures err { OnErr result (self.new ≡ self.old) }
     {
-        let heard = self.links.hear(answer.txn, answer.asked, answer.state)?;
-        let Some(heard) = heard else {
-            return Ok(false);
-        };
-        self.transactions.items[answer.txn as usize] = hearing(txn, heard);
-        Ok(true)
+        match self.links.hear(answer.txn, answer.asked, answer.state)? {
+            None => Ok(false),
+            Some(heard) => {
+                let id = first_of(txn.id, heard.id);
+                let verdict = first_of(txn.verdict, heard.verdict);
+                self.transactions[answer.txn as usize] = Transaction {
+                    link: txn.link,
+                    id,
+                    verdict,
+                    sent: txn.sent,
+                    awaits: None,
+                };
+                Ok(true)
+            }
+        }
     }
 
     /// Ends the link.
@@ -196,6 +191,6 @@ impl Controllers {
         requires { link < length self.old.ended }
         ensures { self.new ≡ ending self.old link }
     {
-        self.ended.items[link as usize] = true;
+        self.ended[link as usize] = true;
     }
 }

@@ -4,7 +4,6 @@ use Rattle.amqp_txn_codec.specs.declared.message.ControlMessageBody.TheVariants 
 use Rattle.txn_parties.specs.declared.item.Asked.{Asked}
 use Rattle.txn_parties.specs.BackWire.{asked_by}
 use Rattle.txn_world_wires.specs.declared.control_links.Request.{Request}
-use Rattle.txn_world_wires.specs.Asking.{with_asked}
 use Rattle.txn_world_wires.specs.Known.{Asks}
 use Rattle.txn_world_wires.specs.Links.{AreOpen}
 use Rattle.txn_world_wires.proofs.Opening.{asked_length, only_set, open_sent, open_unsent, read_at, seen, seen_with}

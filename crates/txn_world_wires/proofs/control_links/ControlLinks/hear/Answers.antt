@@ -1,4 +1,4 @@
-use Rattle.std.proofs.Common.{◌<◌, ◌≡◌, ℕ, true, Option, Some, None, List, ap, length, refl, rules, subst, sym, ◌∙◌}
+use Rattle.std.proofs.Common.{◌<◌, ◌≡◌, ℕ, Option, Some, None, ap, length, refl, rules, subst, sym, ◌∙◌}
 use Rattle.std.specs.Prelude.{slice_get, slice_set}
 use Rattle.txn_world_wires.specs.declared.control_links.Request.{Request}
 use Rattle.txn_world_wires.specs.Known.{Asks}
@@ -50,7 +50,8 @@ returns-clause-ok c =
     let r = c.in-Some.request in
     let n : c.args.number < length requests = subst (λ (k : ℕ). c.args.number < k) (asked_length requests) (subst (λ (a : Asks). c.args.number < length a.asked) (sym c.self.view_is) c.requires) in
     let at : slice_get requests c.args.number ≡ Some (Some r) = read_at requests c.args.number c.index_mut.result.now n c.index_mut.ensures.value ∙ ap (λ (o : Option Request). Some o) (sym c.take.ensures.value ∙ c.in-Some.is) in
-    let found = read_at requests c.args.number c.index.result.now n c.index.ensures in
-    (ap (λ (one : Option Request). seen (slice_set ends r.link c.hear.new.end) (slice_set requests c.args.number one)) c.take.ensures.after
-    ∙ seen_with ends requests c.args.self.now r.link c.hear.new.end c.args.number None None c.self.view_is refl,
-    c.hear.ensures.hearing ∙ asked_says requests c.args.number c.index.result.now r c.args.asked c.args.state c.in_ok-answer.answer at found (search rules) c.in_ok-answer.ensures)
+    let found = read_at requests c.args.number c.index.result.now n c.index.ensures in (
+      ap (λ (one : Option Request). seen (slice_set ends r.link c.hear.new.end) (slice_set requests c.args.number one)) c.take.ensures.after
+          ∙ seen_with ends requests c.args.self.now r.link c.hear.new.end c.args.number None None c.self.view_is refl,
+      c.hear.ensures.hearing ∙ asked_says requests c.args.number c.index.result.now r c.args.asked c.args.state c.in_ok-answer.answer at found (search rules) c.in_ok-answer.ensures,
+    )
