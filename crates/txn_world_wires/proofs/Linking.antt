@@ -59,31 +59,10 @@ linked_set transactions ended asks number old new a g same = record {
   within = set_within transactions number (length ended) old new g same a.within;
 }
 
--- a link's end was sent
-pub linked_ended : (transactions : List Transaction) (ended : List Bool) (asks : Asks) (link : ℕ) → AreLinked transactions ended asks → AreLinked transactions (slice_set ended link true) asks
-linked_ended transactions ended asks link a = record {
-  links = a.links ∙ sym (length-set ended link true);
-  asked = a.asked;
-  within = λ n txn h. subst (λ (k : ℕ). txn.link < k) (sym (length-set ended link true)) (a.within n txn h);
-}
-
--- a transaction's place, and its link, are known on the links
-pub asked_within : (transactions : List Transaction) (ended : List Bool) (asks : Asks) (number : ℕ) (txn : Transaction) → AreLinked transactions ended asks → slice_get transactions number ≡ Some txn → number < length asks.asked
-asked_within transactions ended asks number txn a g =
-    let len : length asks.asked ≡ length transactions = ap (λ (x : List (Option Asked)). length x) a.asked ∙ length-map transactions awaited in
-    subst (λ (k : ℕ). number < k) (sym len) (slice_get_within transactions number txn g)
-
-pub link_within : (transactions : List Transaction) (ended : List Bool) (asks : Asks) (number : ℕ) (txn : Transaction) → AreLinked transactions ended asks → slice_get transactions number ≡ Some txn → txn.link < asks.links
-link_within transactions ended asks number txn a g = subst (λ (k : ℕ). txn.link < k) (sym a.links) (a.within number txn g)
-
 -- what it awaits is what it asked there
 pub asked_there : (transactions : List Transaction) (ended : List Bool) (asks : Asks) (number : ℕ) (txn : Transaction) → AreLinked transactions ended asks → slice_get transactions number ≡ Some txn → slice_get asks.asked number ≡ Some txn.awaits
 asked_there transactions ended asks number txn a g =
     ap (λ (x : List (Option Asked)). slice_get x number) a.asked ∙ slice_get-map awaited transactions number ∙ ap (λ (o : Option Transaction). option_map awaited o) g
-
--- nothing was asked
-pub none_linked : (ended : List Bool) (asks : Asks) → asks.links ≡ length ended → asks.asked ≡ [] → AreLinked [] ended asks
-none_linked ended asks l e = record { links = l; asked = e; within = λ n txn h. cc h }
 
 -- a transaction once it heard what its answer says
 pub heard_later : (txn : Transaction) (answer : Answered) (heard : Hearing) (id : Option TransactionId) (verdict : Option Heard) → id ≡ or_else txn.id heard.id → verdict ≡ or_else txn.verdict heard.verdict → heard ≡ hearing_by answer.asked answer.state → ◌≡◌ {A = Transaction} (record txn { id = id; verdict = verdict; awaits = None }) (hearing txn answer)
