@@ -11,8 +11,7 @@ use amqp_accept_listener::ListenerSession;
 use amqp_below_layer::{LayerBelow, SessionInnerError, Tells, Verdict};
 use amqp_below_sessions::Session;
 use amqp_txn_types::{
-    Attach, Detach, Disposition, Flow, Frames, NoMemory, Payload, SessionState, Transfer,
-    count_answer,
+    Attach, Disposition, Flow, Frame, Frames, NoMemory, SessionState, count_answer,
 };
 use std::alloc::Global;
 
@@ -125,36 +124,17 @@ impl<S: Session> LayerBelow for AcceptingListener<S> {
         self.listener.local_state()
     }
 
-    fn on_incoming_attach(&mut self, attach: Attach) -> Result<Frames, SessionInnerError> {
-        let answer = hear_attach(&mut self.listener, &self.acceptor, self.alloc, attach);
-        count_answer(&mut self.refusals, answer)
-    }
-
-    fn on_incoming_flow(&mut self, flow: Flow) -> Result<Frames, SessionInnerError> {
-        let answer = self.listener.on_incoming_flow(flow);
-        count_answer(&mut self.refusals, answer)
-    }
-
-    fn on_incoming_transfer(
-        &mut self,
-        transfer: Transfer,
-        payload: Payload,
-    ) -> Result<Frames, SessionInnerError> {
-        let answer = self.listener.on_incoming_transfer(transfer, payload);
-        count_answer(&mut self.refusals, answer)
-    }
-
-    fn on_incoming_disposition(
-        &mut self,
-        disposition: Disposition,
-    ) -> Result<Frames, SessionInnerError> {
-        let answer = self.listener.on_incoming_disposition(disposition);
-        count_answer(&mut self.refusals, answer)
-    }
-
-    fn on_incoming_detach(&mut self, detach: Detach) -> Result<Frames, SessionInnerError> {
-        let answer = self.listener.on_incoming_detach(detach);
-        count_answer(&mut self.refusals, answer)
+    fn on_incoming_frame(&mut self, frame: Frame) -> Result<Frames, SessionInnerError> {
+        match frame {
+            Frame::Attach(attach) => {
+                let answer = hear_attach(&mut self.listener, &self.acceptor, self.alloc, attach);
+                count_answer(&mut self.refusals, answer)
+            }
+            other => {
+                let answer = self.listener.on_incoming_frame(other);
+                count_answer(&mut self.refusals, answer)
+            }
+        }
     }
 
     fn on_control_attach(&mut self, attach: &Attach) -> Result<Frames, SessionInnerError> {

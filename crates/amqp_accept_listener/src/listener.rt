@@ -16,8 +16,7 @@ use amqp_accept_links::ControlLinkAcceptor;
 use amqp_below_layer::{LayerBelow, SessionInnerError, Tells, Verdict};
 use amqp_below_sessions::Session;
 use amqp_txn_types::{
-    Attach, Detach, Disposition, Flow, Frames, NoMemory, Payload, SessionState, Transfer,
-    count_answer,
+    Attach, Disposition, Flow, Frame, Frames, NoMemory, SessionState, count_answer,
 };
 use std::alloc::Global;
 
@@ -134,36 +133,30 @@ impl<S: Session> LayerBelow for ListenerSession<S> {
         self.session.local_state()
     }
 
-    fn on_incoming_attach(&mut self, attach: Attach) -> Result<Frames, SessionInnerError> {
-        let answer = hear_attach(&mut self.session, &mut self.queue, self.alloc, attach);
-        count_answer(&mut self.refusals, answer)
-    }
-
-    fn on_incoming_flow(&mut self, flow: Flow) -> Result<Frames, SessionInnerError> {
-        let answer = hear_flow(&mut self.session, &mut self.held, self.alloc, flow);
-        count_answer(&mut self.refusals, answer)
-    }
-
-    fn on_incoming_transfer(
-        &mut self,
-        transfer: Transfer,
-        payload: Payload,
-    ) -> Result<Frames, SessionInnerError> {
-        let answer = hear_transfer(&mut self.session, self.alloc, transfer, payload);
-        count_answer(&mut self.refusals, answer)
-    }
-
-    fn on_incoming_disposition(
-        &mut self,
-        disposition: Disposition,
-    ) -> Result<Frames, SessionInnerError> {
-        let answer = self.session.on_incoming_disposition(disposition);
-        count_answer(&mut self.refusals, answer)
-    }
-
-    fn on_incoming_detach(&mut self, detach: Detach) -> Result<Frames, SessionInnerError> {
-        let answer = self.session.on_incoming_detach(detach);
-        count_answer(&mut self.refusals, answer)
+    fn on_incoming_frame(&mut self, frame: Frame) -> Result<Frames, SessionInnerError> {
+        let session = &mut self.session;
+        match frame {
+            Frame::Attach(attach) => {
+                let answer = hear_attach(session, &mut self.queue, self.alloc, attach);
+                count_answer(&mut self.refusals, answer)
+            }
+            Frame::Flow(flow) => {
+                let answer = hear_flow(session, &mut self.held, self.alloc, flow);
+                count_answer(&mut self.refusals, answer)
+            }
+            Frame::Transfer { transfer, payload } => {
+                let answer = hear_transfer(session, self.alloc, transfer, payload);
+                count_answer(&mut self.refusals, answer)
+            }
+            Frame::Disposition(disposition) => {
+                let answer = session.on_incoming_disposition(disposition);
+                count_answer(&mut self.refusals, answer)
+            }
+            Frame::Detach(detach) => {
+                let answer = session.on_incoming_detach(detach);
+                count_answer(&mut self.refusals, answer)
+            }
+        }
     }
 
     fn on_control_attach(&mut self, attach: &Attach) -> Result<Frames, SessionInnerError> {

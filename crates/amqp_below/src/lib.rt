@@ -38,7 +38,7 @@ pub use amqp_below_connections::{
 pub use amqp_below_ids::{CountIds, Drawn, IdSource, ListIds, numbered_id};
 pub use amqp_below_layer::{
     Answers, Echoes, Exchanges, LayerBelow, OpenSession, Openings, Refusal, Refusals, Reviews,
-    SessionInnerError, TakeError, Tells, Verdict, check_given, on_incoming_frame, take_frame,
+    SessionInnerError, TakeError, Tells, Verdict, check_given, take_frame,
 };
 pub use amqp_below_recorder::Recorder;
 pub use amqp_below_sessions::{

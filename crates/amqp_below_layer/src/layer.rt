@@ -4,18 +4,21 @@ use crate::inner_error::SessionInnerError;
 use crate::tells::Tells;
 use crate::verdict::Verdict;
 use amqp_txn_types::{
-    Attach, Detach, Disposition, Flow, Frames, NoMemory, Payload, SessionState, Transfer,
+    Attach, Detach, Disposition, Flow, Frame, Frames, NoMemory, Payload, SessionState, Transfer,
 };
 
 /// The calls that a transactional session makes on the session below it.
 ///
-/// No call changes the state of the session. An incoming frame call that is Ok took its frame and
-/// gives the frames to be sent back. Every Err counts as a refusal: it comes only where the count
-/// of refusals rose in the call, or stands at its last value, 2^64 - 1.
+/// A layer has one incoming frame call, [`on_incoming_frame`]; the five that are named by a frame
+/// are calls of it. No call changes the state of the session. An incoming frame call that is Ok
+/// took its frame and gives the frames to be sent back. Every Err counts as a refusal: it comes
+/// only where the count of refusals rose in the call, or stands at its last value, 2^64 - 1.
 ///
 /// Frames that belong together are reviewed before the first of them is handed. After an Accept
 /// each is taken in its turn, or refused where memory runs out; a layer that is `sure` takes them
 /// all.
+///
+/// [`on_incoming_frame`]: LayerBelow::on_incoming_frame
 pub trait LayerBelow: Tells {
     ghost use Rattle.std.specs.Prelude.{◌≡◌, Bool, true, List, Option, Result};
     ghost use Rattle.std.specs.List.{list_all};
@@ -76,43 +79,10 @@ pub trait LayerBelow: Tells {
     fn local_state(&self) -> SessionState
         ensures { result ≡ (Self.told self.now).fixed.state };
 
-    /// An attach of a link that isn't a control link (section 2.7.3).
-    fn on_incoming_attach(&mut self, attach: Attach) -> Result<Frames, SessionInnerError>
-        ensures told { Takes (Self.told self.old) (Self.told self.new)
-            (frames.Attach attach) result }
-        ensures gives { incoming_gives self.old self.new (frames.Attach attach) result };
-
-    /// A flow (section 2.7.4).
-    fn on_incoming_flow(&mut self, flow: Flow) -> Result<Frames, SessionInnerError>
-        ensures told { Takes (Self.told self.old) (Self.told self.new)
-            (frames.Flow flow) result }
-        ensures gives { incoming_gives self.old self.new (frames.Flow flow) result };
-
-    /// A transfer with its payload (section 2.7.5).
-    fn on_incoming_transfer(
-        &mut self,
-        transfer: Transfer,
-        payload: Payload,
-    ) -> Result<Frames, SessionInnerError>
-        ensures told { Takes (Self.told self.old) (Self.told self.new)
-            (frames.Transfer transfer payload) result }
-        ensures gives { incoming_gives self.old self.new
-            (frames.Transfer transfer payload) result };
-
-    /// A disposition (section 2.7.6).
-    fn on_incoming_disposition(
-        &mut self,
-        disposition: Disposition,
-    ) -> Result<Frames, SessionInnerError>
-        ensures told { Takes (Self.told self.old) (Self.told self.new)
-            (frames.Disposition disposition) result }
-        ensures gives { incoming_gives self.old self.new (frames.Disposition disposition) result };
-
-    /// A detach (section 2.7.7).
-    fn on_incoming_detach(&mut self, detach: Detach) -> Result<Frames, SessionInnerError>
-        ensures told { Takes (Self.told self.old) (Self.told self.new)
-            (frames.Detach detach) result }
-        ensures gives { incoming_gives self.old self.new (frames.Detach detach) result };
+    /// A frame that isn't the attach of a control link (sections 2.7.3 to 2.7.7).
+    fn on_incoming_frame(&mut self, frame: Frame) -> Result<Frames, SessionInnerError>
+        ensures told { Takes (Self.told self.old) (Self.told self.new) frame result }
+        ensures gives { incoming_gives self.old self.new frame result };
 
     /// An attach to a coordinator (part 4, section 4.2): Ok opens the control link.
     fn on_control_attach(&mut self, attach: &Attach) -> Result<Frames, SessionInnerError>
@@ -144,4 +114,57 @@ pub trait LayerBelow: Tells {
         ensures told { Reviews (Self.told self.old) (Self.told self.new) frames.now result }
         ensures takes { OnAccept result (takes self.new frames.now) }
         ensures gives { review_gives self.old self.new frames.now result };
+
+    /// An attach of a link that isn't a control link (section 2.7.3).
+    final fn on_incoming_attach(&mut self, attach: Attach) -> Result<Frames, SessionInnerError>
+        ensures told { Takes (Self.told self.old) (Self.told self.new)
+            (frames.Attach attach) result }
+        ensures gives { incoming_gives self.old self.new (frames.Attach attach) result }
+    {
+        self.on_incoming_frame(Frame::Attach(attach))
+    }
+
+    /// A flow (section 2.7.4).
+    final fn on_incoming_flow(&mut self, flow: Flow) -> Result<Frames, SessionInnerError>
+        ensures told { Takes (Self.told self.old) (Self.told self.new)
+            (frames.Flow flow) result }
+        ensures gives { incoming_gives self.old self.new (frames.Flow flow) result }
+    {
+        self.on_incoming_frame(Frame::Flow(flow))
+    }
+
+    /// A transfer with its payload (section 2.7.5).
+    final fn on_incoming_transfer(
+        &mut self,
+        transfer: Transfer,
+        payload: Payload,
+    ) -> Result<Frames, SessionInnerError>
+        ensures told { Takes (Self.told self.old) (Self.told self.new)
+            (frames.Transfer transfer payload) result }
+        ensures gives { incoming_gives self.old self.new
+            (frames.Transfer transfer payload) result }
+    {
+        self.on_incoming_frame(Frame::Transfer { transfer, payload })
+    }
+
+    /// A disposition (section 2.7.6).
+    final fn on_incoming_disposition(
+        &mut self,
+        disposition: Disposition,
+    ) -> Result<Frames, SessionInnerError>
+        ensures told { Takes (Self.told self.old) (Self.told self.new)
+            (frames.Disposition disposition) result }
+        ensures gives { incoming_gives self.old self.new (frames.Disposition disposition) result }
+    {
+        self.on_incoming_frame(Frame::Disposition(disposition))
+    }
+
+    /// A detach (section 2.7.7).
+    final fn on_incoming_detach(&mut self, detach: Detach) -> Result<Frames, SessionInnerError>
+        ensures told { Takes (Self.told self.old) (Self.told self.new)
+            (frames.Detach detach) result }
+        ensures gives { incoming_gives self.old self.new (frames.Detach detach) result }
+    {
+        self.on_incoming_frame(Frame::Detach(detach))
+    }
 }

@@ -25,7 +25,6 @@
 #![tactic(auto)]
 
 mod answers;
-mod incoming;
 mod inner_error;
 mod layer;
 mod open;
@@ -35,7 +34,6 @@ mod tells;
 mod verdict;
 
 pub use answers::{Answers, Echoes};
-pub use incoming::on_incoming_frame;
 pub use inner_error::SessionInnerError;
 pub use layer::LayerBelow;
 pub use open::OpenSession;

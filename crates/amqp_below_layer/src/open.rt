@@ -4,9 +4,7 @@ use crate::inner_error::SessionInnerError;
 use crate::layer::LayerBelow;
 use crate::tells::Tells;
 use crate::verdict::Verdict;
-use amqp_txn_types::{
-    Attach, Detach, Disposition, Flow, Frames, NoMemory, Payload, SessionState, Transfer,
-};
+use amqp_txn_types::{Attach, Disposition, Flow, Frame, Frames, NoMemory, SessionState};
 use std::alloc::Global;
 
 /// A layer that is Mapped, takes every frame, gives none back, and refuses and vetoes nothing.
@@ -59,30 +57,7 @@ impl LayerBelow for OpenSession {
         SessionState::Mapped
     }
 
-    fn on_incoming_attach(&mut self, attach: Attach) -> Result<Frames, SessionInnerError> {
-        Ok(Frames::new(self.alloc))
-    }
-
-    fn on_incoming_flow(&mut self, flow: Flow) -> Result<Frames, SessionInnerError> {
-        Ok(Frames::new(self.alloc))
-    }
-
-    fn on_incoming_transfer(
-        &mut self,
-        transfer: Transfer,
-        payload: Payload,
-    ) -> Result<Frames, SessionInnerError> {
-        Ok(Frames::new(self.alloc))
-    }
-
-    fn on_incoming_disposition(
-        &mut self,
-        disposition: Disposition,
-    ) -> Result<Frames, SessionInnerError> {
-        Ok(Frames::new(self.alloc))
-    }
-
-    fn on_incoming_detach(&mut self, detach: Detach) -> Result<Frames, SessionInnerError> {
+    fn on_incoming_frame(&mut self, frame: Frame) -> Result<Frames, SessionInnerError> {
         Ok(Frames::new(self.alloc))
     }
 

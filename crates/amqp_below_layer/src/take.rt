@@ -7,7 +7,6 @@ ghost use Rattle.amqp_below_layer.specs.Reviewing.{TakesOn};
 ghost use Rattle.amqp_below_layer.specs.OneFrame.{ChecksFrame, ChecksGiven, GivesWindow, TakesFrame, TakesThrough};
 
 use crate::answers::Answers;
-use crate::incoming::on_incoming_frame;
 use crate::inner_error::SessionInnerError;
 use crate::layer::LayerBelow;
 use amqp_txn_types::{Flow, Frame};
@@ -73,7 +72,7 @@ pub fn take_frame<S: LayerBelow>(below: &mut S, frame: Frame) -> Result<Answers,
     ensures on { TakesOn S.takes S.sure below.old below.new frame result }
 {
     let with_window = is_transfer(&frame);
-    let given = match on_incoming_frame(below, frame) {
+    let given = match below.on_incoming_frame(frame) {
         Ok(given) => given,
         Err(error) => {
             return Err(TakeError {

@@ -1,8 +1,8 @@
 //! A layer below that keeps what the layer in it took.
 
 ghost use Rattle.std.specs.Prelude.{◌≡◌, ◌↔◌, [], Some, IsTrue};
-ghost use Rattle.amqp_below_layer.specs.Told.{Told, Takes, planned, starving};
-ghost use Rattle.amqp_below_recorder.specs.Recording.{IsFresh, RecordsCall, SetsPlans, StartsOver, calls_of, inner_of, is_unused, own_of, own_vetoes_of, plan_of, starved_of};
+ghost use Rattle.amqp_below_layer.specs.Told.{Told, planned, starving};
+ghost use Rattle.amqp_below_recorder.specs.Recording.{IsFresh, SetsPlans, StartsOver, calls_of, inner_of, is_unused, own_of, own_vetoes_of, plan_of, starved_of};
 
 mod listener_calls;
 mod session_calls;
@@ -12,11 +12,10 @@ use crate::call_numbers::{any_refused, planned_for};
 use crate::keeping::{after_call, before_call, keep_refusal, keep_taken, prepare, prepare_review};
 use amqp_below_layer::{
     Exchanges, LayerBelow, Openings, Refusals, Reviews, SessionInnerError, Tells, Verdict,
-    on_incoming_frame,
 };
 use amqp_txn_types::{
-    Attach, CallNumbers, Detach, Disposition, Flow, Frame, Frames, NoMemory, Payload, SessionState,
-    Transfer, count_one, refuse,
+    Attach, CallNumbers, Disposition, Flow, Frame, Frames, NoMemory, SessionState, count_one,
+    refuse,
 };
 use std::alloc::Global;
 
@@ -159,36 +158,6 @@ impl<S: LayerBelow> Recorder<S> {
             && self.opened.len() == 0
             && self.refused.len() == 0
     }
-
-    /// The frame through the layer in it. Room for what is kept is made first.
-    #[inline(always)]
-    fn take(&mut self, frame: Frame) -> Result<Frames, SessionInnerError>
-        ensures told { Takes (⟦<Recorder<S> as Tells>⟧.told self.old)
-            (⟦<Recorder<S> as Tells>⟧.told self.new) frame result }
-        ensures gives { RecordsCall S.told S.incoming_gives self.old self.new frame result }
-    {
-        self.unused = false;
-        self.calls = self.calls.saturating_add(1);
-        let planned = planned_for(&self.plan, &self.starved, self.calls);
-        let exchanges = &mut self.exchanges.items;
-        let refused = &mut self.refused.items;
-        let copy = match before_call(planned, &frame, exchanges, refused) {
-            Ok(copy) => copy,
-            Err(error) => {
-                drop(frame);
-                return refuse(&mut self.refusals, error);
-            }
-        };
-        let answer = on_incoming_frame(&mut self.session, frame);
-        after_call(
-            self.alloc,
-            exchanges,
-            refused,
-            &mut self.refusals,
-            copy,
-            answer,
-        )
-    }
 }
 
 impl<S: LayerBelow> Tells for Recorder<S> {
@@ -253,31 +222,30 @@ impl<S: LayerBelow> LayerBelow for Recorder<S> {
         self.session.local_state()
     }
 
-    fn on_incoming_attach(&mut self, attach: Attach) -> Result<Frames, SessionInnerError> {
-        self.take(Frame::Attach(attach))
-    }
-
-    fn on_incoming_flow(&mut self, flow: Flow) -> Result<Frames, SessionInnerError> {
-        self.take(Frame::Flow(flow))
-    }
-
-    fn on_incoming_transfer(
-        &mut self,
-        transfer: Transfer,
-        payload: Payload,
-    ) -> Result<Frames, SessionInnerError> {
-        self.take(Frame::Transfer { transfer, payload })
-    }
-
-    fn on_incoming_disposition(
-        &mut self,
-        disposition: Disposition,
-    ) -> Result<Frames, SessionInnerError> {
-        self.take(Frame::Disposition(disposition))
-    }
-
-    fn on_incoming_detach(&mut self, detach: Detach) -> Result<Frames, SessionInnerError> {
-        self.take(Frame::Detach(detach))
+    /// Room for what is kept is made first.
+    #[inline(always)]
+    fn on_incoming_frame(&mut self, frame: Frame) -> Result<Frames, SessionInnerError> {
+        self.unused = false;
+        self.calls = self.calls.saturating_add(1);
+        let planned = planned_for(&self.plan, &self.starved, self.calls);
+        let exchanges = &mut self.exchanges.items;
+        let refused = &mut self.refused.items;
+        let copy = match before_call(planned, &frame, exchanges, refused) {
+            Ok(copy) => copy,
+            Err(error) => {
+                drop(frame);
+                return refuse(&mut self.refusals, error);
+            }
+        };
+        let answer = self.session.on_incoming_frame(frame);
+        after_call(
+            self.alloc,
+            exchanges,
+            refused,
+            &mut self.refusals,
+            copy,
+            answer,
+        )
     }
 
     fn on_control_attach(&mut self, attach: &Attach) -> Result<Frames, SessionInnerError> {

@@ -6,22 +6,19 @@ ghost use Rattle.amqp_below_sessions.specs.Numbers.{at_first};
 ghost use Rattle.amqp_below_sessions.specs.Plain.{is_due};
 ghost use Rattle.amqp_below_sessions.specs.PlainSessions.{begin_of, channel_of, connection_stop_of, incoming_of, links_of, numbers_of, refusals_of, slots_of, state_of, stop_of, untold_of, vetoes_of};
 
+mod frame_calls;
 mod session_calls;
 mod transactional_calls;
 
-use crate::link_frames::{
-    attach_link, control_error, count_transfer, detach_link, pass_flow, place_control_link,
-    takes_all,
-};
+use crate::link_frames::{control_error, place_control_link, takes_all};
 use crate::links::Links;
 use crate::numbers::SessionNumbers;
 use crate::relay::Relay;
 use crate::state_moves::require_mapped;
 use amqp_below_layer::{LayerBelow, SessionInnerError, Tells, Verdict};
 use amqp_txn_types::{
-    Attach, Begin, ConnectionStopReason, Detach, Disposition, Flow, Frames, IncomingChannel,
-    NoMemory, OutgoingChannel, OutputHandle, Payload, SessionState, SessionStopReason, Transfer,
-    refuse,
+    Attach, Begin, ConnectionStopReason, Disposition, Flow, Frame, Frames, IncomingChannel,
+    NoMemory, OutgoingChannel, OutputHandle, SessionState, SessionStopReason, refuse,
 };
 use std::alloc::Global;
 
@@ -136,61 +133,13 @@ impl LayerBelow for PlainSession {
         self.state
     }
 
-    fn on_incoming_attach(&mut self, attach: Attach) -> Result<Frames, SessionInnerError> {
-        match attach_link(self.state, &mut self.links, attach) {
-            Ok(()) => Ok(Frames::new(self.alloc)),
-            Err(error) => refuse(&mut self.refusals, error),
-        }
-    }
-
-    fn on_incoming_flow(&mut self, flow: Flow) -> Result<Frames, SessionInnerError> {
-        let mut numbers = self.numbers;
-        numbers.note_flow(&flow);
-        match pass_flow(self.state, &mut self.links, flow) {
-            Ok(()) => {
-                self.numbers = numbers;
-                Ok(Frames::new(self.alloc))
-            }
-            Err(error) => {
-                self.numbers = either(error.is_unattached(), numbers, self.numbers);
-                refuse(&mut self.refusals, error)
-            }
-        }
-    }
-
-    fn on_incoming_transfer(
-        &mut self,
-        transfer: Transfer,
-        payload: Payload,
-    ) -> Result<Frames, SessionInnerError> {
-        let handle = transfer.handle;
-        drop(transfer);
-        drop(payload);
-        match count_transfer(self.state, &mut self.links, handle) {
-            Ok(()) => {
-                self.numbers.count_incoming();
-                self.transfers_since_window = self.transfers_since_window.saturating_add(1);
-                Ok(Frames::new(self.alloc))
-            }
-            Err(error) => refuse(&mut self.refusals, error),
-        }
-    }
-
-    fn on_incoming_disposition(
-        &mut self,
-        disposition: Disposition,
-    ) -> Result<Frames, SessionInnerError> {
-        drop(disposition);
-        match require_mapped(self.state) {
-            Ok(()) => Ok(Frames::new(self.alloc)),
-            Err(error) => refuse(&mut self.refusals, error),
-        }
-    }
-
-    fn on_incoming_detach(&mut self, detach: Detach) -> Result<Frames, SessionInnerError> {
-        match detach_link(self.alloc, self.state, &mut self.links, detach) {
-            Ok(given) => Ok(given),
-            Err(error) => refuse(&mut self.refusals, error),
+    fn on_incoming_frame(&mut self, frame: Frame) -> Result<Frames, SessionInnerError> {
+        match frame {
+            Frame::Attach(attach) => self.hear_attach(attach),
+            Frame::Flow(flow) => self.hear_flow(flow),
+            Frame::Transfer { transfer, payload } => self.hear_transfer(transfer, payload),
+            Frame::Disposition(disposition) => self.hear_disposition(disposition),
+            Frame::Detach(detach) => self.hear_detach(detach),
         }
     }
 

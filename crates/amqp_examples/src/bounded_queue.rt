@@ -6,8 +6,8 @@ ghost use Rattle.amqp_txn_types.specs.Frames.{is_transfer};
 
 use amqp_below_layer::{LayerBelow, SessionInnerError, Tells, Verdict};
 use amqp_txn_types::{
-    Attach, Detach, Disposition, Flow, Frame, Frames, Items, NoMemory, Payload, SessionState,
-    Transfer, count_one, refuse,
+    Attach, Disposition, Flow, Frame, Frames, Items, NoMemory, Payload, SessionState, count_one,
+    refuse,
 };
 use std::alloc::Global;
 use std::marker::Model;
@@ -123,19 +123,22 @@ impl LayerBelow for BoundedQueue {
         SessionState::Mapped
     }
 
-    fn on_incoming_transfer(
-        &mut self,
-        transfer: Transfer,
-        payload: Payload,
-    ) -> Result<Frames, SessionInnerError> {
-        drop(transfer);
-        if self.room() == 0 {
-            drop(payload);
-            return refuse(&mut self.refusals, SessionInnerError::IllegalState);
-        }
-        match self.messages.append(payload) {
-            Ok(()) => Ok(Frames::new(self.alloc)),
-            Err(_) => refuse(&mut self.refusals, SessionInnerError::NoMemory),
+    fn on_incoming_frame(&mut self, frame: Frame) -> Result<Frames, SessionInnerError> {
+        match frame {
+            Frame::Transfer { transfer, payload } => {
+                drop(transfer);
+                if self.room() == 0 {
+                    drop(payload);
+                    return refuse(&mut self.refusals, SessionInnerError::IllegalState);
+                }
+                match self.messages.append(payload) {
+                    Ok(()) => Ok(Frames::new(self.alloc)),
+                    Err(_) => refuse(&mut self.refusals, SessionInnerError::NoMemory),
+                }
+            }
+            Frame::Attach(_) | Frame::Flow(_) | Frame::Disposition(_) | Frame::Detach(_) => {
+                Ok(Frames::new(self.alloc))
+            }
         }
     }
 
@@ -145,25 +148,6 @@ impl LayerBelow for BoundedQueue {
         }
         count_one(&mut self.vetoes);
         Ok(Verdict::Veto)
-    }
-
-    fn on_incoming_attach(&mut self, attach: Attach) -> Result<Frames, SessionInnerError> {
-        Ok(Frames::new(self.alloc))
-    }
-
-    fn on_incoming_flow(&mut self, flow: Flow) -> Result<Frames, SessionInnerError> {
-        Ok(Frames::new(self.alloc))
-    }
-
-    fn on_incoming_disposition(
-        &mut self,
-        disposition: Disposition,
-    ) -> Result<Frames, SessionInnerError> {
-        Ok(Frames::new(self.alloc))
-    }
-
-    fn on_incoming_detach(&mut self, detach: Detach) -> Result<Frames, SessionInnerError> {
-        Ok(Frames::new(self.alloc))
     }
 
     fn on_control_attach(&mut self, attach: &Attach) -> Result<Frames, SessionInnerError> {

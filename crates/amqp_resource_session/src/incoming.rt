@@ -2,15 +2,15 @@
 
 ghost use Rattle.std.specs.Prelude.{◌≡◌, ◌≤◌, None, Some};
 ghost use Rattle.amqp_txn_types.specs.Frames.{txn};
-ghost use Rattle.amqp_below_layer.specs.Told.{Opens, Takes};
-ghost use Rattle.amqp_resource_session.specs.Hearing.{Hears, HearsAttach, HearsControl, HearsFrame, HearsPlain, HearsUnder, OpensControl};
+ghost use Rattle.amqp_below_layer.specs.Told.{Opens};
+ghost use Rattle.amqp_resource_session.specs.Hearing.{Hears, HearsAttach, HearsControl, HearsPlain, HearsUnder, OpensControl};
 ghost use Rattle.amqp_resource_session.specs.Opening.{frames_of};
 ghost use Rattle.amqp_txn_types.specs.Counts.{counted};
 ghost use Rattle.amqp_resource_session.specs.Session.{FitsTogether, below_of, is_live_on, own_told, refusals_of, stop_of, told_of, vetoes_of};
 
 use crate::frame_steps::{KeptWork, LinkOpening, control_attach_of, keep_under, open_control};
 use crate::session::TxnSession;
-use amqp_below_layer::{LayerBelow, SessionInnerError, on_incoming_frame};
+use amqp_below_layer::{LayerBelow, SessionInnerError};
 use amqp_resource_record::{StopCode, code_of_fault};
 use amqp_txn_types::{Attach, Frame, Frames, TransactionId, refuse, txn_of};
 
@@ -46,7 +46,7 @@ impl<S: LayerBelow> TxnSession<S> {
         ensures later { refusals_of self.old ≤ refusals_of self.new }
         ensures vetoes { vetoes_of self.new ≡ vetoes_of self.old }
     {
-        match on_incoming_frame(&mut self.below, frame) {
+        match self.below.on_incoming_frame(frame) {
             Ok(given) => Ok(given),
             Err(error) => {
                 self.stop = Some(code_of_fault(&error));
@@ -91,7 +91,7 @@ impl<S: LayerBelow> TxnSession<S> {
     }
 
     /// A frame by its kind.
-    fn hear(&mut self, frame: Frame) -> Result<Frames, SessionInnerError>
+    pub(crate) fn hear(&mut self, frame: Frame) -> Result<Frames, SessionInnerError>
         ensures hears { Hears S.told S.incoming_gives S.opening_gives self.old self.new frame
             result }
         ensures fits { FitsTogether self.old → FitsTogether self.new }
@@ -115,15 +115,6 @@ impl<S: LayerBelow> TxnSession<S> {
             return answer;
         }
         self.hear_plain(frame)
-    }
-
-    /// A frame that comes by one of the five calls.
-    pub(crate) fn take(&mut self, frame: Frame) -> Result<Frames, SessionInnerError>
-        ensures told { Takes (own_told S.told self.old) (own_told S.told self.new) frame result }
-        ensures gives { HearsFrame S.told S.incoming_gives S.opening_gives self.old self.new frame
-            result }
-    {
-        self.hear(frame)
     }
 
     /// The attach of a control link.

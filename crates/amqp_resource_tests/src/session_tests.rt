@@ -93,13 +93,16 @@ impl LayerBelow for Unsettling {
 
     ghost window_stays_on = { λ _ _ _ _ _ takes. takes };
 
-    fn on_incoming_transfer(
-        &mut self,
-        transfer: Transfer,
-        payload: Payload,
-    ) -> Result<Frames, SessionInnerError> {
-        let next = replace(&mut self.second, Frames::new(self.alloc));
-        Ok(replace(&mut self.first, next))
+    fn on_incoming_frame(&mut self, frame: Frame) -> Result<Frames, SessionInnerError> {
+        match frame {
+            Frame::Transfer { transfer, payload } => {
+                drop(transfer);
+                drop(payload);
+                let next = replace(&mut self.second, Frames::new(self.alloc));
+                Ok(replace(&mut self.first, next))
+            }
+            other => self.open.on_incoming_frame(other),
+        }
     }
 
     fn on_outgoing_disposition(
@@ -110,31 +113,12 @@ impl LayerBelow for Unsettling {
         Err(SessionInnerError::NoMemory)
     }
 
-    fn on_incoming_disposition(
-        &mut self,
-        disposition: Disposition,
-    ) -> Result<Frames, SessionInnerError> {
-        self.open.on_incoming_disposition(disposition)
-    }
-
     fn local_state(&self) -> SessionState {
         self.open.local_state()
     }
 
     fn on_control_attach(&mut self, attach: &Attach) -> Result<Frames, SessionInnerError> {
         self.open.on_control_attach(attach)
-    }
-
-    fn on_incoming_attach(&mut self, attach: Attach) -> Result<Frames, SessionInnerError> {
-        self.open.on_incoming_attach(attach)
-    }
-
-    fn on_incoming_flow(&mut self, flow: Flow) -> Result<Frames, SessionInnerError> {
-        self.open.on_incoming_flow(flow)
-    }
-
-    fn on_incoming_detach(&mut self, detach: Detach) -> Result<Frames, SessionInnerError> {
-        self.open.on_incoming_detach(detach)
     }
 
     fn maybe_outgoing_session_flow(&mut self) -> Option<Flow> {

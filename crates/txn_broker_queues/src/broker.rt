@@ -11,6 +11,8 @@ ghost use Rattle.txn_broker_queues.specs.Given.{answered, given_back, refusal};
 ghost use Rattle.txn_broker_queues.specs.Keeping.{queue_names, same_handle};
 ghost use Rattle.txn_broker_queues.specs.Taking.{Admitted, Answered, NotTook, SameCounts, taken_of};
 
+mod frame_calls;
+
 use crate::answering::{answer_attach, answer_credit, answer_detach};
 use crate::copies::copy_messages;
 use crate::link::{Link, address_of, is_sender};
@@ -19,8 +21,8 @@ use crate::queues::Queues;
 use crate::reviewing::{any_refused, queue_of_transfer};
 use amqp_below_layer::{LayerBelow, SessionInnerError, Tells, Verdict};
 use amqp_txn_types::{
-    Attach, Detach, Disposition, Flow, Frame, Frames, Handle, NoMemory, Payload, Role,
-    SessionState, Text, Transfer, TryClone, refuse,
+    Attach, Detach, Disposition, Flow, Frame, Frames, Handle, NoMemory, Role, SessionState, Text,
+    Transfer, TryClone, refuse,
 };
 use std::alloc::Global;
 use std::collections::HashMap;
@@ -315,81 +317,13 @@ impl LayerBelow for Broker {
         SessionState::Mapped
     }
 
-    fn on_incoming_attach(&mut self, attach: Attach) -> Result<Frames, SessionInnerError> {
-        let (given, kept) = match self.answer_attach(&attach) {
-            Ok(answers) => answers,
-            Err(error) => {
-                drop(attach);
-                return refuse(&mut self.refusals, error);
-            }
-        };
-        let Some(address) = address_of(&attach) else {
-            unreachable!()
-        };
-        let (handle, peer) = (attach.handle, attach.role);
-        match attach_link(&mut self.links, &mut self.queues, handle, peer, address) {
-            Ok(()) => {
-                self.journal.push_reserved((Frame::Attach(attach), kept));
-                Ok(given)
-            }
-            Err(_) => {
-                drop(attach);
-                refuse(&mut self.refusals, SessionInnerError::NoMemory)
-            }
-        }
-    }
-
-    fn on_incoming_flow(&mut self, flow: Flow) -> Result<Frames, SessionInnerError> {
-        match self.answer_flow(&flow) {
-            Ok((given, kept)) => {
-                self.journal.push_reserved((Frame::Flow(flow), kept));
-                Ok(given)
-            }
-            Err(error) => refuse(&mut self.refusals, error),
-        }
-    }
-
-    fn on_incoming_transfer(
-        &mut self,
-        transfer: Transfer,
-        payload: Payload,
-    ) -> Result<Frames, SessionInnerError> {
-        match self.admit(&transfer) {
-            Ok(queue) => {
-                self.queues.push(self.journal.len(), queue);
-                let frame = Frame::Transfer { transfer, payload };
-                self.journal.push_reserved((frame, Frames::new(self.alloc)));
-                Ok(Frames::new(self.alloc))
-            }
-            Err(error) => {
-                drop(transfer);
-                drop(payload);
-                refuse(&mut self.refusals, error)
-            }
-        }
-    }
-
-    fn on_incoming_disposition(
-        &mut self,
-        disposition: Disposition,
-    ) -> Result<Frames, SessionInnerError> {
-        if self.journal.reserve(1).is_err() {
-            return refuse(&mut self.refusals, SessionInnerError::NoMemory);
-        }
-        self.queues.remove_covered(&disposition);
-        let frame = Frame::Disposition(disposition);
-        self.journal.push_reserved((frame, Frames::new(self.alloc)));
-        Ok(Frames::new(self.alloc))
-    }
-
-    fn on_incoming_detach(&mut self, detach: Detach) -> Result<Frames, SessionInnerError> {
-        match self.answer_detach(&detach) {
-            Ok((given, kept)) => {
-                let _link = self.links.remove(&detach.handle);
-                self.journal.push_reserved((Frame::Detach(detach), kept));
-                Ok(given)
-            }
-            Err(error) => refuse(&mut self.refusals, error),
+    fn on_incoming_frame(&mut self, frame: Frame) -> Result<Frames, SessionInnerError> {
+        match frame {
+            Frame::Attach(attach) => self.hear_attach(attach),
+            Frame::Flow(flow) => self.hear_flow(flow),
+            Frame::Transfer { transfer, payload } => self.hear_transfer(transfer, payload),
+            Frame::Disposition(disposition) => self.hear_disposition(disposition),
+            Frame::Detach(detach) => self.hear_detach(detach),
         }
     }
 

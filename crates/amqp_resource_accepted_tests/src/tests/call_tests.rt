@@ -6,7 +6,7 @@ use amqp_accept_at_once::AcceptingListener;
 use amqp_accept_links::{ControlLinkAcceptor, LinkAcceptor};
 use amqp_accept_listener::ListenerSession;
 use amqp_below_ids::CountIds;
-use amqp_below_layer::{LayerBelow, SessionInnerError, on_incoming_frame};
+use amqp_below_layer::{LayerBelow, SessionInnerError};
 use amqp_below_sessions::{HandleDeclare, NameState, PlainSession, Session};
 use amqp_engine_builder::Builder;
 use amqp_resource_session::{HandleControlLink, TxnSession, numbered_id};
@@ -54,7 +54,7 @@ fn count_given(answer: Result<Frames, SessionInnerError>) -> usize {
 
 /// How many frames are given back for a frame; 100 where it was refused.
 fn heard(session: &mut Listening, frame: Frame) -> usize {
-    count_given(on_incoming_frame(session, frame))
+    count_given(session.on_incoming_frame(frame))
 }
 
 #[test]

@@ -3,8 +3,8 @@
 use crate::session::TxnSession;
 use amqp_below_layer::{LayerBelow, SessionInnerError, Verdict};
 use amqp_txn_types::{
-    Attach, Detach, Disposition, Flow, Frame, Frames, NoMemory, Payload, SessionState, Transfer,
-    count_answer, count_one, refuse,
+    Attach, Disposition, Flow, Frame, Frames, NoMemory, SessionState, count_answer, count_one,
+    refuse,
 };
 
 impl<S: LayerBelow> LayerBelow for TxnSession<S> {
@@ -49,31 +49,8 @@ impl<S: LayerBelow> LayerBelow for TxnSession<S> {
         self.below.local_state()
     }
 
-    fn on_incoming_attach(&mut self, attach: Attach) -> Result<Frames, SessionInnerError> {
-        self.take(Frame::Attach(attach))
-    }
-
-    fn on_incoming_flow(&mut self, flow: Flow) -> Result<Frames, SessionInnerError> {
-        self.take(Frame::Flow(flow))
-    }
-
-    fn on_incoming_transfer(
-        &mut self,
-        transfer: Transfer,
-        payload: Payload,
-    ) -> Result<Frames, SessionInnerError> {
-        self.take(Frame::Transfer { transfer, payload })
-    }
-
-    fn on_incoming_disposition(
-        &mut self,
-        disposition: Disposition,
-    ) -> Result<Frames, SessionInnerError> {
-        self.take(Frame::Disposition(disposition))
-    }
-
-    fn on_incoming_detach(&mut self, detach: Detach) -> Result<Frames, SessionInnerError> {
-        self.take(Frame::Detach(detach))
+    fn on_incoming_frame(&mut self, frame: Frame) -> Result<Frames, SessionInnerError> {
+        self.hear(frame)
     }
 
     fn on_control_attach(&mut self, attach: &Attach) -> Result<Frames, SessionInnerError> {
