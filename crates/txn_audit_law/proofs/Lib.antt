@@ -1,6 +1,10 @@
+pub mod Lists
 pub mod Texts
 pub mod Words
 pub mod Reading
 pub mod Reports
 pub mod Fitting
 pub mod Runs
+pub mod Spelled
+pub mod Handed
+pub mod Written

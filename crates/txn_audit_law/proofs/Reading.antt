@@ -246,11 +246,11 @@ detach-read handle closed a = let e = short-read handle a in let f = bool-read c
 
 frame-read : (frame : Frame) → CanBeShown frame → frame_words (kind_of frame) (words_after frame) ≡ Some tt
 unfolding frame_words
-frame-read (frames.Attach attach) s = attach-read attach.name attach.handle.0 attach.role s.0 s.1
-frame-read (frames.Flow flow) s = flow-read flow.handle flow.link_credit s.0 s.1
-frame-read (frames.Transfer transfer payload) s = transfer-read transfer.handle.0 transfer.delivery_id transfer.settled transfer.state payload s.0 s.1 s.2 s.3
-frame-read (frames.Disposition disposition) s = disposition-read disposition.role disposition.first disposition.last disposition.settled disposition.state s.0 s.1 s.2
-frame-read (frames.Detach detach) s = detach-read detach.handle.0 detach.closed s
+frame-read (frames.Attach attach) s = attach-read attach.name attach.handle.0 attach.role s.1 s.0
+frame-read (frames.Flow flow) s = flow-read flow.handle flow.link_credit s.0.0 s.0.1
+frame-read (frames.Transfer transfer payload) s = transfer-read transfer.handle.0 transfer.delivery_id transfer.settled transfer.state payload s.0.0 s.0.1 s.0.2 s.0.3
+frame-read (frames.Disposition disposition) s = disposition-read disposition.role disposition.first disposition.last disposition.settled disposition.state s.0.0 s.0.1 s.0.2
+frame-read (frames.Detach detach) s = detach-read detach.handle.0 detach.closed s.0
 
 -- the line of a frame that can be shown is one of a frame
 pub out_line-read : (frame : Frame) → CanBeShown frame → is_out_line (out_text frame) ≡ true

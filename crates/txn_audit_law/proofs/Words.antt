@@ -185,7 +185,7 @@ pub free_after : (b : Bool) (frame : Frame) → CanBeShown frame → list_all (i
 free_after b (frames.Attach attach) s =
     let role = role_word attach.role ∷ [] in
     let handle = decimal attach.handle.0 ∷ role in
-    more b attach.name handle (free_name b attach.name s.0)
+    more b attach.name handle (free_name b attach.name s.1)
     (more b (decimal attach.handle.0) role (free-decimal (parting b) attach.handle.0 (low b))
     (more b (role_word attach.role) [] (free_role b attach.role) refl))
 free_after b (frames.Flow flow) s =

@@ -19,10 +19,13 @@ use Rattle.txn_audit_law.specs.Shown.{CanBeShown}
 abbrev pub frames_taken : List (Frame × List Frame) → List Frame
 frames_taken taken = map (λ (exchange : Frame × List Frame). exchange.0) taken
 
+-- the frames that the replies hold
+abbrev pub frames_given : List Entry → List Frame
+frames_given entries = flat_map (λ (entry : Entry). reply_frames entry.reply) entries
+
 -- each frame that a report of the run shows can be shown
 pub record AllShown (driven : Driven) (exchanges : List (Frame × List Frame)) : Type 0 where
-  pub given : All CanBeShown
-      (flat_map (λ (entry : Entry). reply_frames entry.reply) driven.entries)
+  pub given : All CanBeShown (frames_given driven.entries)
   pub taken : All CanBeShown (frames_taken exchanges)
 
 -- a run of the steps that drew the next ids: its record is a legal one of the first of the steps, it

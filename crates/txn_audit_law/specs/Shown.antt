@@ -24,15 +24,23 @@ IsState (states.Declared declared) = IsId declared.txn_id
 IsState (states.TransactionalState under) = IsId under.txn_id
 IsState _ = Unit {0}
 
--- numbers, ids and octets are within their types, as those of every frame are, and a name is one
--- that a line can spell
-abbrev pub CanBeShown : Frame → Type 0
-CanBeShown (frames.Attach attach) = (is_name attach.name ≡ true) × IsShort attach.handle.0
-CanBeShown (frames.Flow flow) =
+-- numbers, ids and octets are within their types, as those of each frame that a program holds are
+abbrev pub IsWithinTypes : Frame → Type 0
+IsWithinTypes (frames.Attach attach) = IsShort attach.handle.0
+IsWithinTypes (frames.Flow flow) =
     IfSome flow.handle (λ (handle : Handle). IsShort handle.0) × IfSome flow.link_credit IsShort
-CanBeShown (frames.Transfer transfer payload) =
+IsWithinTypes (frames.Transfer transfer payload) =
     IsShort transfer.handle.0 × IfSome transfer.delivery_id IsShort
     × IfSome transfer.state IsState × IsBytes payload
-CanBeShown (frames.Disposition disposition) =
+IsWithinTypes (frames.Disposition disposition) =
     IsShort disposition.first × IfSome disposition.last IsShort × IfSome disposition.state IsState
-CanBeShown (frames.Detach detach) = IsShort detach.handle.0
+IsWithinTypes (frames.Detach detach) = IsShort detach.handle.0
+
+-- an attach has a name that a line can spell
+abbrev pub IsSpellable : Frame → Type 0
+IsSpellable (frames.Attach attach) = is_name attach.name ≡ true
+IsSpellable _ = Unit {0}
+
+-- a line can show the frame
+abbrev pub CanBeShown : Frame → Type 0
+CanBeShown frame = IsWithinTypes frame × IsSpellable frame
