@@ -1,0 +1,13 @@
+//! The text of steps, frames and replies, as the core reads and writes it.
+
+mod put;
+mod report;
+mod unread;
+mod words;
+
+pub(crate) use put::{
+    put, put_bool, put_hex, put_number, put_optional, put_outcome, put_payload, put_settled, show,
+};
+pub(crate) use report::{read_answer, read_frames, read_stop};
+pub use unread::Unread;
+pub(crate) use words::Words;
