@@ -412,6 +412,10 @@ class UnknownId:
     def description(self) -> Optional[str]:
         return self.text.value
 
+    def __str__(self) -> str:
+        words = {RejectText.GLOBAL_ID: " global-id", RejectText.IDS_REPEAT: " ids-repeat"}
+        return "unknown-id" + words.get(self.text, "")
+
 
 @dataclass(frozen=True)
 class Rollback:
@@ -426,6 +430,9 @@ class Rollback:
     def description(self) -> Optional[str]:
         return None
 
+    def __str__(self) -> str:
+        return "rollback"
+
 
 TransactionError = Union[UnknownId, Rollback]
 
@@ -434,12 +441,18 @@ TransactionError = Union[UnknownId, Rollback]
 class Ok:
     """To a frame: a plain one was handed, or one under a live transaction is held."""
 
+    def __str__(self) -> str:
+        return "ok"
+
 
 @dataclass(frozen=True)
 class Attached:
     """The control link was opened, with this number."""
 
     link: int
+
+    def __str__(self) -> str:
+        return f"attached {self.link}"
 
 
 @dataclass(frozen=True)
@@ -448,21 +461,33 @@ class AttachRefused:
 
     refusal: Refusal
 
+    def __str__(self) -> str:
+        return f"attach-refused {self.refusal.value}"
+
 
 @dataclass(frozen=True)
 class LinkEnded:
     """The control link ended, and what was declared on it was rolled back."""
+
+    def __str__(self) -> str:
+        return "link-ended"
 
 
 @dataclass(frozen=True)
 class NoLink:
     """The control link isn't open."""
 
+    def __str__(self) -> str:
+        return "no-link"
+
 
 @dataclass(frozen=True)
 class LinkClosed:
     """The payload was no control message: the link is closed with `amqp:not-allowed`, as if it had
     ended."""
+
+    def __str__(self) -> str:
+        return "link-closed not-allowed"
 
 
 @dataclass(frozen=True)
@@ -471,10 +496,16 @@ class Declared:
 
     txn_id: TransactionId
 
+    def __str__(self) -> str:
+        return f"declared {self.txn_id}"
+
 
 @dataclass(frozen=True)
 class Accepted:
     """To a discharge: the transaction is committed or rolled back, as was asked."""
+
+    def __str__(self) -> str:
+        return "accepted"
 
 
 @dataclass(frozen=True)
@@ -482,6 +513,9 @@ class Rejected:
     """To a declare or a discharge: it is rejected."""
 
     error: TransactionError
+
+    def __str__(self) -> str:
+        return f"rejected {self.error}"
 
 
 Reply = Union[
