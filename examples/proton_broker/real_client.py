@@ -44,7 +44,7 @@ class Client(MessagingHandler, TransactionHandler):
 
     def on_start(self, event: Event) -> None:
         self.container = event.container
-        self.timer = self.container.schedule(RUN_SECONDS, self)
+        self.container.schedule(RUN_SECONDS, self)
         self.connection = self.container.connect(self.url, reconnect=False)
         self.sender = self.container.create_sender(self.connection, self.queue)
         self.open()
@@ -54,7 +54,7 @@ class Client(MessagingHandler, TransactionHandler):
         os._exit(1)
 
     def on_connection_closed(self, event: Event) -> None:
-        self.timer.cancel()
+        self.container.stop()
 
     def open(self) -> None:
         self.declare()

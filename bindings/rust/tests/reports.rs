@@ -33,7 +33,9 @@ impl Words {
                 "--refuse" => words.refused = numbers(lines.next()?),
                 "--starve" => words.starved = numbers(lines.next()?),
                 "--seed" => return None,
-                id => words.ids.push(u128::from_str_radix(id, 16).ok()?.to_be_bytes()),
+                id => words
+                    .ids
+                    .push(u128::from_str_radix(id, 16).ok()?.to_be_bytes()),
             }
         }
         (!words.ids.is_empty()).then_some(words)
