@@ -27,6 +27,8 @@ pub(crate) mod answers {
     pub(crate) const STOPPED: u32 = 1;
     pub(crate) const STOPPED_BEFORE: u32 = 2;
     pub(crate) const NO_MEMORY: u32 = 3;
+    #[cfg(test)]
+    pub(crate) const NOT_A_STEP: u32 = 6;
     pub(crate) const SHORT_BUFFER: u32 = 8;
     pub(crate) const NOT_LIVE: u32 = 9;
     pub(crate) const NOT_A_MESSAGE: u32 = 13;

@@ -2,6 +2,8 @@
 
 mod put;
 mod report;
+#[cfg(test)]
+mod tests;
 mod unread;
 mod words;
 
