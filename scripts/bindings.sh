@@ -41,9 +41,10 @@ crates_below() {
   ' "$top/crates.txt"
 }
 
-# Proves and builds the library, and what it stands on.
+# Proves and builds the library, and what it stands on; and puts into the archive the toolchain's
+# three functions over malloc, realloc and free, from which the library takes its memory.
 make_archive() {
-  local crate
+  local crate kit
   if [ "$DAXURBI_LIB_DIR" != "$top/crates/daxurbi/out" ]; then
     say "the archive is $archive"
     return
@@ -52,7 +53,10 @@ make_archive() {
     say "proves $crate"
     (cd "$top/crates/$crate" && rt lib) >"$made/log" 2>&1 || { tail -n 20 "$made/log"; return 1; }
   done
-  ls -l "$archive"
+  install binutils
+  kit=$(dirname "$(dirname "$(readlink -f "$(command -v rt)")")")
+  (cd "$made" && ar x "$kit/c/liblibc_c.a" && ar rs "$archive" ./*.o)
+  say "made $archive"
 }
 
 # The example in C: as it is, under valgrind, and with the sanitizers.

@@ -16,6 +16,8 @@ sys.path.insert(0, str(Path(__file__).resolve().parents[2] / "bindings" / "pytho
 from proton import Condition, Endpoint, Event, Handler
 from proton.reactor import Container
 
+from daxurbi import ConnectionStop
+
 from queues import Queue, Queues
 from serving import Served
 
@@ -59,7 +61,7 @@ class Broker(Handler):
         """The connection was closed, or is lost."""
         sessions = getattr(event.connection, "sessions", [])
         for served in sessions:
-            served.lose_connection()
+            served.end(ConnectionStop())
             self._sessions.remove(served)
         sessions.clear()
         self._turn()
@@ -72,13 +74,15 @@ class Broker(Handler):
         event.session.open()
 
     def on_session_remote_close(self, event: Event) -> None:
-        served = event.session.served
+        self._forget(event, event.session.served)
+        event.session.close()
+        self._turn()
+
+    def _forget(self, event: Event, served: Served) -> None:
         if served in self._sessions:
             served.end()
             self._sessions.remove(served)
             event.connection.sessions.remove(served)
-        event.session.close()
-        self._turn()
 
     # ---- links and messages ------------------------------------------------------------------
 
@@ -110,18 +114,19 @@ class Broker(Handler):
 
     def _turn(self, event: Event | None = None) -> None:
         """Ends a session that stopped, and sends what the queues have to who waits for it."""
-        if event is not None and event.session.served.is_over:
+        if event is not None and event.session.served.condition is not None:
             self._end_stopped(event)
         for served in self._sessions:
             served.send()
         self._show()
 
     def _end_stopped(self, event: Event) -> None:
-        """The session stopped: a frame came under an id that isn't live."""
-        if event.session.state & Endpoint.LOCAL_ACTIVE:
-            event.session.condition = Condition("amqp:transaction:unknown-id")
+        """The session stopped, as by a frame under an id that isn't live."""
+        served = event.session.served
+        if served in self._sessions:
+            event.session.condition = Condition(served.condition)
             event.session.close()
-        event.session.served.end()
+            self._forget(event, served)
 
     def _show(self) -> None:
         """Writes the queues where they changed."""

@@ -2,10 +2,10 @@
 """Runs an AMQP 1.0 client, qpid-proton's as it is, against the broker, and checks what it finds in
 the queues afterwards.
 
-    real_client.py [--trace FILE] [NAME ..]
+    real_client.py [--trace FILE] [--steps] [NAME ..]
 
 With names only those runs are made. --trace writes the frames on the wire of the run `commit`, as
-the client sees them, to a file.
+the client sees them, to a file; --steps shows what the broker's sessions are asked and answer.
 """
 
 from __future__ import annotations
@@ -185,6 +185,17 @@ class Full(Commit):
     """Three messages for a queue that has room for two: the commit is rejected."""
 
 
+class Late(Commit):
+    """Three messages, committed, and then one more under the same id: the session ends."""
+
+    def on_discharged(self, count: int) -> None:
+        self.post(self.declared[0], "late")
+
+    def on_session_error(self, event: Event) -> None:
+        tell(f"the session ended with {event.session.remote_condition.name}")
+        self.connection.close()
+
+
 class Retire(Client):
     """A message is received, accepted under a transaction that is rolled back, comes again, and is
     then accepted under one that commits."""
@@ -251,6 +262,7 @@ RUNS: dict[str, tuple[type[Client], list[str]]] = {
     "killed": (Killed, []),
     "two": (Two, ["second a", "second b", "first a", "first b"]),
     "full": (Full, []),
+    "late": (Late, ["one", "two", "three"]),
     "retire": (Retire, []),
     "retire-settled": (RetireSettled, []),
 }
@@ -280,7 +292,7 @@ def free_port() -> int:
         return listener.getsockname()[1]
 
 
-def run(name: str, trace: Optional[str]) -> bool:
+def run(name: str, trace: Optional[str], shows_steps: bool) -> bool:
     """Makes a run against a broker of its own; whether the queue holds what it should."""
     client, wanted = RUNS[name]
     print(f"{name}: {' '.join((client.__doc__ or '').split())}", flush=True)
@@ -288,6 +300,7 @@ def run(name: str, trace: Optional[str]) -> bool:
     url = f"127.0.0.1:{port}"
     limit = "2" if client is Full else "100"
     words = ["--port", str(port), "--limit", limit, "--seconds", str(3 * RUN_SECONDS)]
+    words += ["--steps"] * shows_steps
     broker = subprocess.Popen(
         [PYTHON, HERE / "broker.py", *words], stdout=subprocess.PIPE, text=True
     )
@@ -326,13 +339,14 @@ def run_client(name: str, url: str, trace: Optional[str]) -> int:
 def main() -> int:
     arguments = argparse.ArgumentParser(description=__doc__)
     arguments.add_argument("--trace", metavar="FILE")
+    arguments.add_argument("--steps", action="store_true")
     arguments.add_argument("--client", metavar="URL", help=argparse.SUPPRESS)
     arguments.add_argument("names", nargs="*", choices=[[], *RUNS], metavar="NAME")
     words = arguments.parse_args()
     if words.client is not None:
         Container(RUNS[words.names[0]][0](words.client, "q")).run()
         return 0
-    right = [run(name, words.trace) for name in words.names or RUNS]
+    right = [run(name, words.trace, words.steps) for name in words.names or RUNS]
     print(f"{len(right)} runs, {right.count(False)} of them wrong")
     return 0 if all(right) else 1
 

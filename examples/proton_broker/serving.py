@@ -10,10 +10,10 @@ from typing import Callable, Optional
 from proton import Condition, Delivery, Described, Link, Terminus, ulong
 
 import daxurbi
-from daxurbi import Accepted, Answer, Attach, AttachCoordinator, AttachRefused, Attached
-from daxurbi import ConnectionStop, Control, Declared, Detach, Discharge, Disposition, LinkClosed
-from daxurbi import LinkEnd, Outcome, Rejected, RemoteEnd, Role, Rollback, Step, TransactionId
-from daxurbi import TransactionalState, Transfer
+from daxurbi import Accepted, Answer, Attach, AttachCoordinator, AttachRefused
+from daxurbi import Control, Declared, Detach, Discharge, Disposition, LinkClosed
+from daxurbi import LinkEnd, Outcome, Rejected, RemoteEnd, Role, Rollback, Step, Stop
+from daxurbi import TransactionalState, TransactionId, Transfer
 
 from queues import Queues, SessionQueues, deliveries
 
@@ -27,6 +27,12 @@ OUTCOMES = {
     Delivery.MODIFIED: Outcome.MODIFIED,
 }
 DESCRIPTORS = {outcome: int(descriptor) for descriptor, outcome in OUTCOMES.items()}
+
+# What the peer is told where its session is over for a cause of its own.
+CONDITIONS = {
+    Stop.UNKNOWN_TXN_ID: "amqp:transaction:unknown-id",
+    Stop.REFUSED_UNATTACHED_HANDLE: "amqp:session:unattached-handle",
+}
 
 # How many messages a peer may send on a link before the broker has taken one.
 CREDIT = 100
@@ -43,7 +49,8 @@ class Served:
         self._layer = SessionQueues(queues)
         self._tell = tell
         self._log = log
-        self.is_over = False
+        # Why the session is over, as the condition of an error, once it stopped.
+        self.condition: Optional[str] = None
         # By handle: the links of the peer that aren't control links.
         self._links: dict[int, Link] = {}
         # By number: control links, and what was declared on each and hasn't ended.
@@ -61,14 +68,14 @@ class Served:
 
     def _step(self, step: Step) -> Optional[Answer]:
         """A step of the session, over the queues; none where it stopped the session, or had."""
-        if self.is_over:
+        if self.condition is not None:
             return None
         self._log(f"> {daxurbi.step_line(step)}")
         try:
             answer = self._core.step_over(step, self._layer)
         except daxurbi.SessionStopped as stopped:
             self._log(f"< stop {stopped.stop.value}")
-            self.is_over = True
+            self.condition = CONDITIONS.get(stopped.stop, "amqp:internal-error")
             return None
         self._log(f"< {answer.reply}")
         for frame in answer.sent_back:
@@ -114,7 +121,7 @@ class Served:
         self._next_handle += 1
         link.source.copy(link.remote_source)
         link.target.copy(link.remote_target)
-        if link.remote_target.type == Terminus.COORDINATOR:
+        if link.is_receiver and link.remote_target.type == Terminus.COORDINATOR:
             self._open_control_link(link, handle)
         else:
             self._open_plain_link(link, handle)
@@ -185,14 +192,18 @@ class Served:
             self._transfer(link.plain, delivery, payload)
 
     def _transfer(self, handle: int, delivery: Delivery, payload: bytes) -> None:
-        state = transactional_state(delivery)
+        state = self._transactional_state(delivery)
         if state is None and not self._layer.has_room(handle):
             reject(delivery, "amqp:resource-limit-exceeded", "the queue is full")
             return
         number = self._next_incoming
         self._next_incoming += 1
-        self._incoming[number] = delivery
-        self._step(Transfer(handle, number, delivery.settled, state, payload))
+        settled = delivery.settled
+        if settled:
+            delivery.settle()
+        else:
+            self._incoming[number] = delivery
+        self._step(Transfer(handle, number, settled, state, payload))
 
     def _control(self, number: int, delivery: Delivery, payload: bytes) -> None:
         """A message on a control link."""
@@ -228,21 +239,33 @@ class Served:
         number = delivery.number
         if number not in self._outgoing:
             return
-        state = transactional_state(delivery) or OUTCOMES.get(delivery.remote_state)
-        if isinstance(state, TransactionalState):
-            retired = self._retired.setdefault(state.txn_id, [])
-            if number in retired:
+        state = self._transactional_state(delivery) or OUTCOMES.get(delivery.remote_state)
+        if state is not None and state == getattr(delivery, "retired", None):
+            if state.txn_id in self._retired:
                 return
-            retired.append(number)
-        elif state is None and not delivery.settled:
-            return
-        self._step(Disposition(Role.RECEIVER, number, None, delivery.settled, state))
+            # The transaction was rolled back, and the peer has told no other state.
+            state = None
+        elif isinstance(state, TransactionalState):
+            delivery.retired = state
+            self._retired.setdefault(state.txn_id, []).append(number)
+        if state is not None or delivery.settled:
+            self._step(Disposition(Role.RECEIVER, number, None, delivery.settled, state))
+
+    def _transactional_state(self, delivery: Delivery) -> Optional[TransactionalState]:
+        """The state of a delivery at the peer, where it is under a transaction. An id that no
+        transaction can have ends the session, as one does that isn't live."""
+        try:
+            return transactional_state(delivery)
+        except (TypeError, ValueError):
+            self.condition = CONDITIONS[Stop.UNKNOWN_TXN_ID]
+            return None
 
     def _committed(self, number: int, message: Discharge, handed: int) -> None:
         txn_id = TransactionId(message.txn_id)
         self._live[number].remove(txn_id)
         self._retired.pop(txn_id, None)
-        self._tell(f"a transaction was committed: {handed} frames handed")
+        frames = "frame" if handed == 1 else "frames"
+        self._tell(f"a transaction was committed: {handed} {frames} handed")
 
     def _rolled_back(self, number: int, message: Discharge, why: str) -> None:
         txn_id = TransactionId(message.txn_id)
@@ -266,32 +289,35 @@ class Served:
 
     def send(self) -> None:
         """Sends what the queues have to the receivers that have credit for it."""
+        if self.condition is not None:
+            return
         for handle, link in self._links.items():
-            while link.is_sender and link.credit > 0:
-                lent = self._layer.lend(handle)
-                if lent is None:
-                    break
-                number, payload = lent
-                delivery = link.delivery(link.delivery_tag())
-                delivery.number = number
-                self._outgoing[number] = delivery
-                link.stream(payload)
-                link.advance()
+            if link.is_sender:
+                self._send_on(handle, link)
+
+    def _send_on(self, handle: int, link: Link) -> None:
+        while link.credit > 0:
+            lent = self._layer.lend(handle)
+            if lent is None:
+                link.drained()
+                return
+            number, payload = lent
+            delivery = link.delivery(link.delivery_tag())
+            delivery.number = number
+            self._outgoing[number] = delivery
+            link.stream(payload)
+            link.advance()
 
     # ---- the end -----------------------------------------------------------------------------
 
     def end(self, last: Step = RemoteEnd()) -> None:
-        """The peer ended the session, or its connection is lost: the links end, which rolls back."""
-        if not self.is_over:
-            for number in list(self._control_links):
-                self._end_control_link(number)
-            self._step(last)
+        """The session is over: the peer ended it, or its connection is lost. Its links end, which
+        rolls back."""
+        for number in list(self._control_links):
+            self._end_control_link(number)
+        self._step(last)
+        self._core.close()
         self._layer.return_all()
-        self._links.clear()
-        self._outgoing.clear()
-
-    def lose_connection(self) -> None:
-        self.end(ConnectionStop())
 
 
 def spelled(name: str, handle: int) -> str:
@@ -304,7 +330,8 @@ def spelled(name: str, handle: int) -> str:
 
 
 def transactional_state(delivery: Delivery) -> Optional[TransactionalState]:
-    """The state of a delivery at the peer, where it is under a transaction."""
+    """The state of a delivery at the peer, where it is under a transaction. Raises TypeError or
+    ValueError where its id isn't 1 to 32 octets."""
     if delivery.remote_state != TRANSACTIONAL_STATE:
         return None
     txn_id, *outcomes = delivery.remote.data
