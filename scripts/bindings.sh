@@ -1,10 +1,10 @@
 #!/usr/bin/env bash
 # What stands over the proved library: makes it, and runs the tests and examples in C, Rust and Python.
 #   scripts/bindings.sh [archive | c | rust | python] ..
-# Without words it does all four, in this order. It needs bash, and as root it installs the Debian
-# packages that are missing. The archive is libdaxurbi.a of the folder DAXURBI_LIB_DIR, if that is set;
-# else of crates/daxurbi/out, where `archive` proves and builds it (hours, the first time).
-# LDLIBS are further libraries to link.
+# Without words it does all four, in this order; with words the archive too, where it is missing. As
+# root it installs the Debian packages that are missing. The archive is libdaxurbi.a of the folder
+# DAXURBI_LIB_DIR, if that is set; else of crates/daxurbi/out, where `archive` proves and builds it
+# (hours, the first time). LDLIBS are further libraries to link.
 set -euo pipefail
 top=$(cd "$(dirname "$(readlink -f "$0")")/.." && pwd)
 export DAXURBI_LIB_DIR=${DAXURBI_LIB_DIR:-$top/crates/daxurbi/out}
@@ -59,21 +59,24 @@ make_archive() {
   say "made $archive"
 }
 
-# The example in C: as it is, under valgrind, and with the sanitizers.
-try_c() {
-  local flags=(-std=c11 -Wall -Wextra -Wpedantic -Werror -g -O1) source=$top/bindings/c/example.c
-  install gcc libc6-dev valgrind
-  gcc "${flags[@]}" -o "$made/example" "$source" "$archive" ${LDLIBS:-}
-  "$made/example" >"$made/written"
-  diff "$top/bindings/c/example.out" "$made/written"
-  valgrind -q --error-exitcode=9 --leak-check=full --errors-for-leak-kinds=all "$made/example" \
-    >"$made/written"
-  diff "$top/bindings/c/example.out" "$made/written"
+# Compares what a program in C writes with what it should: as it is, under valgrind, and with the
+# sanitizers.
+compare_c() {
+  local flags=(-std=c11 -Wall -Wextra -Wpedantic -Werror -g -O1) source=$top/bindings/c/$1.c
+  gcc "${flags[@]}" -o "$made/plain" "$source" "$archive" ${LDLIBS:-}
   gcc "${flags[@]}" -fsanitize=address,undefined -fno-sanitize-recover=all \
     -o "$made/sanitized" "$source" "$archive" ${LDLIBS:-}
-  "$made/sanitized" >"$made/written"
-  diff "$top/bindings/c/example.out" "$made/written"
-  say "c: the example writes what it should, also under valgrind and with the address and undefined" \
+  "$made/plain" | diff "$2" -
+  valgrind -q --error-exitcode=9 --leak-check=full --errors-for-leak-kinds=all "$made/plain" | diff "$2" -
+  "$made/sanitized" | diff "$2" -
+}
+
+try_c() {
+  install gcc libc6-dev valgrind
+  echo 'attached 0' >"$made/first_step.out"
+  compare_c first_step "$made/first_step.out"
+  compare_c example "$top/bindings/c/example.out"
+  say "c: the examples write what they should, also under valgrind and with the address and undefined" \
     "sanitizers, which find nothing"
 }
 
@@ -97,6 +100,7 @@ try_rust() {
     cd "$top/bindings/rust"
     cargo test --offline
     cargo doc --offline --no-deps
+    cargo run --offline --quiet --example first_commit
     cargo run --offline --quiet --example one_commit
     if cargo clippy --version >/dev/null 2>&1; then cargo clippy --offline --all-targets; fi
   )
@@ -107,11 +111,16 @@ try_rust() {
 try_python() {
   install gcc libc6-dev python3
   LDFLAGS=${LDLIBS:-} "$top/bindings/python/build.sh"
-  (cd "$top/bindings/python" && /usr/bin/python3 -m unittest -v test_daxurbi)
+  (
+    cd "$top/bindings/python"
+    /usr/bin/python3 first_commit.py
+    /usr/bin/python3 -m unittest -v test_daxurbi
+  )
   say "python: the tests pass"
 }
 
 [ $# -gt 0 ] || set -- archive c rust python
+[ "$1" = archive ] || [ -f "$archive" ] || make_archive
 for word in "$@"; do
   case $word in
     archive) make_archive ;;

@@ -16,6 +16,7 @@ if [ ${#missing[@]} -gt 0 ]; then
   DEBIAN_FRONTEND=noninteractive apt-get install -y -qq --no-install-recommends "${missing[@]}" >/dev/null
 fi
 
+[ -f "${DAXURBI_LIB_DIR:-$top/crates/daxurbi/out}/libdaxurbi.a" ] || "$top/scripts/bindings.sh" archive
 LDFLAGS=${LDLIBS:-} "$top/bindings/python/build.sh"
 trace=$(mktemp /tmp/daxurbi-trace.XXXXXX)
 timeout 300 /usr/bin/python3 "$top/examples/proton_broker/real_client.py" --trace "$trace" "$@"
