@@ -5,23 +5,25 @@ use std::collections::BTreeSet;
 use std::fs;
 use std::path::{Path, PathBuf};
 
-use daxurbi::{Below, ControlMessage, Refusal, Session, Step, StepError};
+use daxurbi::{
+    Below, ControlMessage, Disposition, DispositionState, Refusal, Session, Step, StepError,
+    Transfer,
+};
 
 fn examples() -> PathBuf {
     Path::new(env!("CARGO_MANIFEST_DIR")).join("../../examples")
 }
 
-/// The words of a run: `run`, perhaps the numbers of the calls that are refused or starved, and the
-/// ids.
+/// The words of a run: `run`, perhaps the numbers of the calls that are refused, and the ids.
 #[derive(Default)]
 struct Words {
     refused: BTreeSet<usize>,
-    starved: BTreeSet<usize>,
     ids: Vec<[u8; 16]>,
 }
 
 impl Words {
-    /// None where the words are of another program, draw from a numbered seed, or aren't in order.
+    /// None where the words are of another program, draw from a numbered seed, starve the layer
+    /// below (here it starves before the first frame of a commit), or aren't in order.
     fn read(text: &str) -> Option<Words> {
         let mut lines = text.lines();
         if lines.next() != Some("run") {
@@ -31,8 +33,6 @@ impl Words {
         while let Some(line) = lines.next() {
             match line {
                 "--refuse" => words.refused = numbers(lines.next()?),
-                "--starve" => words.starved = numbers(lines.next()?),
-                "--seed" => return None,
                 id => words
                     .ids
                     .push(u128::from_str_radix(id, 16).ok()?.to_be_bytes()),
@@ -44,6 +44,13 @@ impl Words {
 
 fn numbers(list: &str) -> BTreeSet<usize> {
     list.split(',').map(|word| word.parse().unwrap()).collect()
+}
+
+/// The calls with a number that a step makes of the layer below.
+enum Calls {
+    None,
+    Plain,
+    Commit(usize),
 }
 
 /// A run: the session, how many calls the layer below had, and what is to be written.
@@ -67,43 +74,41 @@ impl Run {
         }
     }
 
-    /// Whether the step makes a call of the layer below that counts, and how many frames a commit
-    /// would hand.
-    fn below(&mut self, step: &Step) -> Below {
-        let count = match step {
-            Step::Control { payload, .. } => match ControlMessage::from_payload(payload) {
-                Some(ControlMessage::Discharge {
-                    txn_id: Some(id),
-                    fail: None | Some(false),
-                }) => {
-                    let work = self.session.pending(&id).unwrap();
-                    work.map_or(0, |frames| frames.len())
-                }
-                _ => return Below::Takes,
-            },
-            Step::Transfer(transfer) if transfer.state.is_some() => return Below::Takes,
-            Step::Disposition(disposition) => match disposition.state {
-                Some(daxurbi::DispositionState::Transactional(_)) => return Below::Takes,
-                _ => 1,
-            },
-            _ => 1,
-        };
-        let mut calls = self.calls + 1..=self.calls + count;
-        if matches!(step, Step::Control { .. }) {
-            if calls.clone().any(|call| self.words.refused.contains(&call)) {
-                return Below::Vetoes;
-            }
-            return match calls.find(|call| self.words.starved.contains(call)) {
-                None => Below::Takes,
-                Some(_) => Below::Refuses(Refusal::NoMemory),
-            };
+    fn calls_of(&mut self, step: &Step) -> Calls {
+        match step {
+            Step::Control { payload, .. } => self.calls_of_control(payload),
+            Step::AttachCoordinator { .. } => Calls::None,
+            Step::Transfer(Transfer { state: Some(_), .. }) => Calls::None,
+            Step::Disposition(Disposition {
+                state: Some(DispositionState::Transactional(_)),
+                ..
+            }) => Calls::None,
+            _ => Calls::Plain,
         }
-        if self.words.starved.contains(calls.start()) {
-            Below::Refuses(Refusal::NoMemory)
-        } else if self.words.refused.contains(calls.start()) {
-            Below::Refuses(Refusal::IllegalState)
-        } else {
-            Below::Takes
+    }
+
+    fn calls_of_control(&mut self, payload: &[u8]) -> Calls {
+        match ControlMessage::from_payload(payload) {
+            Some(ControlMessage::Discharge {
+                txn_id: Some(txn_id),
+                fail: None | Some(false),
+            }) => {
+                let work = self.session.pending(&txn_id).unwrap();
+                Calls::Commit(work.map_or(0, |frames| frames.len()))
+            }
+            _ => Calls::None,
+        }
+    }
+
+    /// What the layer below answers to the step.
+    fn below(&mut self, step: &Step) -> Below {
+        let calls = self.calls_of(step);
+        let first = self.calls + 1;
+        let is_refused = |call| self.words.refused.contains(&call);
+        match calls {
+            Calls::Plain if is_refused(first) => Refusal::IllegalState.into(),
+            Calls::Commit(count) if (first..first + count).any(is_refused) => Below::Vetoes,
+            _ => Below::Takes,
         }
     }
 
@@ -131,13 +136,9 @@ impl Run {
     }
 }
 
-fn run(words: Words, steps: &str) -> String {
+fn run(words: Words, steps: &[Step]) -> String {
     let mut run = Run::new(words);
-    let goes_on = steps
-        .lines()
-        .map(|line| line.parse().unwrap())
-        .all(|step| run.step(&step));
-    if goes_on {
+    if steps.iter().all(|step| run.step(step)) {
         run.report += "stop done\nhanded 0\n";
     }
     run.report + &run.taken
@@ -154,15 +155,10 @@ fn each_example_gives_its_report() {
         let Some(words) = Words::read(&fs::read_to_string(&path).unwrap()) else {
             continue;
         };
-        // A commit that the layer below starves of memory half way is the program's alone: a layer
-        // here starves before the first frame.
-        if !words.starved.is_empty() {
+        let lines = fs::read_to_string(path.with_extension("steps")).unwrap();
+        let Ok(steps) = lines.lines().map(str::parse).collect::<Result<Vec<_>, _>>() else {
             continue;
-        }
-        let steps = fs::read_to_string(path.with_extension("steps")).unwrap();
-        if steps.lines().any(|line| line.parse::<Step>().is_err()) {
-            continue;
-        }
+        };
         let report = fs::read_to_string(path.with_extension("report")).unwrap();
         assert_eq!(run(words, &steps), report, "{}", path.display());
         made += 1;
