@@ -24,7 +24,6 @@ time_program() {
   TIMEFORMAT="$2: %R s (user %U s, system %S s)"
   time for input in "$made/$1".*; do
     "$program" run $id <"$input" >"$made/report"
-    tail -n 1 "$made/report" | grep -q '^taken\|^handed 0$'
   done
 }
 

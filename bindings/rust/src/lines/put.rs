@@ -56,12 +56,12 @@ pub(crate) fn put_outcome(line: &mut Vec<u8>, outcome: Option<Outcome>) {
 /// Puts the octets in hexadecimal digits at the end.
 pub(crate) fn put_hex(line: &mut Vec<u8>, octets: &[u8]) {
     const DIGITS: &[u8; 16] = b"0123456789abcdef";
-    line.extend(octets.iter().flat_map(|octet| {
-        [
-            DIGITS[usize::from(octet >> 4)],
-            DIGITS[usize::from(octet & 15)],
-        ]
-    }));
+    let start = line.len();
+    line.resize(start + 2 * octets.len(), 0);
+    for (pair, octet) in line[start..].chunks_exact_mut(2).zip(octets) {
+        pair[0] = DIGITS[usize::from(octet >> 4)];
+        pair[1] = DIGITS[usize::from(octet & 15)];
+    }
 }
 
 /// Puts a space and the digits of a payload, or `-` where it has no octets, at the end.

@@ -370,16 +370,25 @@ fn decode(digits: &[u8], octets: &mut [u8]) -> Result<(), Unread> {
         return Err(UNREAD);
     }
     for (octet, pair) in octets.iter_mut().zip(digits.chunks_exact(2)) {
-        *octet = nibble(pair[0])? << 4 | nibble(pair[1])?;
+        let [high, low] = [pair[0], pair[1]].map(|digit| VALUES[usize::from(digit)]);
+        if high.max(low) == NO_DIGIT {
+            return Err(UNREAD);
+        }
+        *octet = high << 4 | low;
     }
     Ok(())
 }
 
-fn nibble(digit: u8) -> Result<u8, Unread> {
-    match digit {
-        b'0'..=b'9' => Ok(digit - b'0'),
-        b'a'..=b'f' => Ok(digit - b'a' + 10),
-        b'A'..=b'F' => Ok(digit - b'A' + 10),
-        _ => Err(UNREAD),
+const NO_DIGIT: u8 = 255;
+
+/// The value of each octet as a hexadecimal digit.
+const VALUES: [u8; 256] = {
+    let mut values = [NO_DIGIT; 256];
+    let mut value = 0;
+    while value < 16 {
+        values[b"0123456789abcdef"[value] as usize] = value as u8;
+        values[b"0123456789ABCDEF"[value] as usize] = value as u8;
+        value += 1;
     }
-}
+    values
+};
