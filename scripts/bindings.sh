@@ -62,7 +62,7 @@ make_archive() {
 # Compares what a program in C writes with what it should: as it is, under valgrind, and with the
 # sanitizers.
 compare_c() {
-  local flags=(-std=c11 -Wall -Wextra -Wpedantic -Werror -g -O1) source=$top/bindings/c/$1.c
+  local source=$top/bindings/c/$1.c
   gcc "${flags[@]}" -o "$made/plain" "$source" "$archive" ${LDLIBS:-}
   gcc "${flags[@]}" -fsanitize=address,undefined -fno-sanitize-recover=all \
     -o "$made/sanitized" "$source" "$archive" ${LDLIBS:-}
@@ -71,11 +71,20 @@ compare_c() {
   "$made/sanitized" | diff "$2" -
 }
 
+# The library, each of whose allocations fails once.
+starve_c() {
+  gcc "${flags[@]}" -Wl,--wrap=malloc -Wl,--wrap=realloc \
+    -o "$made/starved" "$top/bindings/c/starved.c" "$archive" ${LDLIBS:-}
+  valgrind -q --error-exitcode=9 --leak-check=full --errors-for-leak-kinds=all "$made/starved"
+}
+
 try_c() {
+  local flags=(-std=c11 -Wall -Wextra -Wpedantic -Werror -g -O1)
   install gcc libc6-dev valgrind
   echo 'attached 0' >"$made/first_step.out"
   compare_c first_step "$made/first_step.out"
   compare_c example "$top/bindings/c/example.out"
+  starve_c
   say "c: the examples write what they should, also under valgrind and with the address and undefined" \
     "sanitizers, which find nothing"
 }

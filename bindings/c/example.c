@@ -76,6 +76,9 @@ static void pending(daxurbi_slot *slot, const uint8_t id[16]) {
 /* What C can do wrong is answered, and changes nothing. */
 static void misuse(daxurbi_slot *slot) {
     size_t len = 0;
+    uint8_t small[2] = "-";
+    printf("a short buffer: %u", (unsigned)daxurbi_report(slot, small, sizeof small, &len));
+    printf(", %zu are needed, and it has \"%s\"\n", len, (const char *)small);
     printf("opened twice: %u\n", (unsigned)daxurbi_open(slot, (const uint8_t *)"", 0));
     printf("no line: %u\n", (unsigned)daxurbi_step(slot, NULL, 0, DAXURBI_TAKE));
     printf("no answer: %u\n", (unsigned)daxurbi_step(slot, (const uint8_t *)"end", 3, 99));

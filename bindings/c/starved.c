@@ -1,6 +1,7 @@
-/* Makes each allocation of the library fail once: the call answers DAXURBI_NO_MEMORY and has changed
- * nothing, so the same call made again goes on, and the reports are those of a run with memory. Linked
- * with --wrap=malloc --wrap=realloc. */
+/* Makes each allocation of the library fail once. Mostly the call answers DAXURBI_NO_MEMORY and has
+ * changed nothing, so the same call made again goes on, and the reports are those of a run with memory.
+ * Where the library lacks the memory to keep what a step hands, the step stops the session with
+ * `below-no-memory`, and nothing was handed. Linked with --wrap=malloc --wrap=realloc. */
 #include "daxurbi.h"
 
 #include <stdio.h>
@@ -34,10 +35,13 @@ static const char *const lines[] = {
     "post 00000000000000000000000000000001 1 9 - - 6869",
 };
 
-/* The reports of a run, and how many calls ran out of memory. */
+static const char stop[] = "stop below-no-memory\nhanded 0\n";
+
+/* The reports of a run, how many calls ran out of memory, and whether that stopped the session. */
 struct run {
     char reports[4096];
     size_t length, starved;
+    bool is_stopped;
 };
 
 static void fail(const char *what) {
@@ -101,6 +105,7 @@ static void make(struct run *run, size_t number) {
     allocations = 0;
     failing = number;
     run->length = run->starved = 0;
+    run->is_stopped = false;
     if (opened(&slot, run) != DAXURBI_OK) {
         fail("not opened");
     }
@@ -109,7 +114,14 @@ static void make(struct run *run, size_t number) {
         if (answer != DAXURBI_OK && answer != DAXURBI_STOPPED) {
             fail(lines[i]);
         }
+        size_t before = run->length;
         reported(&slot, run);
+        if (run->length - before == strlen(stop) &&
+            memcmp(run->reports + before, stop, strlen(stop)) == 0) {
+            run->length = before;
+            run->is_stopped = true;
+            break;
+        }
         pending(&slot, run);
     }
     if (daxurbi_close(&slot) != DAXURBI_OK) {
@@ -119,18 +131,20 @@ static void make(struct run *run, size_t number) {
 
 int main(void) {
     static struct run whole, starved;
-    size_t count, answered = 0;
+    size_t count, answered = 0, stopped = 0;
     make(&whole, 0);
     count = allocations;
     for (size_t number = 1; number <= count; number++) {
         make(&starved, number);
         answered += starved.starved;
-        if (starved.length != whole.length ||
-            memcmp(starved.reports, whole.reports, whole.length) != 0) {
+        stopped += starved.is_stopped;
+        if ((!starved.is_stopped && starved.length != whole.length) ||
+            memcmp(starved.reports, whole.reports, starved.length) != 0) {
             fail("other reports");
         }
     }
-    printf("%zu allocations failed, %zu calls said so, and each went on when made again\n", count,
-           answered);
-    return count > 0 && answered == count ? 0 : 1;
+    printf("%zu allocations failed in turn: %zu calls said so and went on when made again, %zu steps "
+           "stopped the session and handed nothing, %zu calls did without\n",
+           count, answered, stopped, count - answered - stopped);
+    return answered > 0 ? 0 : 1;
 }
