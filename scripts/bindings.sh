@@ -1,5 +1,6 @@
 #!/usr/bin/env bash
-# What stands over the proved library: makes it, and runs the tests and examples in C, Rust and Python.
+# What stands over the proved library: makes it, and runs the tests and examples in C, Rust and
+# Python.
 #   scripts/bindings.sh [archive | c | rust | python] ..
 # Without words it does all four, in this order; with words the archive too, where it is missing. As
 # root it installs the Debian packages that are missing. The archive is libdaxurbi.a of the folder
@@ -18,12 +19,14 @@ say() { echo "bindings: $*"; }
 install() {
   local package missing=()
   for package in "$@"; do
-    dpkg-query -W -f '${Status}' "$package" 2>/dev/null | grep -q 'ok installed' || missing+=("$package")
+    dpkg-query -W -f '${Status}' "$package" 2>/dev/null | grep -q 'ok installed' ||
+      missing+=("$package")
   done
   [ ${#missing[@]} -eq 0 ] && return
   say "installs ${missing[*]}"
   apt-get update -qq
-  DEBIAN_FRONTEND=noninteractive apt-get install -y -qq --no-install-recommends "${missing[@]}" >/dev/null
+  DEBIAN_FRONTEND=noninteractive \
+    apt-get install -y -qq --no-install-recommends "${missing[@]}" >/dev/null
 }
 
 # The crates of this repository that one stands on, lowest first, and that one.
@@ -59,6 +62,10 @@ make_archive() {
   say "made $archive"
 }
 
+under_valgrind() {
+  valgrind -q --error-exitcode=9 --leak-check=full --errors-for-leak-kinds=all "$1"
+}
+
 # Compares what a program in C writes with what it should: as it is, under valgrind, and with the
 # sanitizers.
 compare_c() {
@@ -67,7 +74,7 @@ compare_c() {
   gcc "${flags[@]}" -fsanitize=address,undefined -fno-sanitize-recover=all \
     -o "$made/sanitized" "$source" "$archive" ${LDLIBS:-}
   "$made/plain" | diff "$2" -
-  valgrind -q --error-exitcode=9 --leak-check=full --errors-for-leak-kinds=all "$made/plain" | diff "$2" -
+  under_valgrind "$made/plain" | diff "$2" -
   "$made/sanitized" | diff "$2" -
 }
 
@@ -75,7 +82,7 @@ compare_c() {
 starve_c() {
   gcc "${flags[@]}" -Wl,--wrap=malloc -Wl,--wrap=realloc \
     -o "$made/starved" "$top/bindings/c/starved.c" "$archive" ${LDLIBS:-}
-  valgrind -q --error-exitcode=9 --leak-check=full --errors-for-leak-kinds=all "$made/starved"
+  under_valgrind "$made/starved"
 }
 
 try_c() {
@@ -85,8 +92,8 @@ try_c() {
   compare_c first_step "$made/first_step.out"
   compare_c example "$top/bindings/c/example.out"
   starve_c
-  say "c: the examples write what they should, also under valgrind and with the address and undefined" \
-    "sanitizers, which find nothing"
+  say "c: the examples write what they should, also under valgrind and with the address and" \
+    "undefined sanitizers, which find nothing"
 }
 
 # A cargo of 1.74 or later: the one that is there, or Debian's.
@@ -94,7 +101,11 @@ find_cargo() {
   if cargo --version 2>/dev/null | awk '{ split($2, v, "."); exit !(v[1] > 1 || v[2] >= 74) }'; then
     return
   fi
-  if apt-cache show cargo-web 2>/dev/null | grep -q .; then install cargo-web; else install cargo; fi
+  if apt-cache show cargo-web 2>/dev/null | grep -q .; then
+    install cargo-web
+  else
+    install cargo
+  fi
 }
 
 # The tests and the documents of the crate.

@@ -1,11 +1,11 @@
 #!/usr/bin/env bash
-# 1,000,000 steps through the Rust crate, beside the program over the same steps: 200,000 transactions
-# of five steps (examples/many_steps.rs). The program reads at most 1 MiB at once, so it makes 80 runs
-# of 2,500 transactions each: it reads their lines, drives them and writes their report. What 80 runs
-# over no transaction take is told too.
+# 1,000,000 steps through the Rust crate, beside the program over the same steps: 200,000
+# transactions of five steps (examples/many_steps.rs). The program reads at most 1 MiB at once, so
+# it makes 80 runs of 2,500 transactions each: it reads their lines, drives them and writes their
+# report. What 80 runs over no transaction take is told too.
 #   scripts/million_steps.sh [PROGRAM]
-# PROGRAM is the built program of `run`; else it is that of `./txn_program --which run`. The archive is
-# that of scripts/bindings.sh.
+# PROGRAM is the built program of `run`; else it is that of `./txn_program --which run`. The archive
+# is that of scripts/bindings.sh.
 set -euo pipefail
 top=$(cd "$(dirname "$(readlink -f "$0")")/.." && pwd)
 program=${1:-$("$top/txn_program" --which run)}

@@ -9,14 +9,17 @@ top=$(cd "$(dirname "$(readlink -f "$0")")/.." && pwd)
 
 missing=()
 for package in gcc libc6-dev python3 python3-qpid-proton; do
-  dpkg-query -W -f '${Status}' "$package" 2>/dev/null | grep -q 'ok installed' || missing+=("$package")
+  dpkg-query -W -f '${Status}' "$package" 2>/dev/null | grep -q 'ok installed' ||
+    missing+=("$package")
 done
 if [ ${#missing[@]} -gt 0 ]; then
   apt-get update -qq
-  DEBIAN_FRONTEND=noninteractive apt-get install -y -qq --no-install-recommends "${missing[@]}" >/dev/null
+  DEBIAN_FRONTEND=noninteractive \
+    apt-get install -y -qq --no-install-recommends "${missing[@]}" >/dev/null
 fi
 
-[ -f "${DAXURBI_LIB_DIR:-$top/crates/daxurbi/out}/libdaxurbi.a" ] || "$top/scripts/bindings.sh" archive
+archive=${DAXURBI_LIB_DIR:-$top/crates/daxurbi/out}/libdaxurbi.a
+[ -f "$archive" ] || "$top/scripts/bindings.sh" archive
 LDFLAGS=${LDLIBS:-} "$top/bindings/python/build.sh"
 trace=$(mktemp /tmp/daxurbi-trace.XXXXXX)
 timeout 300 /usr/bin/python3 "$top/examples/proton_broker/real_client.py" --trace "$trace" "$@"

@@ -1,6 +1,6 @@
-/* One transaction that commits, one that is vetoed, and a session that stops. Each step is made as a
- * program does that has queues: it asks what a commit would hand, tells whether its queues take it,
- * and gives them what was handed. It prints each report. */
+/* One transaction that commits, one that is vetoed, and a session that stops. Each step is made as
+ * a program does that has queues: it asks what a commit would hand, tells whether its queues take
+ * it, and gives them what was handed. It prints each report. */
 #include "daxurbi.h"
 
 #include <stdio.h>

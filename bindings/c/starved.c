@@ -1,7 +1,7 @@
 /* Makes each allocation of the library fail once. Mostly the call answers DAXURBI_NO_MEMORY and has
- * changed nothing, so the same call made again goes on, and the reports are those of a run with memory.
- * Where the library lacks the memory to keep what a step hands, the step stops the session with
- * `below-no-memory`, and nothing was handed. Linked with --wrap=malloc --wrap=realloc. */
+ * changed nothing, so the same call made again goes on, and the reports are those of a run with
+ * memory. Where the library lacks the memory to keep what a step hands, the step stops the session
+ * with `below-no-memory`, and nothing was handed. Linked with --wrap=malloc --wrap=realloc. */
 #include "daxurbi.h"
 
 #include <stdio.h>
@@ -59,7 +59,7 @@ static uint32_t opened(daxurbi_slot *slot, struct run *run) {
     return answer;
 }
 
-/* A step; made again after it ran out of memory, when the report is still that of the step before. */
+/* A step, made again after it ran out of memory. */
 static uint32_t stepped(daxurbi_slot *slot, const char *line, struct run *run) {
     const uint8_t *octets = (const uint8_t *)line;
     uint32_t answer = daxurbi_step(slot, octets, strlen(line), DAXURBI_TAKE);
@@ -143,8 +143,8 @@ int main(void) {
             fail("other reports");
         }
     }
-    printf("%zu allocations failed in turn: %zu calls said so and went on when made again, %zu steps "
-           "stopped the session and handed nothing, %zu calls did without\n",
+    printf("%zu allocations failed in turn: %zu calls said so and went on when made again, "
+           "%zu steps stopped the session and handed nothing, %zu calls did without\n",
            count, answered, stopped, count - answered - stopped);
     return answered > 0 ? 0 : 1;
 }

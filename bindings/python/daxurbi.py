@@ -1,8 +1,8 @@
 """Transactions of AMQP 1.0 (OASIS AMQP 1.0, part 4), on the side of the resource, over a core that
 is proved.
 
-A `Session` takes steps: frames of the peer, messages on control links, and ends. It holds what comes
-under a transaction, and hands it to the layer below when the transaction commits. It opens no
+A `Session` takes steps: frames of the peer, messages on control links, and ends. It holds what
+comes under a transaction, and hands it to the layer below when the transaction commits. It opens no
 socket and encodes no performative: it stands below an AMQP connection and above queues.
 
 The layer below is the program's. So a step is made in three parts: ask which frames a commit would
@@ -26,10 +26,10 @@ Accepted()
 >>> [str(frame) for frame in answer.handed]
 ['transfer 1 7 - - 6869']
 
-What is proved is the core, in the shared object that this module loads: which answer a step has, and
-which frames it hands. That this module calls the core as the core's C header asks, writes steps and
-reads answers rightly, and that the program's layer below does what it said it would, is tested or
-the program's.
+What is proved is the core, in the shared object that this module loads: which answer a step has,
+and which frames it hands. That this module calls the core as the core's C header asks, writes steps
+and reads answers rightly, and that the program's layer below does what it said it would, is tested
+or the program's.
 """
 
 from __future__ import annotations
@@ -178,8 +178,8 @@ class Attach:
 
 @dataclass(frozen=True)
 class Flow:
-    """A flow of a link, or of the session alone (section 2.7.4); as a step, it has both a handle and
-    a credit or neither."""
+    """A flow of a link, or of the session alone (section 2.7.4); as a step, it has both a handle
+    and a credit or neither."""
 
     handle: Optional[int] = None
     link_credit: Optional[int] = None

@@ -1,5 +1,5 @@
-"""Tests of the Python module: the examples of the repository through typed steps, the lines that the
-core reads and those that it doesn't, layers, and misuse."""
+"""Tests of the Python module: the examples of the repository through typed steps, the lines that
+the core reads and those that it doesn't, layers, and misuse."""
 
 from __future__ import annotations
 
@@ -14,7 +14,7 @@ from typing import Optional
 
 import daxurbi
 from daxurbi import Accepted, Attach, AttachCoordinator, Attached, AttachRefused, Below, Control
-from daxurbi import Declare, Declared, Detach, Discharge, Disposition, End, Flow, Frame, LinkEnd
+from daxurbi import Declare, Detach, Discharge, Disposition, End, Flow, Frame, LinkEnd
 from daxurbi import LinkClosed, LinkEnded, NoLink, Ok, Outcome, Received, Refusal, Rejected
 from daxurbi import RejectText, RemoteEnd, Role, Rollback, Session, SessionStopped, Step, Stop
 from daxurbi import StoppedBefore, Takes, TransactionalState, TransactionId, Transfer, UnknownId
@@ -243,6 +243,21 @@ class Misuse(unittest.TestCase):
             copy.copy(session)
 
 
+OTHER_LINES = (
+    b"",
+    b"end\n",
+    b"end ",
+    b" end",
+    b"flow 01 5",
+    b"flow 1 4294967296",
+    b"attach c",
+    b"transfer 1 7 - 686",
+    b"post - 1 7 - - -",
+    b"\xff",
+    bytes(99),
+)
+
+
 class Lines(unittest.TestCase):
     """The lines of typed steps are lines to the core."""
 
@@ -260,8 +275,7 @@ class Lines(unittest.TestCase):
         """What isn't a line is an answer of the core."""
         library = daxurbi._library
         with Session() as session:
-            for line in (b"", b"end\n", b"end ", b" end", b"flow 01 5", b"flow 1 4294967296",
-                         b"attach c", b"transfer 1 7 - 686", b"post - 1 7 - - -", b"\xff", bytes(99)):
+            for line in OTHER_LINES:
                 self.assertEqual(library.daxurbi_step(session._slot, line, len(line), 0), 6, line)
             self.assertEqual(library.daxurbi_step(session._slot, b"end", 3, 10), 7)
             self.assertEqual(session.step(AttachCoordinator("c", 0)).reply, Attached(0))
@@ -311,7 +325,8 @@ class Reports(unittest.TestCase):
                 typed = [read_step(line) for line in steps]
             except (KeyError, ValueError):
                 continue
-            with self.subTest(path.stem), Session(ids=list(map(bytes.fromhex, words[1:]))) as session:
+            ids = list(map(bytes.fromhex, words[1:]))
+            with self.subTest(path.stem), Session(ids=ids) as session:
                 self.assertEqual(report(session, typed), path.with_suffix(".report").read_text())
             made += 1
         self.assertGreater(made, 9)

@@ -1,6 +1,6 @@
 #!/usr/bin/python3
-"""A broker for AMQP 1.0 clients: qpid-proton speaks AMQP, Daxurbi serves the transactions, and queues
-are Python lists.
+"""A broker for AMQP 1.0 clients: qpid-proton speaks AMQP, Daxurbi serves the transactions, and
+queues are Python lists.
 
 It listens on 127.0.0.1 alone, and ends after some seconds.
 """
@@ -13,7 +13,7 @@ from pathlib import Path
 
 sys.path.insert(0, str(Path(__file__).resolve().parents[2] / "bindings" / "python"))
 
-from proton import Condition, Endpoint, Event, Handler
+from proton import Condition, Event, Handler
 from proton.reactor import Container
 
 from daxurbi import ConnectionStop

@@ -16,7 +16,7 @@ import socket
 import subprocess
 import sys
 from pathlib import Path
-from typing import Callable, Optional
+from typing import Optional
 
 from proton import Delivery, Event, Message, Timeout
 from proton.handlers import MessagingHandler, TransactionHandler

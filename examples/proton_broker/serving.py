@@ -1,7 +1,7 @@
 """One AMQP session of a peer, served by one Daxurbi session.
 
-Each of the peer's frames becomes a step; what the step answers and hands becomes calls of qpid-proton.
-"""
+Each of the peer's frames becomes a step; what the step answers and hands becomes calls of
+qpid-proton. """
 
 from __future__ import annotations
 
@@ -279,8 +279,8 @@ class Served:
             self._tell("a transaction was rolled back: its link ended")
 
     def _return(self, txn_id: TransactionId) -> None:
-        """Deliveries whose retirement was rolled back: a receiver that settled its end has let go of
-        the message; another still has it, and tells its outcome anew."""
+        """Deliveries whose retirement was rolled back: a receiver that settled its end has let go
+        of the message; another still has it, and tells its outcome anew."""
         for number in self._retired.pop(txn_id, []):
             delivery = self._outgoing.get(number)
             if delivery is not None and delivery.settled:

@@ -4,9 +4,10 @@ use std::error::Error;
 use std::fmt;
 
 use crate::control::ControlMessage;
+use crate::error::{ReportError, StepError};
 use crate::frame::Frame;
 use crate::reply::Answer;
-use crate::session::{ReportError, Session, StepError};
+use crate::session::Session;
 use crate::step::Step;
 use crate::stop::Refusal;
 

@@ -6,9 +6,10 @@
 //! opens no socket and encodes no performative: it stands below an AMQP connection and above
 //! queues.
 //!
-//! The layer below is the program's. So a step is made in three parts: ask which [`Frame`]s a commit
-//! would hand ([`Session::pending`]); tell what the layer will answer ([`Below`]); and give the layer
-//! what was handed ([`Answer::handed`]). [`Session::step_over`] makes the three over a [`Layer`].
+//! The layer below is the program's. So a step is made in three parts: ask which [`Frame`]s a
+//! commit would hand ([`Session::pending`]); tell what the layer will answer ([`Below`]); and give
+//! the layer what was handed ([`Answer::handed`]). [`Session::step_over`] makes the three over a
+//! [`Layer`].
 //!
 //! ```
 //! use daxurbi::{
@@ -57,6 +58,7 @@
 mod below;
 mod control;
 mod delivery;
+mod error;
 mod ffi;
 mod frame;
 mod id;
@@ -70,11 +72,12 @@ mod stop;
 pub use below::{Below, DriveError, Layer};
 pub use control::ControlMessage;
 pub use delivery::{DeliveryState, Outcome, TransactionalState};
+pub use error::{OpenError, OutOfMemory, ReportError, StepError};
 pub use frame::{Attach, Detach, Disposition, Flow, Frame, Transfer};
 pub use id::{GlobalId, IdError, TransactionId};
 pub use lines::Unread;
 pub use link::{ControlLink, Handle, LinkName, LinkNameError, Role};
 pub use reply::{Answer, RejectText, Reply, TransactionError};
-pub use session::{OpenError, OutOfMemory, ReportError, Session, StepError};
+pub use session::Session;
 pub use step::{DispositionState, Step};
 pub use stop::{Refusal, Stop};

@@ -2,6 +2,7 @@
 
 use std::fmt;
 
+use super::put_hex;
 use crate::delivery::Outcome;
 
 /// Puts the text at the end.
@@ -51,17 +52,6 @@ pub(crate) fn put_settled(line: &mut Vec<u8>, settled: Option<bool>) {
 pub(crate) fn put_outcome(line: &mut Vec<u8>, outcome: Option<Outcome>) {
     put(line, " ");
     put(line, outcome.map_or("-", Outcome::word));
-}
-
-/// Puts the octets in hexadecimal digits at the end.
-pub(crate) fn put_hex(line: &mut Vec<u8>, octets: &[u8]) {
-    const DIGITS: &[u8; 16] = b"0123456789abcdef";
-    let start = line.len();
-    line.resize(start + 2 * octets.len(), 0);
-    for (pair, octet) in line[start..].chunks_exact_mut(2).zip(octets) {
-        pair[0] = DIGITS[usize::from(octet >> 4)];
-        pair[1] = DIGITS[usize::from(octet & 15)];
-    }
 }
 
 /// Puts a space and the digits of a payload, or `-` where it has no octets, at the end.
