@@ -107,8 +107,7 @@ impl Session {
     /// # Errors
     ///
     /// - [`StepError::Stopped`] where this step stopped the session, which is final: the layer
-    /// below
-    ///   refused a plain frame, a frame is under an id that isn't live, or the step is an end;
+    ///   below refused a plain frame, a frame is under an id that isn't live, or the step is an end;
     /// - [`StepError::StoppedBefore`] where one had stopped it before;
     /// - [`StepError::NoMemory`], and [`StepError::NoLinkLeft`], where nothing was done;
     /// - [`StepError::Report`] where the step was done, but its answer couldn't be read.
