@@ -6,10 +6,11 @@
  * what a step handed stands in the slot until the next step that is answered.
  *
  * The library starts no thread, takes no lock and has no global state. Two slots may be used by two
- * threads at the same time; one slot is used by one call at a time, and may be passed from one thread
- * to another between calls. It takes memory by malloc, realloc and free of the program, which are of
- * one allocator. So no call is made from a signal handler, nor in the forked child of a process with
- * threads. A call needs some stack; where that runs out, the system ends the process.
+ * threads at the same time; one slot is used by one call at a time, and may be passed from one
+ * thread to another between calls. It takes memory by malloc, realloc and free of the program,
+ * which are of one allocator. So no call is made from a signal handler, nor in the forked child of
+ * a process with threads. A call needs some stack; where that runs out, the system ends the
+ * process.
  */
 #ifndef DAXURBI_H
 #define DAXURBI_H

@@ -295,3 +295,23 @@ fn a_layer_is_asked_and_handed() {
         Err(DriveError::Step(StepError::Stopped { stop, handed }))
     );
 }
+
+#[test]
+fn sessions_run_beside_each_other() {
+    let serve = || {
+        let mut session = Session::with_ids(&[ONE]).unwrap();
+        let link = opened(&mut session);
+        let handed = (0..500).map(|number| {
+            let txn_id = declared(&mut session, link);
+            session.step(&post(txn_id, number), Below::Takes).unwrap();
+            let commit = control(link, ControlMessage::commit(txn_id));
+            session.step(&commit, Below::Takes).unwrap().handed.len()
+        });
+        handed.sum::<usize>()
+    };
+    let served: Vec<usize> = thread::scope(|scope| {
+        let threads: Vec<_> = (0..4).map(|_| scope.spawn(serve)).collect();
+        threads.into_iter().map(|it| it.join().unwrap()).collect()
+    });
+    assert_eq!(served, [500; 4]);
+}
