@@ -6,7 +6,7 @@ comes under a transaction, and hands it to the layer below when the transaction 
 socket and encodes no performative: it stands below an AMQP connection and above queues.
 
 The layer below is the program's. So a step is made in three parts: ask which frames a commit would
-hand (`Session.pending`); tell what the layer will answer (`Takes`, `Vetoes` or a `Refusal`); and
+hand (`Session.pending`); tell what the layer will answer (`Takes`, `Vetoes` or `Refuses`); and
 give the layer what was handed (`Answer.handed`). `Session.step_over` makes the three over a
 `Layer`.
 
@@ -19,7 +19,7 @@ give the layer what was handed (`Answer.handed`). `Session.step_over` makes the 
 ()
 >>> [str(frame) for frame in session.pending(txn_id)]
 ['transfer 1 7 - - 6869']
->>> commit = Control(link, Discharge(txn_id.octets, fail=False).to_payload())
+>>> commit = Control(link, ControlMessage.commit(txn_id).to_payload())
 >>> answer = session.step(commit)
 >>> answer.reply
 Accepted()
@@ -63,6 +63,18 @@ class TransactionId:
 
     def __str__(self) -> str:
         return self.octets.hex()
+
+
+@dataclass(frozen=True)
+class GlobalId:
+    """The id of a distributed transaction, in a declare: at most 32 octets (part 4, section 4.5.1).
+    A session doesn't support them and rejects such a declare."""
+
+    octets: bytes
+
+    def __post_init__(self) -> None:
+        if len(self.octets) > 32:
+            raise ValueError(f"a global id has at most 32 octets, not {len(self.octets)}")
 
 
 class Role(enum.Enum):
@@ -178,8 +190,7 @@ class Attach:
 
 @dataclass(frozen=True)
 class Flow:
-    """A flow of a link, or of the session alone (section 2.7.4); as a step, it has both a handle
-    and a credit or neither."""
+    """A flow that was handed: of a link, or of the session alone (section 2.7.4)."""
 
     handle: Optional[int] = None
     link_credit: Optional[int] = None
@@ -249,6 +260,19 @@ class AttachCoordinator:
 
 
 @dataclass(frozen=True)
+class LinkFlow:
+    """A flow for a link."""
+
+    handle: int
+    link_credit: int
+
+
+@dataclass(frozen=True)
+class SessionFlow:
+    """A flow of the session alone."""
+
+
+@dataclass(frozen=True)
 class Control:
     """A message on a control link: a declare, a discharge, or neither."""
 
@@ -278,15 +302,20 @@ class ConnectionStop:
     """The connection stopped."""
 
 
-Step = Union[Frame, AttachCoordinator, Control, LinkEnd, End, RemoteEnd, ConnectionStop]
-
-
-def _flow_line(flow: Flow) -> str:
-    if flow.handle is None and flow.link_credit is None:
-        return "flow -"
-    if flow.handle is None or flow.link_credit is None:
-        raise ValueError("a flow of a step has both a handle and a credit, or neither")
-    return str(flow)
+Step = Union[
+    AttachCoordinator,
+    Attach,
+    LinkFlow,
+    SessionFlow,
+    Transfer[TransactionalState],
+    Disposition[DispositionState],
+    Detach,
+    Control,
+    LinkEnd,
+    End,
+    RemoteEnd,
+    ConnectionStop,
+]
 
 
 def _transfer_line(transfer: Transfer) -> str:
@@ -311,7 +340,8 @@ def _disposition_line(disposition: Disposition) -> str:
 _LINES: dict[type, Callable[..., str]] = {
     AttachCoordinator: lambda step: f"attach {_name(step.name)} {_u32(step.handle)}",
     Attach: lambda step: f"link {step._words()}",
-    Flow: _flow_line,
+    LinkFlow: lambda step: f"flow {_u32(step.handle)} {_u32(step.link_credit)}",
+    SessionFlow: lambda _: "flow -",
     Transfer: _transfer_line,
     Disposition: _disposition_line,
     Detach: str,
@@ -343,9 +373,7 @@ class Vetoes:
 
 
 class Refusal(enum.Enum):
-    """Why the layer below refuses: a plain frame, and the session stops; the attach of a control
-    link, which isn't opened. A commit is vetoed, but for `NO_MEMORY`, which stops the session with
-    nothing handed."""
+    """Why the layer below refuses a frame."""
 
     UNATTACHED_HANDLE = "unattached-handle"
     LINK_NAME_NOT_FOUND = "link-name-not-found"
@@ -356,34 +384,69 @@ class Refusal(enum.Enum):
     REMOTE_ENDED = "below-remote-ended"
     NO_MEMORY = "below-no-memory"
 
+    def __str__(self) -> str:
+        return self.value
 
-Below = Union[Takes, Vetoes, Refusal]
+
+@dataclass(frozen=True)
+class Refuses:
+    """The layer below refuses with this error: a plain frame, and the session stops; the attach of
+    a control link, which isn't opened. A commit is vetoed, but for `Refusal.NO_MEMORY`, which stops
+    the session with nothing handed."""
+
+    refusal: Refusal
+
+
+Below = Union[Takes, Vetoes, Refuses]
 
 # The numbers of the header.
 _ANSWERS: dict[Below, int] = {Takes(): 0, Vetoes(): 1}
-_ANSWERS.update((refusal, number) for number, refusal in enumerate(Refusal, start=2))
+_ANSWERS.update((Refuses(refusal), number) for number, refusal in enumerate(Refusal, start=2))
 
 
-class Stop(enum.Enum):
-    """Why a session stopped: it takes no step any more."""
+@dataclass(frozen=True)
+class UnknownTxnId:
+    """The session stopped at a frame under an id that isn't live."""
 
-    UNKNOWN_TXN_ID = "unknown-txn-id"
-    ENDED = "ended"
-    REMOTE_ENDED = "remote-ended"
-    CONNECTION_STOPPED = "connection-stopped"
-    REFUSED_UNATTACHED_HANDLE = Refusal.UNATTACHED_HANDLE.value
-    REFUSED_LINK_NAME_NOT_FOUND = Refusal.LINK_NAME_NOT_FOUND.value
-    REFUSED_HANDLE_IN_USE = Refusal.HANDLE_IN_USE.value
-    REFUSED_ILLEGAL_STATE = Refusal.ILLEGAL_STATE.value
-    REFUSED_TRANSFER_TO_SENDER = Refusal.TRANSFER_TO_SENDER.value
-    REFUSED_CONNECTION_STOPPED = Refusal.CONNECTION_STOPPED.value
-    REFUSED_REMOTE_ENDED = Refusal.REMOTE_ENDED.value
-    REFUSED_NO_MEMORY = Refusal.NO_MEMORY.value
+    def __str__(self) -> str:
+        return "unknown-txn-id"
 
-    @property
-    def refusal(self) -> Optional[Refusal]:
-        """What the layer below refused with, where that is why."""
-        return Refusal(self.value) if self.name.startswith("REFUSED_") else None
+
+@dataclass(frozen=True)
+class Refused:
+    """The session stopped since the layer below refused a frame."""
+
+    refusal: Refusal
+
+    def __str__(self) -> str:
+        return str(self.refusal)
+
+
+@dataclass(frozen=True)
+class Ended:
+    """The session was ended by this side."""
+
+    def __str__(self) -> str:
+        return "ended"
+
+
+@dataclass(frozen=True)
+class RemoteEnded:
+    """The session was ended by the peer."""
+
+    def __str__(self) -> str:
+        return "remote-ended"
+
+
+@dataclass(frozen=True)
+class ConnectionStopped:
+    """The session stopped since the connection did."""
+
+    def __str__(self) -> str:
+        return "connection-stopped"
+
+
+Stop = Union[UnknownTxnId, Refused, Ended, RemoteEnded, ConnectionStopped]
 
 
 # ---- replies -------------------------------------------------------------------------------------
@@ -462,7 +525,7 @@ class AttachRefused:
     refusal: Refusal
 
     def __str__(self) -> str:
-        return f"attach-refused {self.refusal.value}"
+        return f"attach-refused {self.refusal}"
 
 
 @dataclass(frozen=True)
@@ -623,11 +686,23 @@ def _read_answer(text: str) -> Answer:
     return Answer(_read_reply(reply), _read_frames(frames, "out "), _read_frames(frames, "taken "))
 
 
-def _read_stop(text: str) -> SessionStopped:
+_STOPS: dict[str, Stop] = {
+    str(stop): stop
+    for stop in (
+        UnknownTxnId(),
+        Ended(),
+        RemoteEnded(),
+        ConnectionStopped(),
+        *map(Refused, Refusal),
+    )
+}
+
+
+def _read_stop(text: str) -> Stopped:
     if not text.startswith("stop "):
         raise ValueError("the session hasn't stopped")
     stop, _handed, *frames = text.splitlines()
-    return SessionStopped(Stop(stop.removeprefix("stop ")), _read_frames(frames, "taken "))
+    return Stopped(_STOPS[stop.removeprefix("stop ")], _read_frames(frames, "taken "))
 
 
 # ---- errors --------------------------------------------------------------------------------------
@@ -637,12 +712,12 @@ class StepError(Exception):
     """A step has no answer."""
 
 
-class SessionStopped(StepError):
+class Stopped(StepError):
     """The step stopped the session: the layer below refused a plain frame, a frame is under an id
     that isn't live, or the step is an end."""
 
     def __init__(self, stop: Stop, handed: tuple[Frame, ...] = ()) -> None:
-        super().__init__(f"the session stopped: {stop.value}")
+        super().__init__(f"the session stopped: {stop}")
         self.stop = stop
         self.handed = handed
 
@@ -740,58 +815,66 @@ def _check(answer: int) -> None:
 # ---- control messages ----------------------------------------------------------------------------
 
 
-def _short(octets: bytes) -> bytes:
-    if len(octets) > 32:
-        raise ValueError(f"an id has at most 32 octets, not {len(octets)}")
-    return octets
+class ControlMessage:
+    """A message on a control link: a `Declare` or a `Discharge`."""
 
+    @staticmethod
+    def commit(txn_id: TransactionId) -> Discharge:
+        """The discharge that commits a transaction."""
+        return Discharge(txn_id, fail=False)
 
-@dataclass(frozen=True)
-class Declare:
-    """A control message that begins a transaction (part 4, section 4.5.2). A session supports no
-    global id."""
-
-    global_id: Optional[bytes] = None
+    @staticmethod
+    def rollback(txn_id: TransactionId) -> Discharge:
+        """The discharge that rolls a transaction back."""
+        return Discharge(txn_id, fail=True)
 
     def to_payload(self) -> bytes:
         """The message's octets."""
-        kind = 0 if self.global_id is None else 1
-        octets = _short(self.global_id or b"")
+        kind, octets = self._parts()
         return _text(_library.daxurbi_payload, kind, octets, len(octets))
+
+    def _parts(self) -> tuple[int, bytes]:
+        raise NotImplementedError
+
+    @staticmethod
+    def from_payload(payload: bytes) -> Optional[Union[Declare, Discharge]]:
+        """The control message that these octets spell, if they spell one."""
+        kind = ctypes.c_uint32()
+        arguments = (payload, len(payload), ctypes.byref(kind))
+        try:
+            octets = _text(_library.daxurbi_message, *arguments, length=32)
+        except _Misused as misused:
+            if misused.call == _Call.NOT_A_MESSAGE:
+                return None
+            raise
+        if kind.value <= 1:
+            return Declare(GlobalId(octets) if kind.value == 1 else None)
+        fail = {2: None, 3: False, 4: True}[kind.value]
+        return Discharge(TransactionId(octets) if octets else None, fail)
 
 
 @dataclass(frozen=True)
-class Discharge:
-    """A control message that ends a transaction (part 4, section 4.5.3): with `fail` true it is
-    rolled back; false and none commit."""
+class Declare(ControlMessage):
+    """Begins a transaction (part 4, section 4.5.2). A session supports no global id."""
 
-    txn_id: bytes
+    global_id: Optional[GlobalId] = None
+
+    def _parts(self) -> tuple[int, bytes]:
+        return (0, b"") if self.global_id is None else (1, self.global_id.octets)
+
+
+@dataclass(frozen=True)
+class Discharge(ControlMessage):
+    """Ends a transaction (part 4, section 4.5.3): with `fail` true it is rolled back; false and
+    none commit. The id is none where the message has an empty one, which no transaction is
+    given."""
+
+    txn_id: Optional[TransactionId]
     fail: Optional[bool] = None
 
-    def to_payload(self) -> bytes:
-        """The message's octets."""
+    def _parts(self) -> tuple[int, bytes]:
         kind = {None: 2, False: 3, True: 4}[self.fail]
-        octets = _short(self.txn_id)
-        return _text(_library.daxurbi_payload, kind, octets, len(octets))
-
-
-ControlMessage = Union[Declare, Discharge]
-
-
-def read_payload(payload: bytes) -> Optional[ControlMessage]:
-    """The control message that these octets spell, if they spell one."""
-    kind = ctypes.c_uint32()
-    try:
-        octets = _text(
-            _library.daxurbi_message, payload, len(payload), ctypes.byref(kind), length=32
-        )
-    except _Misused as misused:
-        if misused.call == _Call.NOT_A_MESSAGE:
-            return None
-        raise
-    if kind.value <= 1:
-        return Declare(octets if kind.value == 1 else None)
-    return Discharge(octets, {2: None, 3: False, 4: True}[kind.value])
+        return kind, b"" if self.txn_id is None else self.txn_id.octets
 
 
 # ---- sessions ------------------------------------------------------------------------------------
@@ -849,7 +932,7 @@ class Session:
     def step(self, step: Step, below: Below = Takes()) -> Answer:
         """One step, where the layer below answers as it is said.
 
-        Raises SessionStopped where this step stopped the session, which is final, and StoppedBefore
+        Raises Stopped where this step stopped the session, which is final, and StoppedBefore
         where one had. MemoryError, NoLinkLeft and ValueError (a field has a value that no line has,
         or the session is closed) leave the session as it was.
         """
@@ -869,7 +952,7 @@ class Session:
         want of memory."""
         return _read_answer(self._report())
 
-    def stop(self) -> SessionStopped:
+    def stop(self) -> Stopped:
         """Why the session stopped, where it did."""
         return _read_stop(self._report())
 
@@ -901,7 +984,9 @@ class Session:
     def _frames_of_commit(self, step: Step) -> Optional[tuple[Frame, ...]]:
         """The frames that the step would hand as a commit; None where it isn't the commit of a live
         transaction."""
-        message = read_payload(step.payload) if isinstance(step, Control) else None
-        if not isinstance(message, Discharge) or message.fail or not message.txn_id:
+        if not isinstance(step, Control):
             return None
-        return self.pending(TransactionId(message.txn_id))
+        message = ControlMessage.from_payload(step.payload)
+        if not isinstance(message, Discharge) or message.fail or message.txn_id is None:
+            return None
+        return self.pending(message.txn_id)

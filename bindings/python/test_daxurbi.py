@@ -13,12 +13,12 @@ from pathlib import Path
 from typing import Optional
 
 import daxurbi
-from daxurbi import Accepted, Attach, AttachCoordinator, Attached, AttachRefused, Below, Control
-from daxurbi import Declare, Detach, Discharge, Disposition, End, Flow, Frame, LinkEnd
-from daxurbi import LinkClosed, LinkEnded, NoLink, Ok, Outcome, Received, Refusal, Rejected
-from daxurbi import RejectText, RemoteEnd, Role, Rollback, Session, SessionStopped, Step, Stop
-from daxurbi import StoppedBefore, Takes, TransactionalState, TransactionId, Transfer, UnknownId
-from daxurbi import Vetoes
+from daxurbi import Accepted, Attach, AttachCoordinator, Attached, AttachRefused, Below
+from daxurbi import ConnectionStop, Control, ControlMessage, Declare, Detach, Discharge, Disposition
+from daxurbi import End, Flow, Frame, GlobalId, LinkClosed, LinkEnd, LinkEnded, LinkFlow, NoLink, Ok
+from daxurbi import Outcome, Received, Refusal, Refused, Refuses, Rejected, RejectText, RemoteEnd
+from daxurbi import Role, Rollback, Session, SessionFlow, Step, Stopped, StoppedBefore, Takes
+from daxurbi import TransactionalState, TransactionId, Transfer, UnknownId, UnknownTxnId, Vetoes
 
 EXAMPLES = Path(__file__).resolve().parents[2] / "examples"
 ONE = bytes(15) + b"\x01"
@@ -35,7 +35,7 @@ def declared(session: Session, link: int) -> TransactionId:
 
 
 def commit(link: int, txn_id: TransactionId) -> Control:
-    return Control(link, Discharge(txn_id.octets, fail=False).to_payload())
+    return Control(link, ControlMessage.commit(txn_id).to_payload())
 
 
 def post(txn_id: TransactionId, number: int = 7, payload: bytes = b"hi") -> Transfer:
@@ -67,7 +67,7 @@ class Answers(unittest.TestCase):
     def test_rollback(self) -> None:
         txn_id = declared(self.session, self.link)
         self.session.step(post(txn_id))
-        rollback = Control(self.link, Discharge(txn_id.octets, fail=True).to_payload())
+        rollback = Control(self.link, ControlMessage.rollback(txn_id).to_payload())
         answer = self.session.step(rollback)
         self.assertEqual((answer.reply, answer.handed), (Accepted(), ()))
 
@@ -81,11 +81,11 @@ class Answers(unittest.TestCase):
     def test_rejections(self) -> None:
         answer = self.session.step(commit(self.link, TransactionId(TWO)))
         self.assertEqual(answer.reply, Rejected(UnknownId()))
-        answer = self.session.step(Control(self.link, Declare(b"global").to_payload()))
+        answer = self.session.step(Control(self.link, Declare(GlobalId(b"global")).to_payload()))
         self.assertEqual(answer.reply, Rejected(UnknownId(RejectText.GLOBAL_ID)))
 
     def test_links(self) -> None:
-        refused = self.session.step(AttachCoordinator("d", 1), Refusal.HANDLE_IN_USE)
+        refused = self.session.step(AttachCoordinator("d", 1), Refuses(Refusal.HANDLE_IN_USE))
         self.assertEqual(refused.reply, AttachRefused(Refusal.HANDLE_IN_USE))
         self.assertEqual(self.session.step(AttachCoordinator("d", 1)).reply, Attached(1))
         self.assertEqual(self.session.step(Control(1, b"hi")).reply, LinkClosed())
@@ -95,8 +95,6 @@ class Answers(unittest.TestCase):
     def test_plain_frames(self) -> None:
         for frame in (
             Attach("q", 1, Role.SENDER),
-            Flow(1, 5),
-            Flow(),
             Transfer(1, 7, True, None, b""),
             Disposition(Role.RECEIVER, 1, 2, True, Outcome.REJECTED),
             Detach(1, True),
@@ -104,22 +102,25 @@ class Answers(unittest.TestCase):
             answer = self.session.step(frame)
             self.assertEqual((answer.reply, answer.handed), (Ok(), (frame,)))
 
+    def test_flows(self) -> None:
+        self.assertEqual(self.session.step(LinkFlow(1, 5)).handed, (Flow(1, 5),))
+        self.assertEqual(self.session.step(SessionFlow()).handed, (Flow(),))
+
     def test_refusals_stop(self) -> None:
         for refusal in Refusal:
             with self.subTest(refusal), Session() as session:
-                with self.assertRaises(SessionStopped) as caught:
-                    session.step(Transfer(1, 7), refusal)
-                self.assertEqual(caught.exception.stop.refusal, refusal)
+                with self.assertRaises(Stopped) as caught:
+                    session.step(Transfer(1, 7), Refuses(refusal))
+                self.assertEqual(caught.exception.stop, Refused(refusal))
                 self.assertEqual(caught.exception.handed, ())
 
     def test_stop_is_final(self) -> None:
-        with self.assertRaises(SessionStopped) as caught:
+        with self.assertRaises(Stopped) as caught:
             self.session.step(post(TransactionId(TWO)))
-        self.assertEqual(caught.exception.stop, Stop.UNKNOWN_TXN_ID)
-        self.assertIsNone(caught.exception.stop.refusal)
+        self.assertEqual(caught.exception.stop, UnknownTxnId())
         with self.assertRaises(StoppedBefore):
             self.session.step(End())
-        self.assertEqual(self.session.stop().stop, Stop.UNKNOWN_TXN_ID)
+        self.assertEqual(self.session.stop().stop, UnknownTxnId())
         with self.assertRaises(ValueError):
             self.session.answer()
 
@@ -142,21 +143,21 @@ class Payloads(unittest.TestCase):
     """Control messages."""
 
     def test_round_trip(self) -> None:
-        for octets in (b"", b"\xca\xfe", bytes(32)):
-            for message in (
-                Declare(),
-                Declare(octets),
-                Discharge(octets),
-                Discharge(octets, fail=False),
-                Discharge(octets, fail=True),
-            ):
-                self.assertEqual(daxurbi.read_payload(message.to_payload()), message)
+        for message in (
+            Declare(),
+            Declare(GlobalId(b"")),
+            Declare(GlobalId(bytes(32))),
+            Discharge(TransactionId(b"\xca\xfe")),
+            Discharge(None, fail=False),
+            Discharge(TransactionId(bytes(32)), fail=True),
+        ):
+            self.assertEqual(ControlMessage.from_payload(message.to_payload()), message)
 
     def test_others(self) -> None:
-        self.assertIsNone(daxurbi.read_payload(b""))
-        self.assertIsNone(daxurbi.read_payload(b"hi"))
+        self.assertIsNone(ControlMessage.from_payload(b""))
+        self.assertIsNone(ControlMessage.from_payload(b"hi"))
         with self.assertRaises(ValueError):
-            Discharge(bytes(33)).to_payload()
+            GlobalId(bytes(33))
 
 
 class Room:
@@ -209,7 +210,7 @@ class Misuse(unittest.TestCase):
                 AttachCoordinator("c", -1),
                 AttachCoordinator("c", 2**32),
                 LinkEnd(2**64),
-                Flow(1, None),
+                LinkFlow(1, -1),
                 Transfer(1, state=Outcome.ACCEPTED),
                 Disposition(Role.SENDER, 1, state=Received()),
             ):
@@ -268,7 +269,7 @@ class Lines(unittest.TestCase):
             with Session() as session:
                 try:
                     session.step(step)
-                except SessionStopped:
+                except Stopped:
                     pass
 
     def test_other_lines(self) -> None:
@@ -301,7 +302,8 @@ def random_step(chance: random.Random) -> Step:
     return chance.choice((
         lambda: AttachCoordinator(name, number()),
         lambda: Attach(name, number(), role),
-        lambda: Flow(number(), number()),
+        lambda: LinkFlow(number(), number()),
+        SessionFlow,
         lambda: Transfer(number(), maybe(number()), maybe(flag), maybe(state()), payload),
         lambda: Disposition(role, number(), maybe(number()), flag, maybe(state()) or outcome()),
         lambda: Detach(number(), flag),
@@ -337,8 +339,8 @@ def report(session: Session, steps: list[Step]) -> str:
     for step in steps:
         try:
             answer = session.step(step)
-        except SessionStopped as stopped:
-            stop = [f"stop {stopped.stop.value}", f"handed {len(stopped.handed)}"]
+        except Stopped as stopped:
+            stop = [f"stop {stopped.stop}", f"handed {len(stopped.handed)}"]
             break
         lines += [str(answer.reply), *(f"out {frame}" for frame in answer.sent_back)]
         taken += [f"taken {frame}" for frame in answer.handed]
@@ -362,7 +364,7 @@ def read_step(line: str) -> Step:
     if word == "link":
         return Attach(words[0], int(words[1]), Role(words[2]))
     if word == "flow":
-        return Flow() if words == ["-"] else Flow(int(words[0]), int(words[1]))
+        return SessionFlow() if words == ["-"] else LinkFlow(int(words[0]), int(words[1]))
     if word in ("transfer", "post"):
         handle, number, settled, *outcome, payload = words
         return Transfer(
@@ -382,7 +384,7 @@ def read_step(line: str) -> Step:
         return Control(int(words[0]), daxurbi._read_payload(words[1]))
     if word == "link-end":
         return LinkEnd(int(words[0]))
-    return {"end": End, "remote-end": RemoteEnd, "connection-stop": daxurbi.ConnectionStop}[word]()
+    return {"end": End, "remote-end": RemoteEnd, "connection-stop": ConnectionStop}[word]()
 
 
 class Resources(unittest.TestCase):

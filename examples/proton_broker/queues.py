@@ -9,8 +9,8 @@ from collections import Counter
 from dataclasses import dataclass, field
 from typing import Iterable, Iterator, Optional
 
-from daxurbi import Attach, Below, Detach, Disposition, Frame, Outcome, Refusal, Role, Step
-from daxurbi import Takes, Transfer, Vetoes
+from daxurbi import Attach, Below, Detach, Disposition, Frame, Outcome, Refusal, Refuses, Role
+from daxurbi import Step, Takes, Transfer, Vetoes
 
 
 @dataclass(eq=False)
@@ -82,13 +82,13 @@ class SessionQueues:
         """A frame on a handle that isn't attached is refused, and so is a transfer that its queue
         has no room for: the broker asks `has_room` before it makes the step."""
         if isinstance(step, Transfer) and not self._may_post(step):
-            return Refusal.UNATTACHED_HANDLE
+            return Refuses(Refusal.UNATTACHED_HANDLE)
         if isinstance(step, Transfer) and step.state is None and not self.has_room(step.handle):
-            return Refusal.ILLEGAL_STATE
+            return Refuses(Refusal.ILLEGAL_STATE)
         if isinstance(step, Attach) and step.handle in self._links:
-            return Refusal.HANDLE_IN_USE
+            return Refuses(Refusal.HANDLE_IN_USE)
         if isinstance(step, Detach) and step.handle not in self._links:
-            return Refusal.UNATTACHED_HANDLE
+            return Refuses(Refusal.UNATTACHED_HANDLE)
         return Takes()
 
     def review_commit(self, frames: tuple[Frame, ...]) -> Below:

@@ -10,10 +10,10 @@ from typing import Callable, Optional
 from proton import Condition, Delivery, Described, Link, Terminus, ulong
 
 import daxurbi
-from daxurbi import Accepted, Answer, Attach, AttachCoordinator, AttachRefused
-from daxurbi import Control, Declared, Detach, Discharge, Disposition, LinkClosed
-from daxurbi import LinkEnd, Outcome, Rejected, RemoteEnd, Role, Rollback, Step, Stop
-from daxurbi import TransactionalState, TransactionId, Transfer
+from daxurbi import Accepted, Answer, Attach, AttachCoordinator, AttachRefused, Control
+from daxurbi import ControlMessage, Declared, Detach, Discharge, Disposition, LinkClosed, LinkEnd
+from daxurbi import Outcome, Refusal, Refused, Rejected, RemoteEnd, Role, Rollback, Step
+from daxurbi import TransactionalState, TransactionId, Transfer, UnknownTxnId
 
 from queues import Queues, SessionQueues, deliveries
 
@@ -30,8 +30,8 @@ DESCRIPTORS = {outcome: int(descriptor) for descriptor, outcome in OUTCOMES.item
 
 # What the peer is told where its session is over for a cause of its own.
 CONDITIONS = {
-    Stop.UNKNOWN_TXN_ID: "amqp:transaction:unknown-id",
-    Stop.REFUSED_UNATTACHED_HANDLE: "amqp:session:unattached-handle",
+    UnknownTxnId(): "amqp:transaction:unknown-id",
+    Refused(Refusal.UNATTACHED_HANDLE): "amqp:session:unattached-handle",
 }
 
 # How many messages a peer may send on a link before the broker has taken one.
@@ -73,8 +73,8 @@ class Served:
         self._log(f"> {daxurbi.step_line(step)}")
         try:
             answer = self._core.step_over(step, self._layer)
-        except daxurbi.SessionStopped as stopped:
-            self._log(f"< stop {stopped.stop.value}")
+        except daxurbi.Stopped as stopped:
+            self._log(f"< stop {stopped.stop}")
             self.condition = CONDITIONS.get(stopped.stop, "amqp:internal-error")
             return None
         self._log(f"< {answer.reply}")
@@ -207,7 +207,7 @@ class Served:
 
     def _control(self, number: int, delivery: Delivery, payload: bytes) -> None:
         """A message on a control link."""
-        message = daxurbi.read_payload(payload)
+        message = ControlMessage.from_payload(payload)
         answer = self._step(Control(number, payload))
         if answer is None:
             return
@@ -257,20 +257,18 @@ class Served:
         try:
             return transactional_state(delivery)
         except (TypeError, ValueError):
-            self.condition = CONDITIONS[Stop.UNKNOWN_TXN_ID]
+            self.condition = CONDITIONS[UnknownTxnId()]
             return None
 
     def _committed(self, number: int, message: Discharge, handed: int) -> None:
-        txn_id = TransactionId(message.txn_id)
-        self._live[number].remove(txn_id)
-        self._retired.pop(txn_id, None)
+        self._live[number].remove(message.txn_id)
+        self._retired.pop(message.txn_id, None)
         frames = "frame" if handed == 1 else "frames"
         self._tell(f"a transaction was committed: {handed} {frames} handed")
 
     def _rolled_back(self, number: int, message: Discharge, why: str) -> None:
-        txn_id = TransactionId(message.txn_id)
-        self._live[number].remove(txn_id)
-        self._return(txn_id)
+        self._live[number].remove(message.txn_id)
+        self._return(message.txn_id)
         self._tell(f"a transaction was rolled back: {why}")
 
     def _roll_back_all(self, number: int) -> None:
