@@ -47,7 +47,8 @@ enum {
     /* The session had stopped before this step. The report is still that of the step that stopped
      * it. */
     DAXURBI_STOPPED_BEFORE = 2,
-    /* Out of memory. The call may be made again. */
+    /* Out of memory. The call may be made again. (A step that hands frames may be DAXURBI_STOPPED
+     * instead: see DAXURBI_TAKE.) */
     DAXURBI_NO_MEMORY = 3,
     /* The slot is closed. */
     DAXURBI_NOT_OPEN = 4,
@@ -117,7 +118,9 @@ uint32_t daxurbi_close(daxurbi_slot *slot);
  * What the caller's layer below answers to whatever this step calls there. */
 enum {
     /* It takes each frame, opens the control link, lets the disposition be sent, accepts the
-     * commit. */
+     * commit. Where the library lacks the memory to keep what a plain frame or a commit hands, the
+     * step is answered as with DAXURBI_REFUSE_NO_MEMORY: it stops the session with
+     * `below-no-memory`, and nothing was handed. */
     DAXURBI_TAKE = 0,
     /* It vetoes the commit (of a transaction under which at least one frame came): it is rolled
      * back, and the reply is `rejected rollback`. To all that is no commit it is DAXURBI_TAKE. */

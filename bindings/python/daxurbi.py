@@ -363,7 +363,8 @@ def step_line(step: Step) -> str:
 
 @dataclass(frozen=True)
 class Takes:
-    """The layer below takes each frame."""
+    """The layer below takes each frame. Where the core lacks the memory to keep what a step hands,
+    the step stops the session with `Refusal.NO_MEMORY`, and nothing was handed."""
 
 
 @dataclass(frozen=True)

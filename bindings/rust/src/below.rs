@@ -14,7 +14,8 @@ use crate::stop::Refusal;
 /// What the layer below will answer to a step.
 #[derive(Clone, Copy, Debug, Default, PartialEq, Eq, Hash)]
 pub enum Below {
-    /// It takes each frame.
+    /// It takes each frame. Where the core lacks the memory to keep what a step hands, the step
+    /// stops the session with [`Refusal::NoMemory`], and nothing was handed.
     #[default]
     Takes,
     /// It vetoes the commit, which is rolled back; to a step that is no commit the same as
