@@ -52,6 +52,45 @@ impl Below {
 }
 
 /// A layer below a session, as queues are: it is asked before a step, and handed frames after it.
+///
+/// ```
+/// use daxurbi::{Below, Frame, Handle, Layer, Refusal, Session, Step};
+///
+/// /// A queue with a greatest length.
+/// struct Queue {
+///     frames: Vec<Frame>,
+///     limit: usize,
+/// }
+///
+/// impl Layer for Queue {
+///     fn review_commit(&mut self, frames: &[Frame]) -> Below {
+///         match self.frames.len() + frames.len() <= self.limit {
+///             true => Below::Takes,
+///             false => Below::Vetoes,
+///         }
+///     }
+///
+///     fn review(&mut self, step: &Step) -> Below {
+///         match step {
+///             Step::Transfer(_) if self.frames.len() == self.limit => {
+///                 Below::Refuses(Refusal::IllegalState)
+///             }
+///             _ => Below::Takes,
+///         }
+///     }
+///
+///     fn take(&mut self, frame: &Frame) {
+///         self.frames.push(frame.clone());
+///     }
+/// }
+///
+/// let mut queue = Queue { frames: Vec::new(), limit: 100 };
+/// let mut session = Session::new()?;
+/// let flow = Step::LinkFlow { handle: Handle(1), link_credit: 10 };
+/// session.step_over(&flow, &mut queue)?;
+/// assert_eq!(queue.frames[0].to_string(), "flow 1 10");
+/// # Ok::<(), Box<dyn std::error::Error>>(())
+/// ```
 pub trait Layer {
     /// What the layer will answer to a step that hands the frames of this commit.
     fn review_commit(&mut self, frames: &[Frame]) -> Below;
