@@ -38,7 +38,7 @@ typedef struct daxurbi_slot {
  *
  * Each call answers with one of these numbers. But for DAXURBI_OK and DAXURBI_STOPPED, the call has
  * changed nothing that a later call could show: neither the slot nor a buffer, except that
- * DAXURBI_SHORT_BUFFER sets `*needed`. */
+ * DAXURBI_SHORT_BUFFER sets `*needed`, and of `daxurbi_message` `*kind` too. */
 enum {
     DAXURBI_OK = 0,
     /* The step stopped the session, which is never DAXURBI_OK again but for `daxurbi_close`,
@@ -154,8 +154,8 @@ enum {
  *   DAXURBI_OK: the step was answered. DAXURBI_STOPPED: it stopped the session: the layer below
  *   refused, the frame is under an id that isn't live, or the step is an end. In both cases the
  *   report is that of this step.
- *   DAXURBI_NOT_OPEN, DAXURBI_NOT_AN_ANSWER, DAXURBI_STOPPED_BEFORE, DAXURBI_NO_LINK_LEFT,
- *   DAXURBI_NOT_A_STEP, DAXURBI_NO_MEMORY (in this order, but that memory may run out while the
+ *   DAXURBI_NOT_OPEN, DAXURBI_NOT_AN_ANSWER, DAXURBI_STOPPED_BEFORE, DAXURBI_NOT_A_STEP,
+ *   DAXURBI_NO_LINK_LEFT, DAXURBI_NO_MEMORY (in this order, but that memory may run out while the
  *   line is read): nothing changed, and the report is still that of the step before. */
 uint32_t daxurbi_step(daxurbi_slot *slot, const uint8_t *line, size_t line_len, uint32_t answer);
 
