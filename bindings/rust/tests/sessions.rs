@@ -91,18 +91,84 @@ fn a_commit_that_is_starved_stops_and_hands_nothing() {
     );
 }
 
+const REFUSALS: [Refusal; 8] = [
+    Refusal::UnattachedHandle,
+    Refusal::LinkNameNotFound,
+    Refusal::HandleInUse,
+    Refusal::IllegalState,
+    Refusal::TransferToSender,
+    Refusal::ConnectionStopped,
+    Refusal::RemoteEnded,
+    Refusal::NoMemory,
+];
+
+/// What a layer below answers but for taking.
+fn refusing() -> impl Iterator<Item = Below> {
+    let refuses = REFUSALS.into_iter().map(Below::Refuses);
+    refuses.chain([Below::Vetoes])
+}
+
+#[test]
+fn a_post_with_a_disposition_is_refused_with_what_was_told() {
+    for refusal in REFUSALS {
+        let mut session = Session::with_ids(&[ONE]).unwrap();
+        let link = opened(&mut session);
+        let txn_id = declared(&mut session, link);
+        let stop = Stop::Refused(refusal);
+        let handed = Vec::new();
+        assert_eq!(
+            session.step(&post(txn_id, 1), refusal.into()),
+            Err(StepError::Stopped { stop, handed })
+        );
+    }
+}
+
+#[test]
+fn what_calls_nothing_below_is_not_refused() {
+    for below in refusing() {
+        let mut session = Session::with_ids(&[ONE]).unwrap();
+        let link = opened(&mut session);
+        let reply = |session: &mut Session, step: &Step| session.step(step, below).unwrap().reply;
+        let Reply::Declared(txn_id) = reply(&mut session, &declare(link)) else {
+            panic!("{below:?}");
+        };
+        let settled = Step::Transfer(Transfer {
+            handle: Handle(1),
+            delivery_id: Some(1),
+            settled: Some(true),
+            state: Some(TransactionalState::under(txn_id)),
+            payload: Vec::new(),
+        });
+        assert_eq!(reply(&mut session, &settled), Reply::Ok);
+        let rollback = control(link, ControlMessage::rollback(txn_id));
+        assert_eq!(reply(&mut session, &rollback), Reply::Accepted);
+        reply(&mut session, &declare(link));
+        let empty = control(link, ControlMessage::commit(txn_id));
+        assert_eq!(reply(&mut session, &empty), Reply::Accepted);
+        assert_eq!(
+            reply(&mut session, &Step::LinkEnd { link }),
+            Reply::LinkEnded
+        );
+    }
+}
+
+#[test]
+fn a_commit_that_is_refused_is_vetoed_but_for_memory() {
+    for below in refusing().filter(|below| *below != Below::Refuses(Refusal::NoMemory)) {
+        let mut session = Session::with_ids(&[ONE]).unwrap();
+        let link = opened(&mut session);
+        let txn_id = declared(&mut session, link);
+        session.step(&post(txn_id, 1), Below::Takes).unwrap();
+        let commit = control(link, ControlMessage::commit(txn_id));
+        let answer = session.step(&commit, below).unwrap();
+        let vetoed = Reply::Rejected(TransactionError::Rollback);
+        assert_eq!((answer.reply, answer.handed.len()), (vetoed, 0));
+    }
+}
+
 #[test]
 fn each_refusal_is_told() {
-    for refusal in [
-        Refusal::UnattachedHandle,
-        Refusal::LinkNameNotFound,
-        Refusal::HandleInUse,
-        Refusal::IllegalState,
-        Refusal::TransferToSender,
-        Refusal::ConnectionStopped,
-        Refusal::RemoteEnded,
-        Refusal::NoMemory,
-    ] {
+    for refusal in REFUSALS {
         let mut session = Session::new().unwrap();
         let answer = session.step(&attach("c"), refusal.into()).unwrap();
         assert_eq!(answer.reply, Reply::AttachRefused(refusal));
