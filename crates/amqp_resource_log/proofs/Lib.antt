@@ -9,3 +9,4 @@ pub mod Indexing
 pub mod Live
 pub mod Counting
 pub mod Reading
+pub mod Copying

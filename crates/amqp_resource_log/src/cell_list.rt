@@ -12,8 +12,8 @@ use std::marker::Model;
 use std::mem::replace;
 use std::sync::ledger::Ledger;
 
-/// The cells of the log. Only [`CellList::take`] and [`CellList::bring`] read a cell, and each
-/// counts a look where it is live: so nobody reads kept work without counting it.
+/// The cells of the log. Only [`CellList::take`], [`CellList::lend`] and [`CellList::bring`] read a
+/// cell, and each counts a look where it is live: so nobody reads kept work without counting it.
 #[derive(Drop)]
 pub struct CellList {
     cells: Vec<Cell>,
@@ -88,6 +88,19 @@ impl CellList {
             unreachable!()
         };
         (txn_id, work)
+    }
+
+    /// The work of a live cell, which stays in it: one look.
+    pub fn lend<L: Ledger>(&self, place: usize, looks: &mut Looks<L>) -> &TxnWorkFrame
+        requires { is_some (work_at self.now.cells place) ≡ true }
+        ensures work { Some result.now ≡ work_at self.now.cells place }
+        ensures looks { looks.new ≡ looks.old + 1 }
+    {
+        looks.tick();
+        let Cell::Live { work, .. } = &self.cells[place] else {
+            unreachable!()
+        };
+        work
     }
 
     /// Brings a live cell to another place and answers its id: one look. A dead cell, which isn't

@@ -19,7 +19,7 @@
 //! ```
 //!
 //! [`Looks`] counts the looks into the log: one for each cell whose work is taken, and one for each
-//! live cell when the log is closed up. Two calls alone read a cell, and each counts its look.
+//! live cell when the log is closed up. Three calls alone read a cell, and each counts its look.
 //!
 //! Below stand the types of `amqp_txn_types`. The promise that this crate carries: the index gives,
 //! for each live id, the places of its live cells, rising; and each call says what becomes of the
@@ -28,6 +28,7 @@
 
 mod cell;
 mod cell_list;
+mod copies;
 mod index;
 mod live_id;
 mod live_work;

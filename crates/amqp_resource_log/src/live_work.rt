@@ -1,6 +1,6 @@
 //! What is kept for the live ids, as one value.
 
-ghost use Rattle.std.specs.Prelude.{◌≡◌, ◌≤◌, ◌+◌, ◌++◌, ◌∷◌, ◌↔◌, [], IsTrue, Some, None, cond, length, map, is_some, vec_capacity, OnOk};
+ghost use Rattle.std.specs.Prelude.{◌≡◌, ◌≤◌, ◌+◌, ◌++◌, ◌∷◌, ◌↔◌, [], IsTrue, Some, None, IfOk, cond, length, map, is_some, vec_capacity, OnOk};
 ghost use Rattle.std.specs.Option.{option_map};
 ghost use Rattle.amqp_txn_types.specs.declared.id.TransactionId.{TransactionId};
 ghost use Rattle.amqp_txn_types.specs.Frames.{stripped};
@@ -137,6 +137,20 @@ impl LiveWork {
         ensures room { KeepsPlaces self.old self.new }
     {
         self.log.keep(txn_id, work)
+    }
+
+    /// Copies of all that is kept for an id, in order, each without its transactional state: at most
+    /// one look for each. None of an id that isn't live. The only error is out of memory.
+    pub fn copy_all<L: Ledger>(
+        &self,
+        txn_id: &TransactionId,
+        looks: &mut Looks<L>,
+    ) -> Result<Vec<Frame>, NoMemory>
+        ensures list { IfOk result (λ list. list.items
+            ≡ map stripped (frames_kept (kept self.now txn_id.now))) }
+        ensures looks { looks.new ≤ looks.old + length (frames_kept (kept self.now txn_id.now)) }
+    {
+        self.log.copy_all(txn_id, looks)
     }
 
     /// Ends an id and takes all that is kept for it out, in order, each without its transactional

@@ -11,6 +11,7 @@ ghost use Rattle.amqp_resource_log.specs.Cells.{EndsId, SameLog, arrived, closed
 ghost use Rattle.amqp_resource_log.specs.Index.{homes_in, places_kept};
 
 use crate::cell_list::CellList;
+use crate::copies::copy_places;
 use crate::index::{
     Index, add_place, drop_place, first_place, home_of, move_place, place_count, take_id,
 };
@@ -282,6 +283,23 @@ impl ArrivalLog {
         drop_place(&mut self.index, txn_id, place);
         self.dead += 1;
         work
+    }
+
+    /// Copies of all work of an id, in order, each without its transactional state: at most one
+    /// look for each. None of an id that isn't live. The only error is out of memory.
+    pub fn copy_all<L: Ledger>(
+        &self,
+        txn_id: &TransactionId,
+        looks: &mut Looks<L>,
+    ) -> Result<Vec<Frame>, NoMemory>
+        ensures list { IfOk result (λ list. list.items
+            ≡ map stripped (frames_of self.now txn_id.now)) }
+        ensures looks { looks.new ≤ looks.old + length (frames_of self.now txn_id.now) }
+    {
+        match self.index.get(txn_id) {
+            Some(live) => copy_places(self.alloc, &self.cells, &live.places, txn_id, looks),
+            None => Ok(Vec::new(self.alloc)),
+        }
     }
 
     /// Ends an id and takes all its work out, in order, each without its transactional state, into
