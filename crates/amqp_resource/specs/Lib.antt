@@ -55,3 +55,9 @@ pub use Rattle.amqp_below_ids.specs.Listed
 pub use Rattle.amqp_below_ids.specs.Counted
 pub use Rattle.amqp_below_uuid_ids.specs.Uuids
 pub use Rattle.amqp_below_uuid_ids.specs.Seeded
+pub use Rattle.amqp_resource_shared.specs.Kept
+pub use Rattle.amqp_resource_shared.specs.SharedView
+pub use Rattle.amqp_resource_shared.specs.OneStep
+pub use Rattle.amqp_resource_shared.specs.Receipts
+pub use Rattle.amqp_resource_shared.specs.ReplyCodes
+pub use Rattle.amqp_resource_shared.specs.Close

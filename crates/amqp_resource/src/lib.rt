@@ -8,6 +8,7 @@
 //! | [`TxnCoordinator`], [`TransactionManager`], [`ResourceTransaction`] | the coordinator, and the work of its transactions |
 //! | [`IdSource`], [`ListIds`], [`CountIds`], [`UuidIds`], [`seeded_ids`] | where ids come from |
 //! | [`ArrivalLog`], [`Looks`], [`presumptive`] | the work under live ids, and what its sender is told at once |
+//! | [`SharedTxnSession`], [`Locked`], [`Share`], [`Receipt`], [`ReplyCode`], [`StoppedAt`], [`Closed`], [`CloseWhy`] | one session for several threads |
 //! | [`SessionAcceptor`], [`AcceptedSession`], [`BeganSession`], [`begin`] | sessions that are accepted or begun |
 //!
 //! A list of steps drives a session over a layer below, here the bounded queue of `amqp_examples`
@@ -44,4 +45,7 @@ pub use amqp_resource_record::{
 };
 pub use amqp_resource_session::{
     HandleControlLink, TxnSession, drive, drive_counted, the_view_of_a_record_looks_back,
+};
+pub use amqp_resource_shared::{
+    CloseWhy, Closed, Locked, Receipt, ReplyCode, Share, SharedTxnSession, StoppedAt,
 };

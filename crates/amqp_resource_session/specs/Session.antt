@@ -1,5 +1,6 @@
 -- The parts of a session that clauses speak of.
-use Rattle.std.specs.Prelude.{ℕ, ◌≡◌, ◌≤◌, Bool, Option, Some, None, Result, Ok, Err, List, []}
+use Rattle.std.specs.Prelude.{ℕ, ◌≡◌, ◌≤◌, Bool, Option, Some, None, Result, Ok, Err, List, [], cond, map}
+use Rattle.std.specs.Option.{option_map}
 use Rattle.amqp_below_ids.specs.Drawn.{DrawnIds}
 use Rattle.amqp_resource_record.specs.declared.entry.Entry.{Entry}
 use Rattle.amqp_resource_held.specs.declared.held.Held.{Held}
@@ -10,7 +11,11 @@ use Rattle.amqp_below_layer.specs.Told.{Told}
 use Rattle.amqp_txn_types.specs.declared.id.TransactionId.{TransactionId}
 use Rattle.amqp_resource_session.specs.declared.session.TxnSession.{TxnSession}
 use Rattle.amqp_resource_record.specs.Stops.{fault_code, ended_code}
-use Rattle.amqp_resource_log.specs.Live.{frame_count, owed}
+use Rattle.amqp_resource_log.specs.Live.{Kept, frame_count, kept, owed}
+use Rattle.amqp_resource_record.specs.Hands.{frames_of}
+use Rattle.amqp_resource_record.specs.Live.{is_live}
+use Rattle.amqp_txn_types.specs.Frames.{stripped}
+use Rattle.amqp_txn_types.specs.declared.performatives.Frame.{Frame}
 use Rattle.amqp_txn_types.specs.declared.small.SessionState.TheVariants.{Mapped}
 use Rattle.amqp_resource_record.specs.declared.stop.StepError.TheVariants as errors
 use Rattle.amqp_resource_held.specs.Held.{Stands, SameHeld}
@@ -78,6 +83,17 @@ FitsTogether session = Fits (held_of session) × (owed_of session ≤ frame_coun
 -- the id is live on the session
 abbrev pub is_live_on : {S : Type 0} → TxnSession S → TransactionId → Bool
 is_live_on session id = is_kept session.held.work id
+
+-- the frames that are kept for an id on the session, each without its transactional state; none
+-- where it isn't live
+abbrev pub bare_frames_on : {S : Type 0} → TxnSession S → TransactionId → Option (List Frame)
+bare_frames_on session id =
+    option_map (λ (one : Kept). map stripped one.1) (kept session.held.work id)
+
+-- pending: the frames that a commit of the id would hand, those that came under it since its last
+-- declare, each without its transactional state; none where it isn't live (4.4, Transactional Work)
+abbrev pub pending : List Entry → TransactionId → Option (List Frame)
+pending entries id = cond (is_live entries id) (Some (map stripped (frames_of entries id))) None
 
 -- a session stands for a record: the record is legal, and the session's live ids with their frames
 -- and holders, and its links, are those of the record

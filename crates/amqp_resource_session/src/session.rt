@@ -1,12 +1,14 @@
 //! A session: what it keeps, the layer below, and whether it stopped.
 
-ghost use Rattle.std.specs.Prelude.{◌≡◌, ◌≤◌, ◌<◌, ◌+◌, ◌*◌, ◌-◌, ◌^◌, ◌↔◌, [], List, None, Some, Err, IsTrue};
+ghost use Rattle.std.specs.Prelude.{◌≡◌, ◌≤◌, ◌<◌, ◌+◌, ◌*◌, ◌-◌, ◌^◌, ◌↔◌, [], List, None, Some, Err, IfOk, IsTrue, map};
 ghost use Rattle.amqp_resource_record.specs.declared.entry.Entry.{Entry};
 ghost use Rattle.amqp_resource_record.specs.Links.{attached_count};
 ghost use Rattle.amqp_resource_record.specs.Live.{is_live};
 ghost use Rattle.amqp_resource_session.specs.StepClauses.{StepSays};
+ghost use Rattle.amqp_txn_types.specs.Frames.{stripped};
+ghost use Rattle.amqp_resource_log.specs.Live.{frames_kept, kept};
 ghost use Rattle.amqp_resource_held.specs.Looks.{dues, frames_added, frames_ended, unless_no_memory};
-ghost use Rattle.amqp_resource_session.specs.Session.{FitsTogether, IsFresh, StandsFor, StopAfter, below_of, frame_count_of, held_of, is_live_on, opened_of, owed_of, refusals_of, stop_of, vetoes_of};
+ghost use Rattle.amqp_resource_session.specs.Session.{FitsTogether, IsFresh, StandsFor, StopAfter, bare_frames_on, below_of, frame_count_of, held_of, is_live_on, opened_of, owed_of, pending, refusals_of, stop_of, vetoes_of};
 
 use crate::dispatch::take_step;
 use amqp_below_ids::{Drawn, IdSource};
@@ -14,9 +16,10 @@ use amqp_below_layer::LayerBelow;
 use amqp_resource_held::{Held, keeps_nothing};
 use amqp_resource_log::Looks;
 use amqp_resource_record::{Drawn16, Reply, Step, StepError, StopCode, code_of_end, code_of_fault};
-use amqp_txn_types::{SessionState, TransactionId};
+use amqp_txn_types::{Frames, NoMemory, SessionState, TransactionId};
 use std::alloc::Global;
 use std::marker::Brand;
+use std::mem::replace;
 use std::sync::ledger::{Blank, Ledger};
 
 /// A session that serves transactions over a layer below. Part 4 of the standard, section 4.4.
@@ -131,6 +134,47 @@ impl<S: LayerBelow> TxnSession<S> {
         ensures { result.now ≡ below_of self.now }
     {
         &self.below
+    }
+
+    /// Copies of the frames that a commit of the id would hand below, in order, each without its
+    /// transactional state; `None` where the id isn't live. The only error is out of memory.
+    pub fn pending(&self, txn_id: &TransactionId) -> Result<Option<Frames>, NoMemory>
+        ensures kept { IfOk result (λ found. found ≡ bare_frames_on self.now txn_id.now) }
+        ensures as_record { (r : List Entry) → StandsFor self.now r
+            → IfOk result (λ found. found ≡ pending r txn_id.now) }
+    {
+        if !self.is_live(txn_id) {
+            return Ok(None);
+        }
+        let frames = self.copy_kept::<Brand>(txn_id, Blank::new(1))?;
+        Ok(Some(frames))
+    }
+
+    /// Copies of the frames that are kept for an id, each without its transactional state, by looks
+    /// that are counted in a blank ledger.
+    fn copy_kept<L: Ledger>(&self, txn_id: &TransactionId, blank: Blank) -> Result<Frames, NoMemory>
+        requires name { blank.name ≡ L.name }
+        requires parts { blank.parts ≡ L.parts }
+        requires some { 0 < blank.parts }
+        ensures { IfOk result (λ frames. frames
+            ≡ map stripped (frames_kept (kept (held_of self.now).work txn_id.now))) }
+    {
+        let mut looks = Looks::<L>::new(blank);
+        let frames = self.held.work.copy_all(txn_id, &mut looks)?;
+        Ok(Frames::from_vec(frames))
+    }
+
+    /// Puts another layer below the session, and gives back the one that stood there. What the
+    /// session keeps, its counts and its stop stay as they were.
+    pub fn swap_below(&mut self, below: S) -> S
+        ensures given { result ≡ below_of self.old }
+        ensures below { below_of self.new ≡ below }
+        ensures held { held_of self.new ≡ held_of self.old }
+        ensures stop { stop_of self.new ≡ stop_of self.old }
+        ensures refusals { refusals_of self.new ≡ refusals_of self.old }
+        ensures vetoes { vetoes_of self.new ≡ vetoes_of self.old }
+    {
+        replace(&mut self.below, below)
     }
 
     /// The layer below, taken out of the session.

@@ -12,10 +12,9 @@ ghost use Rattle.txn_program_runs.specs.Running.{stop_status};
 use crate::driving::{BrokerRun, drive_broker};
 use crate::queue_report::broker_report;
 use amqp_below_ids::{IdSource, ListIds};
-use amqp_below_layer::SessionInnerError;
 use amqp_below_streams::{ByteSink, ByteSource};
 use amqp_below_uuid_ids::seeded_ids;
-use amqp_resource_record::{Driven, Steps, Stop};
+use amqp_resource_record::{Driven, Steps};
 use amqp_txn_types::{Binary, NoMemory, Text};
 use std::alloc::Global;
 use txn_broker_queues::Broker;
@@ -23,7 +22,7 @@ use txn_program_edges::{
     Ids, Reading, Unserved, end_unserved, id_words, read_up_to, status, write_and_end,
 };
 use txn_program_lines::{SpellError, is_text, spells};
-use txn_program_runs::INPUT_LIMIT;
+use txn_program_runs::{INPUT_LIMIT, status_of_stop};
 
 /// What a call of the program left.
 #[derive(Drop)]
@@ -95,18 +94,6 @@ fn end_undriven<O: ByteSink>(alloc: Global, why: Unserved, output: &mut O) -> Br
 {
     let status = end_unserved(alloc, why, output);
     end(status, None, Broker::new(alloc))
-}
-
-/// The status of a stop.
-fn status_of_stop(stop: &Stop) -> u8
-    ensures { result ≡ stop_status stop.now }
-{
-    match stop {
-        Stop::Done => status::EVERY_STEP,
-        Stop::Fault(SessionInnerError::NoMemory) => status::NO_MEMORY_BELOW,
-        Stop::Fault(_) | Stop::Ended(_) => status::STOPPED,
-        Stop::NoMemory => status::NO_MEMORY,
-    }
 }
 
 /// A run of the input, with the ids that the words name.

@@ -37,4 +37,5 @@ mod words;
 
 pub use lists::{Sender, TwoLists, two_lists_of};
 pub use runs::{MailboxRan, end_mailbox, run_mailbox};
+pub use txn_mailbox_serving::{Marks, Served, serve_two};
 pub use words::mailbox_ids;

@@ -3,7 +3,6 @@
 ghost use Rattle.std.specs.Prelude.{◌≡◌, ◌≤◌, ◌<◌, ◌+◌, ◌^◌, ℕ, List, Some, None, length, string_bytes, IfOk};
 ghost use Rattle.txn_program_edges.specs.Reading.{source_of};
 ghost use Rattle.txn_program_edges.specs.Writing.{EndsWith, Wrote, sink_of};
-ghost use Rattle.txn_program_runs.specs.Running.{stop_status};
 ghost use Rattle.txn_mailbox.specs.Lists.{mailbox_ids, two_lists_of};
 ghost use Rattle.txn_mailbox.specs.Running.{EndsMailbox, IfRead, IfSpelled, IsWithinLimit, RunsMailbox, ServesAndWrites, ServesLists, ServesOver, input_status, input_text, served_status, served_text, spelled_status, spelled_text};
 
@@ -11,10 +10,9 @@ use crate::lists::{TwoLists, two_lists_of};
 use crate::texts::counts_string;
 use crate::words::mailbox_ids;
 use amqp_below_ids::{IdSource, ListIds};
-use amqp_below_layer::{LayerBelow, OpenSession, SessionInnerError, Tells};
+use amqp_below_layer::{LayerBelow, OpenSession, Tells};
 use amqp_below_recorder::Recorder;
 use amqp_below_streams::{ByteSink, ByteSource};
-use amqp_resource_record::Stop;
 use amqp_resource_session::TxnSession;
 use amqp_txn_types::{Binary, Items, NoMemory, Text};
 use std::alloc::Global;
@@ -27,7 +25,7 @@ use txn_program_edges::{
 };
 use txn_program_lines::SpellError;
 use txn_program_process::{Fault, end_at_fault};
-use txn_program_runs::INPUT_LIMIT;
+use txn_program_runs::{INPUT_LIMIT, status_of_stop};
 
 /// What a run of a mailbox left.
 #[derive(Drop)]
@@ -45,18 +43,6 @@ fn end_unserving(status: u8) -> MailboxRan
     MailboxRan {
         status,
         served: None,
-    }
-}
-
-/// The status of a stop.
-fn status_of_stop(stop: &Stop) -> u8
-    ensures { result ≡ stop_status stop.now }
-{
-    match stop {
-        Stop::Done => status::EVERY_STEP,
-        Stop::Fault(SessionInnerError::NoMemory) => status::NO_MEMORY_BELOW,
-        Stop::Fault(_) | Stop::Ended(_) => status::STOPPED,
-        Stop::NoMemory => status::NO_MEMORY,
     }
 }
 

@@ -37,4 +37,4 @@ mod summary;
 pub use process_end::end_over;
 pub use run_command::{serve_over, serve_run};
 pub use run_words::{Layer, Plans, RunCommand, command_over, run_command_of};
-pub use step_runs::{INPUT_LIMIT, Ran, end_without_memory};
+pub use step_runs::{INPUT_LIMIT, Ran, end_without_memory, status_of_stop};

@@ -86,8 +86,8 @@ pub(crate) fn end_undriven<S: LayerBelow, O: ByteSink>(
     end(status, None, below)
 }
 
-/// The status of a stop.
-fn status_of_stop(stop: &Stop) -> u8
+/// The status that the program ends with after a run that stopped so.
+pub fn status_of_stop(stop: &Stop) -> u8
     ensures { result ≡ stop_status stop.now }
 {
     match stop {
