@@ -1,5 +1,5 @@
 -- What a layer below answers, by what it was told beforehand.
-use Rattle.std.specs.Prelude.{ℕ, Option, Some, None, Result, Ok, Err}
+use Rattle.std.specs.Prelude.{ℕ, Option, Some, None, Result, Ok, Err, List, [], ◌∷◌}
 use Rattle.amqp_txn_types.specs.declared.items.NoMemory.{NoMemory}
 use Rattle.amqp_txn_types.specs.declared.delivery.ConnectionStopReason.TheVariants as stop_reasons
 use Rattle.amqp_below_layer.specs.declared.inner_error.SessionInnerError.{SessionInnerError}
@@ -43,3 +43,9 @@ verdict_told (answers.Refuse error) = verdict_named error
 abbrev pub unless_take : BelowAnswer → ℕ → ℕ
 unless_take answers.Take count = 0
 unless_take _ count = count
+
+-- the numbers of the frame calls that it refuses: the first, after which no other comes, unless it
+-- was told to take
+abbrev pub planned_told : BelowAnswer → List ℕ
+planned_told answers.Take = []
+planned_told _ = 1 ∷ []

@@ -6,15 +6,16 @@ use Rattle.amqp_below_layer.specs.Told.{Told, open_told}
 use Rattle.amqp_below_layer.specs.declared.inner_error.SessionInnerError.{SessionInnerError}
 use Rattle.amqp_below_layer.specs.declared.inner_error.SessionInnerError.TheVariants as faults
 use Rattle.amqp_below_layer.specs.declared.verdict.Verdict.{Verdict}
-use Rattle.daxurbi_layer.specs.Answering.{refusal_told, verdict_told}
+use Rattle.daxurbi_layer.specs.Answering.{planned_told, refusal_told, verdict_told}
 use Rattle.daxurbi_layer.specs.declared.told_layer.ToldLayer.{ToldLayer}
 
--- what it tells: the frames that it took, and its counts
+-- what it tells: the frames that it took, its counts, and what it was told to refuse
 abbrev pub told_of : ToldLayer → Told
 told_of layer = record open_told {
   taken = Some layer.taken.items;
   refusals = layer.refusals;
   reviews = record { vetoes = layer.vetoes; vetoed = None };
+  fixed = record open_told.fixed { plan = planned_told layer.answer };
 }
 
 -- it has room for so many frames more
