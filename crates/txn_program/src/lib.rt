@@ -1,9 +1,10 @@
 //! The program over a transactional session, as a library: arguments and lines in, a text out.
 //!
 //! [`run`] is the top call: it reads the arguments and does what they ask for, as the crate of each
-//! command has it; `run`, `listen` and `make` are runs of steps, and `agree` is a run of two parties.
-//! [`command_of`] reads the arguments alone, and [`run_command`] is the rest of it. [`spells`] reads
-//! the lines of a run, and [`report`] writes what it made:
+//! command has it; `run`, `listen` and `make` are runs of steps, `agree` is a run of two parties, and
+//! `threads` one of workers in threads. [`run_commands`] does the same without `threads`, and is
+//! proved to return. [`command_of`] reads the arguments alone, and [`run_command`] is the rest of
+//! [`run_commands`]. [`spells`] reads the lines of a run, and [`report`] writes what it made:
 //!
 //! ```
 //! let below = Recorder::new(alloc, OpenSession::new(alloc));
@@ -26,3 +27,4 @@ pub use txn_program_edges::{Ids, Reading, StdSink, StdSource, TransactionIds, st
 pub use txn_program_lines::{SpellError, spells};
 pub use txn_program_report::report;
 pub use txn_program_runs::{INPUT_LIMIT, Layer, Plans, Ran, RunCommand};
+pub use txn_program_threads_words::ThreadsCommand;
