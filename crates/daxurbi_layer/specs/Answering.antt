@@ -1,7 +1,9 @@
 -- What a layer below answers, by what it was told beforehand.
-use Rattle.std.specs.Prelude.{ℕ, Option, Some, None, Result, Ok, Err, List, [], ◌∷◌}
+use Rattle.std.specs.Prelude.{ℕ, Option, Some, None, Result, Ok, Err, List, [], ◌∷◌, length}
+use Rattle.std.specs.List.{sum_by}
 use Rattle.amqp_txn_types.specs.declared.items.NoMemory.{NoMemory}
 use Rattle.amqp_txn_types.specs.declared.delivery.ConnectionStopReason.TheVariants as stop_reasons
+use Rattle.amqp_txn_types.specs.declared.performatives.Frame.{Frame}
 use Rattle.amqp_below_layer.specs.declared.inner_error.SessionInnerError.{SessionInnerError}
 use Rattle.amqp_below_layer.specs.declared.inner_error.SessionInnerError.TheVariants as faults
 use Rattle.amqp_below_layer.specs.declared.verdict.Verdict.{Verdict}
@@ -49,3 +51,7 @@ unless_take _ count = count
 abbrev pub planned_told : BelowAnswer → List ℕ
 planned_told answers.Take = []
 planned_told _ = 1 ∷ []
+
+-- how many frames were given back for those that were taken
+abbrev pub given_count : List (Frame × List Frame) → ℕ
+given_count taken = sum_by (λ (pair : Frame × List Frame). length pair.1) taken

@@ -22,10 +22,10 @@ told_of layer = record open_told {
 abbrev pub HasRoom : ToldLayer → ℕ → Type 0
 HasRoom layer count = vec_len layer.taken + count ≤ vec_capacity layer.taken
 
--- the answer to a frame, by the refusal that was told: that, or else no frame back, or out of memory
--- where there was no room
-abbrev pub FrameAnswer : Option SessionInnerError → ToldLayer → Result (List Frame) SessionInnerError
-    → Type 0
+-- the answer to a frame, by the refusal that was told: that, or else no frame back, or out of
+-- memory where there was no room
+abbrev pub FrameAnswer : Option SessionInnerError → ToldLayer
+    → Result (List Frame) SessionInnerError → Type 0
 FrameAnswer (Some error) old result = result ≡ Err error
 FrameAnswer None old (Ok given) = given ≡ []
 FrameAnswer None old (Err error) =

@@ -59,8 +59,8 @@ pub enum BelowAnswer {
 }
 
 impl BelowAnswer {
-    /// The error that a frame, an attach or a check is refused with, if it is. Where a veto was told
-    /// no frame is to come, and one that comes all the same is refused.
+    /// The error that a frame, an attach or a check is refused with, if it is. Where a veto was
+    /// told no frame is to come, and one that comes all the same is refused.
     pub fn refusal(self) -> Option<SessionInnerError>
         ensures { result ≡ refusal_told self }
     {

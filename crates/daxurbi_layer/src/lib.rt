@@ -12,8 +12,8 @@
 //! let taken = below.into_taken(); // the detach
 //! ```
 //!
-//! Who has a layer of their own asks it first, and then tells this one what it answered. Below stand
-//! the layer of `amqp_below_layer` and the types of `amqp_txn_types`. The promise that this crate
+//! Who has a layer of their own asks it first, and then tells this one what it answered. Below
+//! stand the layer of `amqp_below_layer` and the types of `amqp_txn_types`. The promise that this crate
 //! carries: a layer that was told to take refuses only where memory runs out, and one that was told
 //! anything else takes nothing.
 #![tactic(auto)]

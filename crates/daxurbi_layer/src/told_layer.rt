@@ -1,7 +1,7 @@
 //! A layer below that answers as it was told.
 
 ghost use Rattle.std.specs.Prelude.{◌≡◌, [], length};
-ghost use Rattle.daxurbi_layer.specs.Answering.{unless_take};
+ghost use Rattle.daxurbi_layer.specs.Answering.{given_count, unless_take};
 
 use crate::below_answer::BelowAnswer;
 use amqp_below_layer::{Exchanges, LayerBelow, SessionInnerError, Tells, Verdict};
@@ -22,6 +22,7 @@ pub struct ToldLayer {
     vetoes: u64,
     alloc: Global,
     pub ghost untaken: { unless_take answer (length taken.items) ≡ 0 },
+    pub ghost ungiven: { given_count taken.items ≡ 0 },
 }
 
 impl ToldLayer {
