@@ -23,7 +23,7 @@ use Rattle.txn_relay.specs.declared.event.RelayEvent.TheVariants as relay_events
 use Rattle.txn_relay.specs.declared.relay.Next.{Next}
 use Rattle.txn_relay.specs.Moves.{moves, put_since}
 use Rattle.txn_relay.specs.Once.{heard_committed}
-use Rattle.txn_relay.specs.Relaying.{Half, Holds, Moved, Put, RelaySays, Relaying, Turned}
+use Rattle.txn_relay.specs.Relaying.{Draws, Half, Holds, Moved, Put, RelaySays, Relaying, Turned}
 use Rattle.txn_relay.specs.Stages.{Stands}
 use Rattle.txn_relay.proofs.Moving.{Declares, Puts, declare_next, declare_within, put_next}
 use Rattle.txn_relay.proofs.Returning.{arrives, cuts, returns}
@@ -34,17 +34,17 @@ relay_of world work = record { world = world; work = work }
 
 -- ---- an event of the two parties
 
-pub record Did (next : ListIds → ℕ → TransactionId) (old new : TwoParties Board ListIds) (work : List Message) (made put : ℕ) (event : Event) (result : Result Happened NoMemory) : Type 0 where
-  pub happens : IfOk result (Turned next (relay_of old work) (relay_of new work) event)
+pub record Did (draws : Draws) (old new : TwoParties Board ListIds) (work : List Message) (made put : ℕ) (event : Event) (result : Result Happened NoMemory) : Type 0 where
+  pub happens : IfOk result (Turned draws (relay_of old work) (relay_of new work) event)
   pub err : OnErr result (relay_of new work ≡ relay_of old work)
   pub stands : Stands new.sides (taken_of new.below) work made put
 
 did : (next : ListIds → ℕ → TransactionId) (starts : ListIds → Option (ℕ → TransactionId)) (old new : TwoParties Board ListIds) (work : List Message) (made put : ℕ) (event : Event) (result : Result Happened NoMemory)
     → Stands old.sides (taken_of old.below) work made put → EventSays told_by next starts old new event result
     → ((h : Happened) → EventSays told_by next starts old new event (Ok h) → Stands new.sides (taken_of new.below) work made put)
-    → Did next old new work made put event result
+    → Did (record { next = next; start = starts }) old new work made put event result
 did next starts old new work made put event (Ok h) s says keeps = record {
-  happens = record { drawn = says.turn.0; turn = says.turn.1; drew = says.turn.2; work = refl };
+  happens = record { says = says; work = refl };
   err = tt;
   stands = keeps h says;
 }
@@ -54,13 +54,13 @@ did next starts old new work made put event (Err error) s says keeps = record {
   stands = subst (λ (w : TwoParties Board ListIds). Stands w.sides (taken_of w.below) work made put) (sym says.err) s;
 }
 
-pub did_arrive : (next : ListIds → ℕ → TransactionId) (starts : ListIds → Option (ℕ → TransactionId)) (old new : TwoParties Board ListIds) (work : List Message) (made put : ℕ) (result : Result Happened NoMemory) → Stands old.sides (taken_of old.below) work made put → EventSays told_by next starts old new events.Arrive result → Did next old new work made put events.Arrive result
+pub did_arrive : (next : ListIds → ℕ → TransactionId) (starts : ListIds → Option (ℕ → TransactionId)) (old new : TwoParties Board ListIds) (work : List Message) (made put : ℕ) (result : Result Happened NoMemory) → Stands old.sides (taken_of old.below) work made put → EventSays told_by next starts old new events.Arrive result → Did (record { next = next; start = starts }) old new work made put events.Arrive result
 did_arrive next starts old new work made put result s says = did next starts old new work made put events.Arrive result s says (λ h ok. arrives next starts old new work made put h s ok)
 
-pub did_return : (next : ListIds → ℕ → TransactionId) (starts : ListIds → Option (ℕ → TransactionId)) (old new : TwoParties Board ListIds) (work : List Message) (made put : ℕ) (result : Result Happened NoMemory) → Stands old.sides (taken_of old.below) work made put → EventSays told_by next starts old new events.Return result → Did next old new work made put events.Return result
+pub did_return : (next : ListIds → ℕ → TransactionId) (starts : ListIds → Option (ℕ → TransactionId)) (old new : TwoParties Board ListIds) (work : List Message) (made put : ℕ) (result : Result Happened NoMemory) → Stands old.sides (taken_of old.below) work made put → EventSays told_by next starts old new events.Return result → Did (record { next = next; start = starts }) old new work made put events.Return result
 did_return next starts old new work made put result s says = did next starts old new work made put events.Return result s says (λ h ok. returns next starts old new work made put h s ok)
 
-pub did_cut : (next : ListIds → ℕ → TransactionId) (starts : ListIds → Option (ℕ → TransactionId)) (old new : TwoParties Board ListIds) (work : List Message) (made put : ℕ) (result : Result Happened NoMemory) → Stands old.sides (taken_of old.below) work made put → EventSays told_by next starts old new events.Cut result → Did next old new work made put events.Cut result
+pub did_cut : (next : ListIds → ℕ → TransactionId) (starts : ListIds → Option (ℕ → TransactionId)) (old new : TwoParties Board ListIds) (work : List Message) (made put : ℕ) (result : Result Happened NoMemory) → Stands old.sides (taken_of old.below) work made put → EventSays told_by next starts old new events.Cut result → Did (record { next = next; start = starts }) old new work made put events.Cut result
 did_cut next starts old new work made put result s says = did next starts old new work made put events.Cut result s says (λ h ok. cuts next starts old new work made put h s ok)
 
 -- ---- parts of a move
@@ -205,37 +205,37 @@ work_message relay move txn work made =
 
 -- ---- what an event answers
 
-pub says_arrive : (next : ListIds → ℕ → TransactionId) (now : Relaying) (world new : TwoParties Board ListIds) (work : List Message) (made put : ℕ) (event : RelayEvent) (result : Result Happened NoMemory) → relay_of world work ≡ now → event ≡ relay_events.Arrive → Did next world new work made put events.Arrive result → RelaySays next now (relay_of new work) event result
-says_arrive next now world new work made put event result view is d =
-    subst (λ (r : Relaying). RelaySays next r (relay_of new work) event result) view
-    (subst (λ (e : RelayEvent). RelaySays next (relay_of world work) (relay_of new work) e result) (sym is) (record {
+pub says_arrive : (draws : Draws) (now : Relaying) (world new : TwoParties Board ListIds) (work : List Message) (made put : ℕ) (event : RelayEvent) (result : Result Happened NoMemory) → relay_of world work ≡ now → event ≡ relay_events.Arrive → Did draws world new work made put events.Arrive result → RelaySays draws now (relay_of new work) event result
+says_arrive draws now world new work made put event result view is d =
+    subst (λ (r : Relaying). RelaySays draws r (relay_of new work) event result) view
+    (subst (λ (e : RelayEvent). RelaySays draws (relay_of world work) (relay_of new work) e result) (sym is) (record {
       happens = d.happens;
       err = d.err;
       holds = holds (relay_of new work) made put d.stands;
     }))
 
-pub says_return : (next : ListIds → ℕ → TransactionId) (now : Relaying) (world new : TwoParties Board ListIds) (work : List Message) (made put : ℕ) (event : RelayEvent) (result : Result Happened NoMemory) → relay_of world work ≡ now → event ≡ relay_events.Return → Did next world new work made put events.Return result → RelaySays next now (relay_of new work) event result
-says_return next now world new work made put event result view is d =
-    subst (λ (r : Relaying). RelaySays next r (relay_of new work) event result) view
-    (subst (λ (e : RelayEvent). RelaySays next (relay_of world work) (relay_of new work) e result) (sym is) (record {
+pub says_return : (draws : Draws) (now : Relaying) (world new : TwoParties Board ListIds) (work : List Message) (made put : ℕ) (event : RelayEvent) (result : Result Happened NoMemory) → relay_of world work ≡ now → event ≡ relay_events.Return → Did draws world new work made put events.Return result → RelaySays draws now (relay_of new work) event result
+says_return draws now world new work made put event result view is d =
+    subst (λ (r : Relaying). RelaySays draws r (relay_of new work) event result) view
+    (subst (λ (e : RelayEvent). RelaySays draws (relay_of world work) (relay_of new work) e result) (sym is) (record {
       happens = d.happens;
       err = d.err;
       holds = holds (relay_of new work) made put d.stands;
     }))
 
-pub says_cut : (next : ListIds → ℕ → TransactionId) (now : Relaying) (world new : TwoParties Board ListIds) (work : List Message) (made put : ℕ) (event : RelayEvent) (result : Result Happened NoMemory) → relay_of world work ≡ now → event ≡ relay_events.Cut → Did next world new work made put events.Cut result → RelaySays next now (relay_of new work) event result
-says_cut next now world new work made put event result view is d =
-    subst (λ (r : Relaying). RelaySays next r (relay_of new work) event result) view
-    (subst (λ (e : RelayEvent). RelaySays next (relay_of world work) (relay_of new work) e result) (sym is) (record {
+pub says_cut : (draws : Draws) (now : Relaying) (world new : TwoParties Board ListIds) (work : List Message) (made put : ℕ) (event : RelayEvent) (result : Result Happened NoMemory) → relay_of world work ≡ now → event ≡ relay_events.Cut → Did draws world new work made put events.Cut result → RelaySays draws now (relay_of new work) event result
+says_cut draws now world new work made put event result view is d =
+    subst (λ (r : Relaying). RelaySays draws r (relay_of new work) event result) view
+    (subst (λ (e : RelayEvent). RelaySays draws (relay_of world work) (relay_of new work) e result) (sym is) (record {
       happens = d.happens;
       err = d.err;
       holds = holds (relay_of new work) made put d.stands;
     }))
 
 -- what Go answers
-pub go_says : (next : ListIds → ℕ → TransactionId) (old new : Relaying) (event : RelayEvent) (result : Result Happened NoMemory) → event ≡ relay_events.Go → Goes old new result → Holds new → RelaySays next old new event result
-go_says next old new event (Ok h) is goes hold = subst (λ (e : RelayEvent). RelaySays next old new e (Ok h)) (sym is) (record { happens = goes; err = tt; holds = hold })
-go_says next old new event (Err error) is goes hold = subst (λ (e : RelayEvent). RelaySays next old new e (Err error)) (sym is) (record { happens = tt; err = goes; holds = hold })
+pub go_says : (draws : Draws) (old new : Relaying) (event : RelayEvent) (result : Result Happened NoMemory) → event ≡ relay_events.Go → Goes old new result → Holds new → RelaySays draws old new event result
+go_says draws old new event (Ok h) is goes hold = subst (λ (e : RelayEvent). RelaySays draws old new e (Ok h)) (sym is) (record { happens = goes; err = tt; holds = hold })
+go_says draws old new event (Err error) is goes hold = subst (λ (e : RelayEvent). RelaySays draws old new e (Err error)) (sym is) (record { happens = tt; err = goes; holds = hold })
 
 -- ---- what the code finds, by the view of the relay
 

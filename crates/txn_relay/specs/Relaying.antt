@@ -3,12 +3,11 @@ use Rattle.std.specs.Prelude.{ℕ, ◌≡◌, ◌<◌, ◌≤◌, true, Some, Re
 use Rattle.amqp_txn_types.specs.declared.id.TransactionId.{TransactionId}
 use Rattle.amqp_txn_types.specs.declared.items.NoMemory.{NoMemory}
 use Rattle.amqp_txn_types.specs.declared.small.Role.TheVariants as roles
-use Rattle.amqp_below_ids.specs.Ids.{Drew}
 use Rattle.amqp_below_ids.specs.declared.list_ids.ListIds.{ListIds}
 use Rattle.amqp_resource_record.specs.declared.stop.StopCode.TheVariants as codes
 use Rattle.txn_broker_queues.specs.declared.message.Message.{Message}
 use Rattle.txn_broker_queues.specs.Queues.{link_after, queue_found}
-use Rattle.txn_broker_queues.specs.Taking.{Board, taken_of}
+use Rattle.txn_broker_queues.specs.Taking.{Board, taken_of, told_by}
 use Rattle.txn_parties.specs.declared.event.Event.{Event}
 use Rattle.txn_parties.specs.declared.event.Event.TheVariants as events
 use Rattle.txn_parties.specs.declared.event.Happened.{Happened}
@@ -16,8 +15,8 @@ use Rattle.txn_parties.specs.declared.event.Happened.TheVariants as happenings
 use Rattle.txn_parties.specs.declared.event.Heard.TheVariants as hearings
 use Rattle.txn_parties.specs.declared.item.Halt.{Halt}
 use Rattle.txn_parties.specs.Exchange.{Begins, begun, heard, made}
-use Rattle.txn_parties.specs.Turns.{Follows, Turn}
-use Rattle.txn_world.specs.Happening.{TwoParties}
+use Rattle.txn_parties.specs.Turns.{Follows}
+use Rattle.txn_world.specs.Happening.{EventSays, TwoParties}
 use Rattle.txn_relay.specs.declared.event.RelayEvent.{RelayEvent}
 use Rattle.txn_relay.specs.declared.event.RelayEvent.TheVariants as relay_events
 use Rattle.txn_relay.specs.Moves.{from_handle, from_name, moves, to_handle, to_name}
@@ -68,22 +67,25 @@ pub record Half (old new : Relaying) (list : List Event) : Type 0 where
   pub put : Put old new (take count list)
   pub rest : moves new.world.sides new.work ≡ drop count list
 
--- one event of the two parties, with the ids that the source gives
-pub record Turned (next : ListIds → ℕ → TransactionId) (old new : Relaying) (event : Event)
-    (happened : Happened) : Type 0 where
-  pub drawn : List TransactionId
-  pub turn : Turn old.world.sides event happened drawn new.world.sides
-  pub drew : Drew (next old.world.ids) (next new.world.ids) drawn
+-- what a source of ids tells: the next ones, and those that it began with
+pub record Draws : Type 0 where
+  pub next : ListIds → ℕ → TransactionId
+  pub start : ListIds → Option (ℕ → TransactionId)
+
+-- one event of the two parties, as they say it: a turn, with what was drawn, and what the broker
+-- took, refused and vetoed
+pub record Turned (draws : Draws) (old new : Relaying) (event : Event) (happened : Happened)
+    : Type 0 where
+  pub says : EventSays told_by draws.next draws.start old.world new.world event (Ok happened)
   pub work : new.work ≡ old.work
 
 -- what happens: Go makes the next move, each other event is that of the two parties
-abbrev pub Happens : (ListIds → ℕ → TransactionId) → Relaying → Relaying → RelayEvent → Happened
-    → Type 0
-Happens next old new relay_events.Go happened =
+abbrev pub Happens : Draws → Relaying → Relaying → RelayEvent → Happened → Type 0
+Happens draws old new relay_events.Go happened =
     Moved old new (moves old.world.sides old.work) happened
-Happens next old new relay_events.Arrive happened = Turned next old new events.Arrive happened
-Happens next old new relay_events.Return happened = Turned next old new events.Return happened
-Happens next old new relay_events.Cut happened = Turned next old new events.Cut happened
+Happens draws old new relay_events.Arrive happened = Turned draws old new events.Arrive happened
+Happens draws old new relay_events.Return happened = Turned draws old new events.Return happened
+Happens draws old new relay_events.Cut happened = Turned draws old new events.Cut happened
 
 -- what out of memory leaves: a part of the move of Go, and nothing else of any event
 abbrev pub LeavesSome : Relaying → Relaying → RelayEvent → Type 0
@@ -103,8 +105,8 @@ pub record Holds (relay : Relaying) : Type 0 where
       → moves relay.world.sides relay.work ≡ []
 
 -- one event of a relay
-pub record RelaySays (next : ListIds → ℕ → TransactionId) (old new : Relaying) (event : RelayEvent)
+pub record RelaySays (draws : Draws) (old new : Relaying) (event : RelayEvent)
     (result : Result Happened NoMemory) : Type 0 where
-  pub happens : IfOk result (Happens next old new event)
+  pub happens : IfOk result (Happens draws old new event)
   pub err : OnErr result (LeavesSome old new event)
   pub holds : Holds new

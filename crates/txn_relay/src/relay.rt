@@ -94,7 +94,10 @@ impl Relay {
     /// Out of memory. Where it comes in the midst of a move, the items that were put stay, and the
     /// next `Go` puts the rest; of all else nothing has changed.
     pub fn event(&mut self, event: RelayEvent) -> Result<Happened, NoMemory>
-        ensures { RelaySays ⟦<ListIds as IdSource>⟧.next self.old self.new event result }
+        ensures { RelaySays (record {
+          next = ⟦<ListIds as IdSource>⟧.next;
+          start = ⟦<ListIds as IdSource>⟧.start;
+        }) self.old self.new event result }
     {
         match event {
             RelayEvent::Go => {
