@@ -1,9 +1,10 @@
 #!/usr/bin/env python3
 """Compares what documents and first pages show with what is checked or stored.
 
-- Each block of code (marked `rust`) of README.md, of docs/GUIDE.md and of the crates' first pages (the
-  `//!` lines at the head of src/lib.rt) stands in one file of the crates of examples, to the letter but
-  for its indentation and a `pub`. A line `..` stands for any lines of that file.
+- Each block of code (marked `rust`, `c` or `python`) of README.md, of docs/GUIDE.md and of the crates'
+  first pages (the `//!` lines at the head of src/lib.rt) stands in one file of the crates of examples or
+  of bindings/, to the letter but for its indentation and a `pub`. A line `..` stands for any lines of
+  that file.
 - Each command of the program in README.md and docs/FORMATS.md is a stored example, and what is shown
   below it is the stored report. Every other block of these two is a stored input.
 
@@ -78,8 +79,10 @@ def stands_in(lines, block):
 
 
 def example_files():
-    """The lines of each file of the crates of examples."""
+    """The lines of each file of the crates of examples, and of each example in another language."""
     files = sorted(TOP.glob("crates/amqp_examples*/src/**/*.rt"))
+    for pattern in ("rust/examples/*.rs", "c/*.c", "python/*.py"):
+        files += sorted(TOP.glob(f"bindings/{pattern}"))
     return [list(map(code_line, file.read_text().split("\n"))) for file in files]
 
 
@@ -146,7 +149,7 @@ def main():
     count, others, differing = 0, 0, 0
     for name, text, is_of_program in pages():
         for number, mark, block in blocks(text):
-            if mark == "rust":
+            if mark in ("rust", "c", "python"):
                 is_right = is_code_shown(block, files)
             elif is_of_program:
                 is_right = is_example_shown(block, examples)

@@ -1,7 +1,6 @@
 -- What each call for an event answers and leaves.
-use Rattle.std.proofs.Common.{◌≡◌, ℕ, ◌+◌, ◌<◌, Bool, true, false, Option, Some, None, Ok, Err, List, [], ◌∷◌, ◌++◌, length, refl, sym, ◌∙◌, ap, subst}
+use Rattle.std.proofs.Common.{◌≡◌, ℕ, ◌+◌, Bool, true, false, Option, Some, None, Ok, Err, List, [], ◌∷◌, ◌++◌, length, sym, ◌∙◌, ap, subst}
 use Rattle.std.specs.Prelude.{slice_get}
-use Rattle.std.proofs.lemmas.Option.{slice_get_within}
 use Rattle.amqp_txn_types.specs.declared.delivery.Outcome.{Outcome}
 use Rattle.amqp_txn_types.specs.declared.id.TransactionId.{TransactionId}
 use Rattle.amqp_txn_types.specs.declared.items.NoMemory.{NoMemory}
@@ -21,8 +20,8 @@ use Rattle.txn_world_wires.specs.declared.parties.Parties.{Parties}
 use Rattle.txn_world_wires.specs.Knowing.{declaring, discharging, ending, hearing, is_open_at, with_transaction}
 use Rattle.txn_world_wires.specs.Moves.{Moves, MovesParties}
 use Rattle.txn_world_wires.specs.Parties.{Sound, exchange_of}
-use Rattle.txn_world_wires.specs.Putting.{discharge_event, discharges_by, posted, retired, to_discharge, working_id}
-use Rattle.txn_world_wires.proofs.Moving.{IsPut, answer_known, declare_none, declare_put, discharge_is_put, discharge_of-event, discharge_put, end_none, end_put, frame_put, item_to_discharge, item_under, nothing_awaited, open_within, put_moves, return_moves, skip_moves}
+use Rattle.txn_world_wires.specs.Putting.{discharge_event, posted, retired, to_discharge, working_id}
+use Rattle.txn_world_wires.proofs.Moving.{IsPut, answer_awaited, answer_known, declare_none, declare_put, discharge_is_put, discharge_of-event, discharge_put, end_none, end_put, frame_put, item_to_discharge, item_under, nothing_awaited, open_within, put_moves, return_moves, skip_moves}
 use Rattle.txn_world_wires.proofs.Tables.{Puts, puts_declare, puts_discharge, puts_end}
 
 -- with another forward wire and another table
@@ -97,18 +96,17 @@ pub retire_skips : (p : Parties) (x : ℕ) (disposition : Disposition) (outcome 
 retire_skips p x disposition outcome o = skips p (events.Retire x disposition outcome) (λ w h d new t. t) (λ sure s.
     frame_put p.controllers (exchange_of sure p) x (λ t. retired t disposition outcome) s.table ∙ ap (λ (y : Option TransactionId). item_under y (λ t. retired t disposition outcome)) o)
 
--- one that may be discharged is of the table
-pub discharge_within : (known : Controllers) (x : ℕ) (q : Transaction × TransactionId) → to_discharge known x ≡ Some q → x < length known.transactions
-discharge_within known x q e = by_case (slice_get known.transactions x) refl e
-  where
-    by_case : (o : Option Transaction) → slice_get known.transactions x ≡ o → discharges_by known o ≡ Some q → x < length known.transactions
-    by_case None h d = cc d
-    by_case (Some u) h d = slice_get_within known.transactions x u h
-
 -- ---- a return
 
 pub return_none : (p : Parties) (a : Answered) → slice_get p.answers p.returned ≡ Some a → slice_get p.controllers.transactions a.txn ≡ None → MovesParties p events.Return (Ok happenings.Skipped) p
 return_none p a e n = record { moves = λ sure s. absurd (answer_known sure p a s e n); err = tt }
+
+-- its transaction awaits it
+pub return_unasked : (p : Parties) (a : Answered) (u : Transaction) (known : Controllers) → slice_get p.answers p.returned ≡ Some a → slice_get p.controllers.transactions a.txn ≡ Some u → (u.awaits ≡ Some a.asked → ⊥) → known ≡ p.controllers → MovesParties p events.Return (Ok happenings.Skipped) (record p { controllers = known })
+return_unasked p a u known e f n k = record {
+  moves = λ sure s. absurd (n (answer_awaited sure p a u s e f));
+  err = tt;
+}
 
 pub return_heard : (p : Parties) (a : Answered) (u : Transaction) (known : Controllers) → p.cut ≡ false → slice_get p.answers p.returned ≡ Some a → slice_get p.controllers.transactions a.txn ≡ Some u → known ≡ with_transaction p.controllers a.txn (hearing u a) → MovesParties p events.Return (Ok happenings.Heard) (record p { returned = p.returned + 1; controllers = known })
 return_heard p a u known c e f k = record {

@@ -1,4 +1,7 @@
 pub mod Lists
+pub mod Ends
+pub mod Opening
+pub mod Linking
 pub mod Tables
 pub mod Moving
 pub mod Recording

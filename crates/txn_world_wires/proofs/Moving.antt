@@ -243,6 +243,13 @@ answer_known sure p a s e n =
     let awaited = awaited_first p.controllers (exchange_of sure p) a (drop (p.returned + 1) p.answers) s.table (drop-get p.answers p.returned a e) in
     let g = sym n ∙ awaited.1 in cc g
 
+-- and the transaction awaits it
+pub answer_awaited : (sure : Bool) (p : Parties) (a : Answered) (u : Transaction) → Sound sure p → slice_get p.answers p.returned ≡ Some a → slice_get p.controllers.transactions a.txn ≡ Some u → u.awaits ≡ Some a.asked
+answer_awaited sure p a u s e f =
+    let awaited = awaited_first p.controllers (exchange_of sure p) a (drop (p.returned + 1) p.answers) s.table (drop-get p.answers p.returned a e) in
+    let own : u ≡ awaited.0 = let g = sym f ∙ awaited.1 in cc g in
+    subst (λ (y : Transaction). y.awaits ≡ Some a.asked) (sym own) awaited.2
+
 pub return_skips : (sure : Bool) (p : Parties) → Sound sure p → (p.cut ≡ true) ⊎ (length p.answers ≤ p.returned) → Moves sure p events.Return happenings.Skipped p
 return_skips sure p s c = record {
   turn = turn c;

@@ -1,5 +1,5 @@
 -- What the controllers know, and what each event makes of it.
-use Rattle.std.specs.Prelude.{ℕ, Bool, true, false, not, Option, Some, None, [], ◌∷◌, ◌++◌, slice_get, slice_set}
+use Rattle.std.specs.Prelude.{ℕ, ◌≡◌, Bool, true, false, not, Option, Some, None, [], ◌∷◌, ◌++◌, slice_get, slice_set}
 use Rattle.amqp_txn_types.specs.declared.id.TransactionId.{TransactionId}
 use Rattle.txn_parties.specs.declared.event.Heard.{Heard}
 use Rattle.txn_parties.specs.declared.item.Answered.{Answered}
@@ -48,6 +48,11 @@ with_transaction known number txn =
 -- with the end of the link sent
 abbrev pub ending : Controllers → ℕ → Controllers
 ending known link = record known { ended = slice_set known.ended link true }
+
+-- the transaction heard the answer, or it awaits none to such a request and nothing changed
+abbrev pub Hears : Controllers → Controllers → Transaction → Answered → Bool → Type 0
+Hears old new txn answer true = new ≡ with_transaction old answer.txn (hearing txn answer)
+Hears old new txn answer false = (new ≡ old) × (txn.awaits ≡ Some answer.asked → ⊥)
 
 -- ---- what is read of them
 

@@ -1,3 +1,7 @@
+pub mod Known
+pub mod Answers
+pub mod Links
+pub mod Asking
 pub mod Tags
 pub mod Knowing
 pub mod Table

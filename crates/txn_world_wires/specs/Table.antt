@@ -20,6 +20,11 @@ same_asked asked.Commit asked.Commit = true
 same_asked asked.Rollback asked.Rollback = true
 same_asked one other = false
 
+-- it asked for this, where it asked for anything
+abbrev pub is_asked : Option Asked → Asked → Bool
+is_asked None request = false
+is_asked (Some one) request = same_asked request one
+
 -- the item is this request of the transaction
 abbrev pub is_asking : ℕ → Asked → Item → Bool
 is_asking number request (items.Declare other link) =

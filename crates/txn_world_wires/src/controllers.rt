@@ -1,12 +1,15 @@
 //! What the controllers know: of each transaction, and of each link.
 
-ghost use Rattle.std.specs.Prelude.{◌≡◌, ◌<◌, ◌≤◌, [], None, Some, length, false, slice_get, replicate, OnOk, OnErr, IfOk};
-ghost use Rattle.txn_parties.specs.BackWire.{declared_id, verdict};
-ghost use Rattle.txn_world_wires.specs.Knowing.{declaring, discharging, ending, has_ended, hearing, is_open_at, with_transaction};
+ghost use Rattle.std.specs.Prelude.{◌≡◌, ◌<◌, [], Some, length, false, slice_get, replicate, IfOk, OnErr, OnOk};
+ghost use Rattle.txn_parties.specs.Items.{or_else};
+ghost use Rattle.txn_world_wires.specs.Knowing.{Hears, declaring, discharging, ending, has_ended, is_open_at, with_transaction};
 
-use amqp_txn_types::{Items, NoMemory, TransactionId};
+use crate::control_links::ControlLinks;
+use amqp_resource_record::Entry;
+use amqp_txn_types::{NoMemory, TransactionId};
 use std::alloc::Global;
-use txn_parties::{Answered, Asked, Heard, ReplyState};
+use std::marker::Model;
+use txn_parties::{Answered, Asked, Heard};
 
 /// What its controller knows of one transaction.
 #[derive(Clone, Copy, Debug, PartialEq, Eq)]
@@ -23,69 +26,57 @@ pub struct Transaction {
     pub awaits: Option<Asked>,
 }
 
-/// The controllers: their transactions by number, and of each link whether its end was sent.
-#[derive(Debug, Drop)]
+/// The controllers: their transactions by number, of each link whether its end was sent, and the
+/// controllers' ends of the links, on which transactions are declared and discharged.
+///
+/// A contract sees the transactions and the ends that were sent. What a transaction awaits its call
+/// on the link awaits, too.
+#[derive(Drop)]
 pub struct Controllers {
-    transactions: Items<Transaction>,
-    ended: Items<bool>,
+    transactions: Vec<Transaction>,
+    ended: Vec<bool>,
+    links: ControlLinks,
 }
 
-/// The id that an answer gives to a transaction.
-fn declared_id(asked: Asked, state: ReplyState) -> Option<TransactionId>
-    ensures { result ≡ declared_id asked state }
-{
-    match (asked, state) {
-        (Asked::Declare, ReplyState::Declared(id)) => Some(id),
-        _ => None,
-    }
+impl Model for Controllers {
+    ghost use Rattle.txn_world_wires.specs.Known.{Known};
+
+    ghost Value = { Known };
+
+    ghost use Rattle.txn_world_wires.specs.Asking.{AreLinked};
+
+    ghost view = { λ c. record { transactions = c.transactions.items; ended = c.ended.items } };
+
+    ghost invariant = { λ c. AreLinked c.transactions.items c.ended.items c.links };
 }
 
-/// What an answer says of a discharge.
-fn verdict(asked: Asked, state: ReplyState) -> Option<Heard>
-    ensures { result ≡ verdict asked state }
+/// The first that is there.
+fn first_of<T: Copy>(first: Option<T>, second: Option<T>) -> Option<T>
+    ensures { result ≡ or_else first second }
 {
-    match (asked, state) {
-        (Asked::Commit, ReplyState::Accepted) => Some(Heard::Committed),
-        (Asked::Rollback, ReplyState::Accepted) => Some(Heard::RolledBack),
-        (Asked::Commit | Asked::Rollback, ReplyState::Rejected { .. }) => Some(Heard::Rejected),
-        _ => None,
-    }
-}
-
-/// A transaction once it heard the answer.
-fn hearing(txn: Transaction, answer: Answered) -> Transaction
-    ensures { result ≡ hearing txn answer }
-{
-    let id = match txn.id {
-        Some(id) => Some(id),
-        None => declared_id(answer.asked, answer.state),
-    };
-    let verdict = match txn.verdict {
-        Some(verdict) => Some(verdict),
-        None => verdict(answer.asked, answer.state),
-    };
-    Transaction {
-        link: txn.link,
-        id,
-        verdict,
-        sent: txn.sent,
-        awaits: None,
+    match first {
+        Some(value) => Some(value),
+        None => second,
     }
 }
 
 impl Controllers {
-    /// Controllers of as many links, without a transaction. Out of memory is the only error.
-    pub fn new(alloc: Global, links: usize) -> Result<Self, NoMemory>
+    /// Controllers of links that were attached so, without a transaction. Out of memory is the only
+    /// error.
+    pub fn new(alloc: Global, attaches: &[Entry]) -> Result<Self, NoMemory>
         ensures transactions { IfOk result (λ known. known.transactions ≡ []) }
-        ensures ended { IfOk result (λ known. known.ended ≡ replicate links false) }
+        ensures ended { IfOk result (λ known. known.ended
+            ≡ replicate (length attaches.now) false) }
     {
-        let mut ended = Items::new(alloc);
-        for _link in 0..links {
-            ended.append(false)?;
+        let links = ControlLinks::new(alloc, attaches)?;
+        let mut ended = Vec::new(alloc);
+        for _link in 0..attaches.len() {
+            ended.push(false)?;
         }
         Ok(Controllers {
-            transactions: Items::new(alloc),
+            transactions: Vec::new(alloc),
             ended,
+            links,
         })
     }
 
@@ -125,6 +116,7 @@ impl Controllers {
 
     /// Declares a new transaction on the link. Where memory runs out nothing changes.
     pub fn declare(&mut self, link: u32) -> Result<(), NoMemory>
+        requires { link < length self.old.ended }
         ensures ok { OnOk result (self.new ≡ declaring self.old link) }
         ensures err { OnErr result (self.new ≡ self.old) }
     {
@@ -135,43 +127,63 @@ impl Controllers {
             sent: false,
             awaits: Some(Asked::Declare),
         };
-        self.transactions.append(txn)
+        self.transactions.reserve(1)?;
+        self.links.declare(link)?;
+        self.transactions.push_reserved(txn);
+        Ok(())
     }
 
-    /// Keeps another state of the transaction.
-    fn set(&mut self, number: u32, txn: Transaction)
-        requires { number < length self.old.transactions }
-        ensures { self.new ≡ with_transaction self.old number txn }
-    {
-        self.transactions.items[number as usize] = txn;
-    }
-
-    /// Discharges the transaction.
-    pub fn discharge(&mut self, number: u32, txn: Transaction, rollback: bool)
-        requires { number < length self.old.transactions }
-        ensures { self.new ≡ with_transaction self.old number (discharging txn rollback) }
+    /// Discharges the transaction under its id. Where memory runs out nothing changes.
+    pub fn discharge(
+        &mut self,
+        number: u32,
+        txn: Transaction,
+        id: TransactionId,
+        rollback: bool,
+    ) -> Result<(), NoMemory>
+        requires { slice_get self.old.transactions number ≡ Some txn }
+        ensures ok { OnOk result
+            (self.new ≡ with_transaction self.old number (discharging txn rollback)) }
+        ensures err { OnErr result (self.new ≡ self.old) }
     {
         let asked = if rollback {
             Asked::Rollback
         } else {
             Asked::Commit
         };
-        let txn = Transaction {
+        self.links.discharge(number, txn.link, id, rollback)?;
+        self.transactions[number as usize] = Transaction {
             link: txn.link,
             id: txn.id,
             verdict: txn.verdict,
             sent: true,
             awaits: Some(asked),
         };
-        self.set(number, txn);
+        Ok(())
     }
 
-    /// The transaction hears the answer.
-    pub fn hear(&mut self, number: u32, txn: Transaction, answer: Answered)
-        requires { number < length self.old.transactions }
-        ensures { self.new ≡ with_transaction self.old number (hearing txn answer) }
+    /// The transaction hears the answer, and tells whether it awaited one to such a request. Where
+    /// memory runs out nothing changes.
+    pub fn hear(&mut self, txn: Transaction, answer: Answered) -> Result<bool, NoMemory>
+        requires { slice_get self.old.transactions answer.txn ≡ Some txn }
+        ensures ok { IfOk result (λ heard. Hears self.old self.new txn answer heard) }
+        ensures err { OnErr result (self.new ≡ self.old) }
     {
-        self.set(number, hearing(txn, answer));
+        match self.links.hear(answer.txn, answer.asked, answer.state)? {
+            None => Ok(false),
+            Some(heard) => {
+                let id = first_of(txn.id, heard.id);
+                let verdict = first_of(txn.verdict, heard.verdict);
+                self.transactions[answer.txn as usize] = Transaction {
+                    link: txn.link,
+                    id,
+                    verdict,
+                    sent: txn.sent,
+                    awaits: None,
+                };
+                Ok(true)
+            }
+        }
     }
 
     /// Ends the link.
@@ -179,6 +191,6 @@ impl Controllers {
         requires { link < length self.old.ended }
         ensures { self.new ≡ ending self.old link }
     {
-        self.ended.items[link as usize] = true;
+        self.ended[link as usize] = true;
     }
 }

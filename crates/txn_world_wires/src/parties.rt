@@ -105,7 +105,7 @@ impl Parties {
         ensures { IfOk result (λ parties. Begun entries parties) }
     {
         let attached = entries.len();
-        let controllers = Controllers::new(alloc, attached)?;
+        let controllers = Controllers::new(alloc, entries.as_slice())?;
         Ok(Parties {
             entries,
             attached,
@@ -238,8 +238,13 @@ impl Parties {
         let link = u64::from(txn.link);
         let item = Waiting::discharge(self.alloc, number, link, id, rollback)?;
         self.waiting.put(item)?;
-        self.controllers.discharge(number, txn, rollback);
-        Ok(Happened::Put)
+        match self.controllers.discharge(number, txn, id, rollback) {
+            Ok(()) => Ok(Happened::Put),
+            Err(error) => {
+                self.waiting.take_back();
+                Err(error)
+            }
+        }
     }
 
     /// A controller ends its link.
@@ -266,23 +271,25 @@ impl Parties {
     }
 
     /// The next answer returns, and its transaction hears it.
-    fn give_back(&mut self) -> Happened
-        ensures { MovesParties self.old events.Return (Ok result) self.new }
+    fn give_back(&mut self) -> Result<Happened, NoMemory>
+        ensures { MovesParties self.old events.Return result self.new }
     {
         if self.cut || self.returned >= self.answers.len() {
-            return Happened::Skipped;
+            return Ok(Happened::Skipped);
         }
         let Some(answer) = self.answers.get(self.returned) else {
             unreachable!();
         };
         let answer = *answer;
-        // It is the answer to a transaction that there is.
+        // It is the answer to a request that a transaction awaits.
         let Some(txn) = self.controllers.find(answer.txn) else {
-            return Happened::Skipped;
+            return Ok(Happened::Skipped);
         };
-        self.controllers.hear(answer.txn, txn, answer);
+        if !self.controllers.hear(txn, answer)? {
+            return Ok(Happened::Skipped);
+        }
         self.returned += 1;
-        Happened::Heard
+        Ok(Happened::Heard)
     }
 
     /// Both wires are cut.
@@ -321,7 +328,7 @@ impl Parties {
             Event::LinkEnd(link) => self.end_link(*link),
             Event::Plain(frame) => self.put_plain(frame),
             Event::Arrive => Ok(Happened::Skipped),
-            Event::Return => Ok(self.give_back()),
+            Event::Return => self.give_back(),
             Event::Cut => Ok(self.cut_off()),
         }
     }

@@ -2,12 +2,12 @@ use Rattle.std.proofs.Common.{refl}
 use Rattle.amqp_accept_at_once.proofs.accepting.AcceptingListenerLayerBelow.on_incoming_frame.Goals as goal
 
 -- what the listener and the acceptor answered, counted
-pub returns-clause-gives : goal.returns-clause-gives
-returns-clause-gives g c =
+pub returns-in-Attach-clause-gives : goal.returns-in-Attach-clause-gives
+returns-in-Attach-clause-gives g c =
     let opened = c.hear_attach-answer.ensures in
-    rw c.count_answer.ensures.answer (record {
+    rw c.in-Attach.is (rw c.count_answer.ensures.answer (record {
       tells = opened.steady;
       gave = opened.opens;
       acceptor = refl;
       counts = c.count_answer.ensures.counted;
-    })
+    }))

@@ -1,0 +1,52 @@
+-- `into_parts` moves two fields, and what they own goes with them.
+use Rattle.std.proofs.Common.{◌≡◌, List, [], ◌∷◌, ◌++◌, Option, Some, None, refl, sym, subst}
+use Rattle.std.specs.Prelude.{IsSome}
+use mir.Val.{Val}
+use base.Logic.{SProp, ent, emp, id⊢}
+use base.Fml.{ftrue, fsep}
+use prog.Wp.{WpFn}
+use types.Kit.{Item, ‵, raw, ◌⊛◌, ◌$◌, ◌∵◌, !, qed, by, move, drop, use1, given, learn, rewrite, join, split, fsplit, fjoin, suffices, done}
+use types.Part.{whole, sub, agg}
+use types.Run.{stop, fld, no_more, and_then, of_opd, returns, enter}
+use types.ByLocal.{alloc_all, pass_all, free_all, look_at, get, get_in, sets}
+use contract.Running.{tables}
+use denote.Exit.{yes}
+use denote.Signature.{type_at}
+use denote.Steps.{nothing}
+use denote.Triple.Walked.{says, Stays, stay_dropped, walk_of, ends_at, Goes-dropped}
+use Rattle.std_alloc.proofs.BoxSteps.Form.{D, B, word, box_typed}
+use Rattle.std_alloc.proofs.BoxSteps.Steps.{box_out, box_in}
+use Rattle.std.proofs.raw_atomic.Walks.{proved_at}
+use Rattle.daxurbi.proofs.AsBox.{E, FromHandle}
+use Rattle.daxurbi_session.specs.contracts.slot_session.SlotSession as session
+use Rattle.daxurbi.specs.contracts.handle.Handle as handle
+use Rattle.daxurbi.specs.contracts.handle.Handle.into_parts as F
+use Rattle.daxurbi.specs.contracts.handle.Handle.into_parts.Key.{name as #self}
+use Rattle.daxurbi.proofs.handle.Handle.into_parts.Statement.{statement}
+use Rattle.daxurbi.proofs.handle.Handle.into_parts.Code as code
+
+-- there is a session
+found : {X : Type 0} → (o : Option X) → IsSome o → (x : X) × (o ≡ Some x)
+found None is = absurd (cc is)
+found (Some x) is = (x, refl)
+
+pub into_parts_spec : {M : Type 1} → statement M
+into_parts_spec 𝓤 𝓛 𝓜 𝓡 wired =
+    let H = 𝓛.H in let 𝓣 = tables 𝓤 H 𝓜 𝓡 𝓡.env in let c = F.clauses 𝓛 𝓜.mem 𝓡.returns in
+    let hs : Stays F.ended.signature.params F.ended.kept = (stay_dropped FromHandle yes, tt) in
+    proved_at 𝓛 F.ended hs c 𝓜 𝓡 (Goes-dropped 𝓛 0 FromHandle yes (λ κs x f. refl), tt) #self code.function (code.unfolded 𝓤 H 𝓜 𝓡 wired) (λ z are.
+    let Post : Val → SProp 𝓤 = (walk_of 𝓛 F.ended hs c).post z in let d = z.0.3.0 in
+    qed 𝓛 ((‵ ftrue ⊛ ‵ (fsep (handle.the_row.own_val d z.0.4.0) ftrue)) ∷ given (IsSome d.value) (‵ ftrue) ∷ []) ∵ move ! (1 ∷ []) $ learn ! (λ asked. drop ! $
+    let is = found d.value asked in let v : D E = record { ptr = d.at; alloc = d.alloc; value = is.0 } in
+    let To = type_at F.signature.result tt in let made : To.Denot = record { at = v.ptr; alloc = v.alloc; value = v.value } in
+    split ! $ drop ! $ fsplit ! $ rewrite ! 0 (λ (o : Option session.the_row.Denot). ‵ (handle.the_row.own_val (record { at = d.at; alloc = d.alloc; value = o }) z.0.4.0)) is.1 refl $
+    use1 𝓛 (‵ ((B E).own_val v z.0.4.0)) (id⊢ 𝓤 _) $
+    box_out E ! v z.0.4.0 (λ b o h e ws fits. box_in E ! v b o v.value e refl $ use1 𝓛 (‵ (To.own_val made (word E h b o ∷ []))) (id⊢ 𝓤 _) $ move ! (1 ∷ []) $ drop ! $
+    let w = word E h b o in let Γ : List (Item 𝓤) = ‵ (To.own_val made (w ∷ [])) ∷ [] in
+    by ! (subst (λ (us : List Val). ent 𝓤 (types.Kit.⋆ 𝓛 Γ) (WpFn 𝓤 H 𝓣.C 𝓣.Λ code.function (us ++ []) Post)) (sym ws)
+    (qed 𝓛 Γ ∵ enter ! 𝓣.C 𝓣.Λ code.function (w ∷ []) _ $ alloc_all ! (λ ls. pass_all ! refl (box_typed E h b o fits, tt) $
+    sets ! (of_opd ! (get_in ! (fld ! refl (stop !)) (sub ! 0 refl (whole !)))) refl (tt, tt) $ sets ! (of_opd ! (get_in ! (fld ! refl (stop !)) (sub ! 1 refl (whole !)))) refl fits $
+    sets ! (of_opd ! (get ! refl)) refl (tt, tt) $
+    sets ! (agg ! (and_then ! (get ! refl) (and_then ! (get ! refl) (no_more !)))) refl (box_typed E h b o fits) $ returns ! (look_at ! 0 refl) $ free_all ! refl $
+    suffices ! _ (ends_at 𝓛 F.ended hs c z w made (tt, tt) (tt, tt)) $ says ! (sym is.1) $
+    nothing ! $ nothing ! $ fjoin ! $ join ! $ nothing ! $ join ! $ done !))))))

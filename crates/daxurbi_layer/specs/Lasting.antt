@@ -1,0 +1,45 @@
+-- Laws, which a reader needn't believe: a layer goes on to take the frames that it accepted.
+use Rattle.std.specs.Prelude.{◌≡◌, ◌≤◌, ◌+◌, true, Option, Some, None, Result, Ok, Err, List, [], ◌∷◌, length, vec_len, vec_capacity}
+use Rattle.std.proofs.Common.{arith, ap, subst, sym, ◌∙◌}
+use Rattle.amqp_txn_types.specs.declared.performatives.Flow.{Flow}
+use Rattle.amqp_txn_types.specs.declared.performatives.Frame.{Frame}
+use Rattle.amqp_txn_types.specs.declared.performatives.Disposition.{Disposition}
+use Rattle.amqp_below_layer.specs.declared.inner_error.SessionInnerError.{SessionInnerError}
+use Rattle.amqp_below_layer.specs.Reviewing.{GoesOn, StaysOn}
+use Rattle.daxurbi_layer.specs.Answering.{refusal_told}
+use Rattle.daxurbi_layer.specs.Handing.{Answers, FrameAnswer, Hands, PlainAnswer, TakesAll}
+use Rattle.daxurbi_layer.specs.declared.told_layer.ToldLayer.{ToldLayer}
+
+-- an answer by no refusal
+told_none : (o : Option SessionInnerError) (old : ToldLayer)
+    (result : Result (List Frame) SessionInnerError) → o ≡ None → FrameAnswer o old result → FrameAnswer None old result
+told_none o old result none gives = subst (λ x. FrameAnswer x old result) none gives
+
+-- the incoming call of the first of some frames that it takes goes on to the rest
+pub told-goes-on : (old new : ToldLayer) (frame : Frame)
+    (answer : Result (List Frame) SessionInnerError)
+    → Hands old new frame answer → GoesOn TakesAll true old new frame answer
+told-goes-on old new frame (Ok given) hands rest all = record {
+  told = ap refusal_told hands.answer ∙ all.told;
+  room = omega (arith, all.room, hands.longer, hands.capacity);
+}
+told-goes-on old new frame (Err error) hands rest all =
+    let full = told_none (refusal_told old.answer) old (Err error) all.told hands.gives in
+    absurd (omega (arith, all.room, full.1))
+
+-- a check among them is Ok, and leaves the room
+pub told-stays-on : (old new : ToldLayer) (answer : Result Unit SessionInnerError)
+    → Answers tt old new answer → StaysOn TakesAll true old new answer
+told-stays-on old new (Ok done) answers list all = record {
+  told = ap refusal_told answers.answer ∙ all.told;
+  room = subst (λ v. vec_len v + length list ≤ vec_capacity v) (sym answers.taken) all.room;
+}
+told-stays-on old new (Err error) answers list all =
+    let fine : Err error ≡ Ok tt =
+    subst (λ o. PlainAnswer o tt (Err error)) all.told answers.gives in
+    absurd (cc fine)
+
+-- what changes nothing leaves it
+pub told-window : (old new : ToldLayer) (flow : Option Flow) → (flow ≡ None) × (new ≡ old)
+    → (list : List Frame) → TakesAll old list → TakesAll new list
+told-window old new flow gives list all = subst (λ layer. TakesAll layer list) (sym gives.1) all

@@ -1,0 +1,18 @@
+use Rattle.std.proofs.Common.{rules, List, Ok, Err, subst}
+use Rattle.daxurbi_layer.specs.declared.below_answer.BelowAnswer.{BelowAnswer}
+use Rattle.daxurbi_session.specs.Slots.{LastAnswered, StepAnswered}
+use Rattle.daxurbi_session.specs.ToldSteps.{ToldStep}
+use Rattle.daxurbi_session.specs.declared.slot_session.SlotSession.{SlotSession}
+use Rattle.daxurbi_session.proofs.Made.{made_answered}
+use Rattle.daxurbi_session.proofs.slot_session.SlotSession.step.Goals as goal
+
+pub returns-in-Ok : goal.returns-in-Ok
+returns-in-Ok c =
+    let old = c.args.self.now in let made = c.told_step-result in let last = c.answered.result in
+    let new : SlotSession = record { session = made.new.session; ids = made.new.ids; last = last; alloc = old.alloc } in (
+      search rules,
+      subst (λ (told : BelowAnswer). LastAnswered last (StepAnswered old new c.args.step told)) c.told_for-told.ensures
+          (made_answered old new c.args.step c.told_for-told.result made.result.1 c.in-Ok.drawn c.in-Ok.reply
+          (subst (λ r. ToldStep old.session made.new.session old.ids made.new.ids c.args.step c.told_for-told.result made.result.1 r) c.in-Ok.is made.ensures)
+          c.answered.ensures),
+    )

@@ -1,0 +1,87 @@
+-- What a step makes over a layer that was told its answer and is used for this step alone.
+use Rattle.std.specs.Prelude.{ℕ, ◌≡◌, ◌≤◌, ⊤, Some, Result, Ok, Err, List, [], ◌∷◌, ◌++◌, length, map, take, IfOk, IfErr, OnErr}
+use Rattle.amqp_txn_types.specs.declared.performatives.Frame.{Frame}
+use Rattle.amqp_below_layer.specs.declared.inner_error.SessionInnerError.TheVariants as faults
+use Rattle.amqp_below_layer.specs.declared.verdict.Verdict.TheVariants as verdicts
+use Rattle.amqp_below_ids.specs.Drawn.{DrawnIds}
+use Rattle.amqp_below_ids.specs.Ids.{Drew}
+use Rattle.amqp_resource_held.specs.Held.{SameHeld}
+use Rattle.amqp_resource_held.specs.Views.{view_of_record}
+use Rattle.amqp_resource_record.specs.Answers.{Answer}
+use Rattle.amqp_resource_record.specs.Hands.{hands}
+use Rattle.amqp_resource_record.specs.Work.{handed_by}
+use Rattle.amqp_resource_record.specs.declared.entry.Entry.{Entry}
+use Rattle.amqp_resource_record.specs.declared.reply.Reply.{Reply}
+use Rattle.amqp_resource_record.specs.declared.step.Step.{Step}
+use Rattle.amqp_resource_record.specs.declared.step.Step.TheVariants as steps
+use Rattle.amqp_resource_record.specs.declared.stop.StepError.{StepError}
+use Rattle.amqp_resource_record.specs.declared.stop.StepError.TheVariants as errors
+use Rattle.amqp_resource_session.specs.Session.{StandsFor, StopAfter, below_of, held_of, stop_of}
+use Rattle.amqp_resource_session.specs.Steps.{AnswersEnd, IfEnded, IfRefused, IfUnknown, IsFirstStop, MayFault, OnNoMemory, OnVeto, UnderDead, ended_by, entry_of}
+use Rattle.amqp_resource_session.specs.declared.session.TxnSession.{TxnSession}
+use Rattle.daxurbi_layer.specs.Answering.{unless_take, verdict_told}
+use Rattle.daxurbi_layer.specs.declared.below_answer.BelowAnswer.{BelowAnswer}
+use Rattle.daxurbi_layer.specs.declared.below_answer.BelowAnswer.TheVariants as answers
+use Rattle.daxurbi_layer.specs.declared.told_layer.ToldLayer.{ToldLayer}
+use Rattle.daxurbi_session.specs.SlotIds.{ids_of}
+use Rattle.daxurbi_session.specs.declared.slot_ids.SlotIds.{SlotIds}
+
+-- the frames that were taken, in order
+abbrev pub frames_taken : List (Frame × List Frame) → List Frame
+frames_taken taken = map (λ (pair : Frame × List Frame). pair.0) taken
+
+-- what the layer is told for a step: a veto for a control message alone, and to take instead
+abbrev pub told_for : Step → BelowAnswer → BelowAnswer
+told_for (steps.Control link payload) answer = answer
+told_for step answers.Veto = answers.Take
+told_for step answer = answer
+
+-- the step stopped the session, by how many of its frames were taken
+abbrev pub IfStopped : Result (DrawnIds × Reply) StepError → (ℕ → Type 0) → Type 0
+IfStopped (Err (errors.Fault error handed)) P = P handed
+IfStopped (Err (errors.Ended reason)) P = P 0
+IfStopped _ P = ⊤
+
+-- the first of the frames that the step hands were taken, and no others
+abbrev pub TookOnly : List Entry → Step → List (Frame × List Frame) → ℕ → Type 0
+TookOnly entries step taken handed =
+    (handed ≤ length (hands entries step))
+    × (frames_taken taken ≡ take handed (hands entries step))
+
+-- what a step makes, by a record that the session stood for before it
+pub record RecordSays (entries : List Entry) (new : TxnSession ToldLayer) (step : Step)
+    (taken : List (Frame × List Frame)) (result : Result (DrawnIds × Reply) StepError)
+    : Type 0 where
+  -- The reply is an answer of the record, and the session then stands for the record with it.
+  pub answer : IfOk result (λ out. Answer entries step out.0.ids out.1)
+  pub stands : IfOk result (λ out. StandsFor new (entries ++ entry_of step out.0 out.1 ∷ []))
+  -- What was taken is what the record says the step hands, or the first of it where it stopped.
+  pub handed : IfOk result (λ out. frames_taken taken ≡ handed_by entries step out.1)
+  pub first : IfStopped result (λ handed. TookOnly entries step taken handed)
+  -- An unknown id is the fault of a frame under an id that isn't live, and of nothing else; every
+  -- other fault is that of a step that makes a call below.
+  pub unknown : UnderDead (view_of_record entries) step
+      → result ≡ Err (errors.Fault faults.UnknownTxnId 0)
+  pub unknown_only : IfUnknown result (λ handed. UnderDead (view_of_record entries) step)
+  pub refusal : IfRefused result
+      (λ error handed. MayFault (view_of_record entries) step (hands entries step) error)
+
+-- what a step makes on a session that hadn't stopped
+pub record ToldStep (old new : TxnSession ToldLayer) (old_ids new_ids : SlotIds) (step : Step)
+    (told : BelowAnswer) (taken : List (Frame × List Frame))
+    (result : Result (DrawnIds × Reply) StepError) : Type 0 where
+  pub by_record : (r : List Entry) → StandsFor old r → RecordSays r new step taken result
+  -- It isn't answered that the session had stopped; an end is answered with its own value.
+  pub runs : IfErr result IsFirstStop
+  pub ended : AnswersEnd (ended_by step) result
+  pub ended_only : IfEnded result (λ reason. ended_by step ≡ Some reason)
+  -- A veto comes only where it was told, and nothing is taken but where it was told to take.
+  pub veto : OnVeto result (verdict_told told ≡ Ok verdicts.Veto)
+  pub untaken : unless_take told (length taken) ≡ 0
+  -- Out of memory leaves what the session keeps.
+  pub memory : OnNoMemory result (SameHeld (held_of old) (held_of new))
+  pub stops : StopAfter result (stop_of new)
+  pub below : below_of new ≡ below_of old
+  -- The ids drawn are the source's next ones, and every error leaves the source.
+  pub drew : IfOk result (λ out. Drew (ids_of old_ids) (ids_of new_ids) out.0.ids)
+  pub source : OnErr result (new_ids ≡ old_ids)

@@ -1,0 +1,11 @@
+pub mod Queues
+pub mod Behind
+pub mod Hearing
+pub mod Lasting
+pub mod Serving
+pub mod Arriving
+pub mod Returning
+pub mod Moving
+pub mod Telling
+pub mod Starting
+pub mod Doing
