@@ -1,6 +1,5 @@
 -- The lines of a report of a legal run fit.
-use Rattle.std.proofs.Common.{◌≡◌, ℕ, ◌&&◌, Bool, true, false, List, [], ◌∷◌, ◌++◌, map, take, refl, sym, ◌∙◌, ap, subst}
-use Rattle.std.specs.Prelude.{codes, decimal}
+use Rattle.std.proofs.Common.{◌≡◌, ℕ, ◌&&◌, true, List, [], ◌∷◌, map, refl, sym, ◌∙◌, ap}
 use Rattle.std.specs.List.{All, flat_map, list_all}
 use Rattle.std.proofs.lemmas.Bool.{and_parts}
 use Rattle.std.proofs.lemmas.List.Elements.{All-head, All-tail}
@@ -12,14 +11,13 @@ use Rattle.amqp_resource_record.specs.declared.entry.Entry.{Entry}
 use Rattle.amqp_resource_record.specs.declared.stop.Driven.{Driven}
 use Rattle.amqp_resource_record.specs.Stops.{code_of}
 use Rattle.txn_program_lines.specs.Cutting.{lines_of}
-use Rattle.txn_program_report.specs.Report.{frame_text, reply_frames, report_text}
+use Rattle.txn_program_report.specs.Report.{reply_frames, report_text}
 use Rattle.txn_audit_report.specs.OutLines.{is_out_line}
 use Rattle.txn_audit_fits.specs.Fits.{Fits, handed_text, out_text, stop_text, taken_text}
 use Rattle.txn_audit_law.specs.Reported.{AllShown, IsReported, frames_taken}
 use Rattle.txn_audit_law.specs.Shown.{CanBeShown}
 use Rattle.txn_audit_law.proofs.Reading.{out_line-read}
 use Rattle.txn_audit_law.proofs.Reports.{all_shown, end-lines, is_shown, shows-entries}
-use Rattle.txn_audit_law.proofs.Texts.{is_free}
 use Rattle.txn_audit_law.proofs.Words.{free_frame}
 
 shown : (frame : Frame) → CanBeShown frame → is_shown frame ≡ true

@@ -5,7 +5,7 @@ use Rattle.std.specs.Char.{is_ascii_digit}
 use Rattle.std.proofs.Math.Nat.{div-lt_iff_lt-mul, pow-suc, pow-zero}
 use Rattle.std.proofs.lemmas.Fmt.{decimal_nonempty, first_decimal}
 use Rattle.std.specs.Fmt.{digit_glyph, digits, digits_onto}
-use Rattle.std.specs.List.{list_all, slice_split}
+use Rattle.std.specs.List.{list_all}
 use Rattle.std.specs.Str.{bytes_eq}
 use Rattle.std.proofs.lemmas.Bool.{and_parts, eqb-true}
 use Rattle.std.proofs.lemmas.Bool.Decides.{nat_tests}
@@ -23,9 +23,9 @@ use Rattle.amqp_txn_types.specs.declared.delivery.DeliveryState.TheVariants as s
 use Rattle.amqp_txn_types.specs.declared.performatives.Frame.{Frame}
 use Rattle.amqp_txn_types.specs.declared.performatives.Frame.TheVariants as frames
 use Rattle.txn_program_lines.specs.Cutting.{words_of}
-use Rattle.txn_program_lines.specs.LineWords.{◌>>=◌, at_most, bool_of, decimal_of, is_name, name_of, number_after, optional, role_of, some_of, u32_of, zero_alone}
+use Rattle.txn_program_lines.specs.LineWords.{◌>>=◌, at_most, bool_of, decimal_of, is_name, number_after, optional, role_of, some_of, u32_of, zero_alone}
 use Rattle.txn_program_lines.specs.Lines.{deliveries_at, delivery_at, word_at}
-use Rattle.txn_program_report.specs.Report.{bool_word, frame_text, handle_word, number_word, optional_outcome_word, optional_state_word, payload_word, role_word, settled_word, spaced, state_word}
+use Rattle.txn_program_report.specs.Report.{bool_word, handle_word, number_word, optional_outcome_word, optional_state_word, payload_word, role_word, settled_word, state_word}
 use Rattle.txn_audit_report.specs.OutLines.{are_digits, attach_words, detach_words, disposition_words, flow_words, frame_words, is_id, is_lower_digit, is_out_line, is_outcome, is_payload, is_state, is_state_of, out_line, out_words, transfer_words}
 use Rattle.txn_audit_fits.specs.Fits.{out_text}
 use Rattle.txn_audit_law.specs.Shown.{CanBeShown, IsId, IsShort, IsState}

@@ -1,15 +1,14 @@
 -- A run of the program is one of which a report is written.
-use Rattle.std.proofs.Common.{◌≡◌, ℕ, ◌≤◌, ◌+◌, Bool, true, false, cond, Option, Some, None, List, [], ◌∷◌, ◌++◌, length, map, take, refl, sym, ◌∙◌, ap, subst, arith, append-nil}
+use Rattle.std.proofs.Common.{◌≡◌, ℕ, ◌≤◌, Bool, true, false, cond, Option, Some, None, List, [], ◌∷◌, ◌++◌, length, map, take, refl, sym, ◌∙◌, ap, subst, arith, append-nil}
 use Rattle.std.specs.Prelude.{MatchBool}
 use Rattle.std.specs.List.{zip}
 use Rattle.std.proofs.lemmas.List.{append_cancel_left, map-append}
 use Rattle.std.proofs.lemmas.Slice.Zip.{firsts-zip}
 use Rattle.amqp_txn_types.specs.declared.id.TransactionId.{TransactionId}
-use Rattle.amqp_txn_types.specs.declared.delivery.Error.{Error}
 use Rattle.amqp_txn_types.specs.declared.delivery.SessionStopReason.{SessionStopReason}
 use Rattle.amqp_txn_types.specs.declared.delivery.SessionStopReason.TheVariants as reasons
 use Rattle.amqp_txn_types.specs.declared.performatives.Frame.{Frame}
-use Rattle.amqp_txn_types.specs.Frames.{is_coordinator_attach, txn}
+use Rattle.amqp_txn_types.specs.Frames.{txn}
 use Rattle.amqp_txn_types.specs.Growing.{grown}
 use Rattle.amqp_txn_types.specs.Presumptive.{answered_under}
 use Rattle.amqp_below_layer.specs.OneFrame.{TookFrames}
@@ -27,13 +26,12 @@ use Rattle.amqp_resource_record.specs.declared.stop.StopCode.TheVariants as stop
 use Rattle.amqp_resource_record.specs.Entries.{steps_of}
 use Rattle.amqp_resource_record.specs.Hands.{hands}
 use Rattle.amqp_resource_record.specs.Legal.{IsLegal}
-use Rattle.amqp_resource_record.specs.Live.{is_live}
 use Rattle.amqp_resource_record.specs.Stops.{code_of, ended_code, fault_code}
 use Rattle.amqp_resource_record.specs.Work.{pairs, work}
 use Rattle.amqp_resource_record.proofs.Origins.{firsts_of_pairs}
-use Rattle.amqp_resource_held.specs.Views.{is_live_in, view_of_record}
+use Rattle.amqp_resource_held.specs.Views.{view_of_record}
 use Rattle.amqp_resource_held.proofs.Views.{live-record}
-use Rattle.amqp_resource_session.specs.Drive.{IfRefusal, NextStep, RunTook, StopCause}
+use Rattle.amqp_resource_session.specs.Drive.{NextStep, RunTook, StopCause}
 use Rattle.amqp_resource_session.specs.Steps.{FrameMayFault, IsDead, MayFault, UnderDead, ended_by, is_unknown}
 use Rattle.txn_program_runs.specs.Running.{IsRun}
 use Rattle.txn_audit_report.specs.Stopping.{is_refusal}

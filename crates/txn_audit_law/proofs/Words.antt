@@ -1,5 +1,5 @@
 -- The words of a frame that is shown hold no octet that parts words or lines.
-use Rattle.std.proofs.Common.{◌≡◌, ℕ, ◌<◌, ◌≤◌, ◌==◌, ◌&&◌, Bool, true, false, cond, not, Option, Some, None, List, [], ◌∷◌, ◌++◌, length, refl, sym, ◌∙◌, ap, arith, append-nil}
+use Rattle.std.proofs.Common.{◌≡◌, ℕ, ◌<◌, ◌==◌, ◌&&◌, Bool, true, false, not, Option, Some, None, List, [], ◌∷◌, ◌++◌, refl, ◌∙◌, ap, arith, append-nil}
 use Rattle.std.specs.Prelude.{codes, decimal}
 use Rattle.std.specs.List.{list_all}
 use Rattle.std.proofs.lemmas.Bool.{and_parts, eqb-true}
@@ -15,7 +15,7 @@ use Rattle.amqp_txn_types.specs.declared.performatives.Frame.{Frame}
 use Rattle.amqp_txn_types.specs.declared.performatives.Frame.TheVariants as frames
 use Rattle.txn_program_lines.specs.Cutting.{words_of}
 use Rattle.txn_program_lines.specs.LineWords.{is_name, is_name_octet}
-use Rattle.txn_program_report.specs.Report.{bool_word, frame_text, handle_word, number_word, optional_outcome_word, optional_state_word, outcome_word, payload_word, role_word, settled_word, spaced, state_word}
+use Rattle.txn_program_report.specs.Report.{bool_word, frame_text, handle_word, number_word, optional_outcome_word, optional_state_word, payload_word, role_word, settled_word, spaced, state_word}
 use Rattle.txn_audit_law.specs.Shown.{CanBeShown}
 use Rattle.txn_audit_law.proofs.Texts.{free-append, free-decimal, free-encode, is_free, split-first, split-whole}
 

@@ -1,6 +1,5 @@
 -- Frames that a line of a report can show.
-use Rattle.std.specs.Prelude.{ℕ, ◌≡◌, ◌≤◌, ◌<◌, true, Option, Some, None, List, IfSome, length}
-use Rattle.std.specs.List.{AllPass}
+use Rattle.std.specs.Prelude.{ℕ, ◌≡◌, ◌≤◌, true, IfSome, length}
 use Rattle.hex.specs.Hex.{IsBytes}
 use Rattle.amqp_txn_types.specs.declared.id.TransactionId.{TransactionId}
 use Rattle.amqp_txn_types.specs.declared.small.Handle.{Handle}
