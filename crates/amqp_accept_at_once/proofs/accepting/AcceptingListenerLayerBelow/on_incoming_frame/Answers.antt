@@ -5,7 +5,7 @@ use Rattle.amqp_accept_at_once.proofs.accepting.AcceptingListenerLayerBelow.on_i
 pub returns-in-Attach-clause-gives : goal.returns-in-Attach-clause-gives
 returns-in-Attach-clause-gives g c =
     let opened = c.hear_attach-answer.ensures in
-    rw c.count_answer.ensures.answer (rw c.in-Attach.is (record {
+    rw c.in-Attach.is (rw c.count_answer.ensures.answer (record {
       tells = opened.steady;
       gave = opened.opens;
       acceptor = refl;
