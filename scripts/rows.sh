@@ -6,7 +6,7 @@
 top=$(cd "$(dirname "$(readlink -f "$0")")/.." && pwd) || exit 1
 program=${1:-$top/txn_program}
 if [ $# -eq 0 ]; then
-  for word in run listen agree broker mailbox audit; do
+  for word in run listen agree threads broker mailbox audit; do
     "$program" --which "$word" >/dev/null || exit 1
   done
 fi
@@ -40,7 +40,7 @@ run_unproved() {
     example=${words%.words}
     name=${example##*/}
     line=$(head -n 1 "$words")
-    case $line in listen | agree | broker | mailbox | audit) ;; *) line=run ;; esac
+    case $line in listen | agree | threads | broker | mailbox | audit) ;; *) line=run ;; esac
     [ $line = "$which" ] || continue
     cp "$example.steps" "$folder/$name"
     cp "$words" "$folder/$name.args"
@@ -65,6 +65,7 @@ if [ "$program" = --unproved ]; then
   run_unproved txn_main_mailbox mailbox
   run_unproved txn_main_audit audit
   run_unproved txn_main_agree agree
+  run_unproved txn_main_threads threads
   echo "$count runs, $failed of them wrong"
   [ "$failed" -eq 0 ]
   exit

@@ -78,7 +78,7 @@ try_all() {
       "status 6") kind=nothing ;;
       *"stop below-no-memory"*"status 8") kind=below ;;
       *"attach-refused below-no-memory"*) kind=refused ;;
-      "steps "*"status "[18]) kind=summary ;;
+      "steps "*"status "[18] | "workers "*"status "[18]) kind=summary ;;
       *) kind=other; printf 'allocation %s:\n%s\n' "$number" "$end" ;;
     esac
     count[$kind]=$((count[$kind] + 1))

@@ -27,4 +27,5 @@ pub use txn_program_edges::{Ids, Reading, StdSink, StdSource, TransactionIds, st
 pub use txn_program_lines::{SpellError, spells};
 pub use txn_program_report::report;
 pub use txn_program_runs::{INPUT_LIMIT, Layer, Plans, Ran, RunCommand};
+pub use txn_program_threads::{ThreadsRan, serve_threads};
 pub use txn_program_threads_words::ThreadsCommand;
