@@ -1,15 +1,19 @@
-//! Comparing what was found with what was wanted.
+//! Comparing what was found with what was wanted. Neither is taken apart: a test's process gives all
+//! its memory back at its end.
 
 ghost use Rattle.std.specs.Prelude.{◌≡◌, is_ok};
+ghost use Rattle.std.specs.Result.{result_err, result_ok};
 ghost use Rattle.amqp_test_values.specs.Answers.{gives_err, gives_ok};
+
+use std::mem::forget;
 
 /// Whether the two are equal.
 pub fn same<T: PartialEq + Drop>(found: T, wanted: T) -> bool
     ensures { result ≡ T.eq found wanted }
 {
     let equal = found == wanted;
-    drop(found);
-    drop(wanted);
+    forget(found);
+    forget(wanted);
     equal
 }
 
@@ -18,9 +22,10 @@ pub fn gives<T: PartialEq + Drop, E: Drop>(answer: Result<T, E>, wanted: T) -> b
     ensures { result ≡ gives_ok T.eq answer wanted }
 {
     match answer {
-        Ok(found) => found == wanted,
+        Ok(found) => same(found, wanted),
         Err(error) => {
-            drop(error);
+            forget(error);
+            forget(wanted);
             false
         }
     }
@@ -32,10 +37,11 @@ pub fn refuses<T: Drop, E: PartialEq + Drop>(answer: Result<T, E>, wanted: E) ->
 {
     match answer {
         Ok(value) => {
-            drop(value);
+            forget(value);
+            forget(wanted);
             false
         }
-        Err(found) => found == wanted,
+        Err(found) => same(found, wanted),
     }
 }
 
@@ -45,12 +51,38 @@ pub fn is_done<T: Drop, E: Drop>(answer: Result<T, E>) -> bool
 {
     match answer {
         Ok(value) => {
-            drop(value);
+            forget(value);
             true
         }
         Err(error) => {
-            drop(error);
+            forget(error);
             false
         }
+    }
+}
+
+/// The value of an Ok.
+pub fn value_of<T, E: Drop>(answer: Result<T, E>) -> Option<T>
+    ensures { result ≡ result_ok answer }
+{
+    match answer {
+        Ok(value) => Some(value),
+        Err(error) => {
+            forget(error);
+            None
+        }
+    }
+}
+
+/// The error of an Err.
+pub fn error_of<T: Drop, E>(answer: Result<T, E>) -> Option<E>
+    ensures { result ≡ result_err answer }
+{
+    match answer {
+        Ok(value) => {
+            forget(value);
+            None
+        }
+        Err(error) => Some(error),
     }
 }
