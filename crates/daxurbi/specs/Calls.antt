@@ -8,7 +8,7 @@ use Rattle.amqp_txn_codec.specs.Reading.{message_of}
 use Rattle.amqp_resource_record.specs.declared.entry.Entry.{Entry}
 use Rattle.amqp_resource_session.specs.Session.{bare_frames_on}
 use Rattle.daxurbi_layer.specs.declared.below_answer.BelowAnswer.{BelowAnswer}
-use Rattle.daxurbi_session.specs.Payloads.{Holds, message_of_kind}
+use Rattle.daxurbi_session.specs.Payloads.{kind_and_id, message_of_kind}
 use Rattle.daxurbi_session.specs.Reporting.{frames_text, report_of}
 use Rattle.daxurbi_session.specs.SlotIds.{ids_of}
 use Rattle.daxurbi_session.specs.Slots.{MakesLine, SlotStandsFor, session_of, stop_in}
@@ -150,5 +150,5 @@ abbrev pub ReadsMessage : Option ControlMessageBody → ℕ → ℕ → Buffer �
 ReadsMessage None old_kind new_kind old new result =
     (new_kind ≡ old_kind) × Refuses 13 old new result
 ReadsMessage (Some message) old_kind new_kind old new result =
-    (kind : MessageKind) × (id : Option TransactionId) × Holds (Some message) kind id
-    × (new_kind ≡ number_of kind) × Writes (id_octets id) old new result
+    (new_kind ≡ number_of (kind_and_id message).0)
+    × Writes (id_octets (kind_and_id message).1) old new result

@@ -7,7 +7,7 @@ ghost use Rattle.daxurbi.specs.Owning.{handle_coded, handle_owns};
 use crate::parts::Parts;
 use daxurbi_session::SlotSession;
 use std::alloc::Global;
-use std::marker::Model;
+use std::marker::{Model, Send};
 use std::ptr;
 
 /// The pointer of the box of a session, or nothing.
@@ -24,6 +24,8 @@ pub struct Handle {
 impl Model for Handle {
     ghost also_owns = { λ h. handle_owns h.alloc h.at h.value };
 }
+
+unsafe impl Send for Handle {}
 
 impl Handle {
     /// Nothing.

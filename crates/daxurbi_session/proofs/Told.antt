@@ -8,8 +8,6 @@ use Rattle.amqp_below_ids.specs.Drawn.{DrawnIds}
 use Rattle.amqp_below_layer.specs.OneFrame.{TookFrames}
 use Rattle.amqp_below_layer.specs.Told.{Told}
 use Rattle.amqp_below_layer.specs.declared.inner_error.SessionInnerError.{SessionInnerError}
-use Rattle.amqp_resource_record.proofs.Whole.{given_lengths}
-use Rattle.amqp_resource_record.specs.Answers.{Answer}
 use Rattle.amqp_resource_record.specs.Hands.{hands}
 use Rattle.amqp_resource_record.specs.Work.{given_by, handed_by}
 use Rattle.amqp_resource_record.specs.declared.entry.Entry.{Entry}
@@ -35,14 +33,12 @@ use Rattle.daxurbi_session.specs.ToldSteps.{IfStopped, RecordSays, TookOnly, fra
 -- ---- what was taken
 
 -- what a layer took that had taken nothing
-took_all : (old new : Told) (entries : List Entry) (step : Step) (drawn : List TransactionId) (reply : Reply) (taken : List (Frame × List Frame))
-    → old.taken ≡ Some [] → new.taken ≡ Some taken → Answer entries step drawn reply → TookHands old new entries step reply
-    → frames_taken taken ≡ handed_by entries step reply
-took_all old new entries step drawn reply taken none some answer took =
-    let same : Some taken ≡ Some (zip (handed_by entries step reply) (given_by step reply)) =
-    sym some ∙ took ∙ ap (λ o. grown o (zip (handed_by entries step reply) (given_by step reply))) none in
-    ap frames_taken (same_Some taken (zip (handed_by entries step reply) (given_by step reply)) same)
-    ∙ firsts-zip (handed_by entries step reply) (given_by step reply) (sym (given_lengths entries step drawn reply answer))
+took_all : (old new : Told) (entries : List Entry) (step : Step) (reply : Reply) (taken : List (Frame × List Frame))
+    → old.taken ≡ Some [] → new.taken ≡ Some taken → TookHands old new entries step reply
+    → taken ≡ zip (handed_by entries step reply) (given_by step reply)
+took_all old new entries step reply taken none some took =
+    same_Some taken (zip (handed_by entries step reply) (given_by step reply))
+    (sym some ∙ took ∙ ap (λ o. grown o (zip (handed_by entries step reply) (given_by step reply))) none)
 
 -- the first of it
 took_first : (old new : Told) (entries : List Entry) (step : Step) (handed : ℕ) (taken : List (Frame × List Frame))
@@ -78,11 +74,12 @@ pub told_record : (old_told new_told : Told) (ids : ℕ → TransactionId) (new 
 told_record old_told new_told ids new entries step taken (Ok out) none some nothing runs said = record {
   answer = said.answer;
   stands = said.stands;
-  handed = took_all old_told new_told entries step out.0.ids out.1 taken none some said.answer said.taken;
+  handed = took_all old_told new_told entries step out.1 taken none some said.taken;
   first = tt;
   unknown = said.unknown;
   unknown_only = tt;
   refusal = tt;
+  memory = tt;
 }
 told_record old_told new_told ids new entries step taken (Err (errors.Fault error handed)) none some nothing runs said = record {
   answer = tt;
@@ -92,6 +89,7 @@ told_record old_told new_told ids new entries step taken (Err (errors.Fault erro
   unknown = said.unknown;
   unknown_only = only_dead (is_unknown error) _ handed said.unknown_only;
   refusal = said.refusal;
+  memory = tt;
 }
 told_record old_told new_told ids new entries step taken (Err (errors.Ended reason)) none some nothing runs said = record {
   answer = tt;
@@ -101,6 +99,7 @@ told_record old_told new_told ids new entries step taken (Err (errors.Ended reas
   unknown = said.unknown;
   unknown_only = tt;
   refusal = tt;
+  memory = tt;
 }
 told_record old_told new_told ids new entries step taken (Err (errors.Stopped code)) none some nothing runs said = absurd runs
 told_record old_told new_told ids new entries step taken (Err errors.NoMemory) none some nothing runs said = record {
@@ -111,6 +110,7 @@ told_record old_told new_told ids new entries step taken (Err errors.NoMemory) n
   unknown = said.unknown;
   unknown_only = tt;
   refusal = tt;
+  memory = said.memory.0;
 }
 
 -- ---- what follows from one answer to another

@@ -18,8 +18,19 @@ message_of_kind kinds.Discharge id = discharge_of id None
 message_of_kind kinds.Commit id = discharge_of id (Some false)
 message_of_kind kinds.Rollback id = discharge_of id (Some true)
 
--- the message is of this kind and has this id: a declare has none
-abbrev pub Holds : Option ControlMessageBody → MessageKind → Option TransactionId → Type 0
-Holds found kind None =
-    (kind ≡ kinds.Declare) × (found ≡ Some (messages.Declare (record { global_id = None })))
-Holds found kind (Some id) = found ≡ Some (message_of_kind kind id)
+-- the kind of a discharge
+abbrev pub discharge_kind : Option Bool → MessageKind
+discharge_kind None = kinds.Discharge
+discharge_kind (Some false) = kinds.Commit
+discharge_kind (Some true) = kinds.Rollback
+
+-- the kind of a declare, by its global id
+abbrev pub declare_kind : Option TransactionId → MessageKind
+declare_kind None = kinds.Declare
+declare_kind (Some id) = kinds.DeclareGlobal
+
+-- the kind of a message, and its id: a declare without a global id has none
+abbrev pub kind_and_id : ControlMessageBody → MessageKind × Option TransactionId
+kind_and_id (messages.Declare declare) = (declare_kind declare.global_id, declare.global_id)
+kind_and_id (messages.Discharge discharge) =
+    (discharge_kind discharge.fail, Some discharge.txn_id)

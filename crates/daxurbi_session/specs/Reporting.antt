@@ -8,8 +8,8 @@ use Rattle.daxurbi_session.specs.declared.last_step.Ending.TheVariants as ending
 use Rattle.daxurbi_session.specs.declared.last_step.LastStep.{LastStep}
 use Rattle.txn_program_report.specs.Report.{entry_lines, frame_text, line, stop_word, taken_line}
 
--- how a step ended: the reply with the frames to be sent back, or why it stopped and how many of its
--- frames were handed
+-- how a step ended: the reply with the frames to be sent back, or why it stopped and how many of
+-- its frames were handed
 abbrev pub ending_text : Ending → List ℕ
 ending_text (endings.Answered entry) = entry_lines entry
 ending_text (endings.Stopped stop handed) =

@@ -1,6 +1,8 @@
 -- What a step makes of the session of a slot.
-use Rattle.std.specs.Prelude.{ℕ, ◌≡◌, ◌-◌, ◌^◌, Option, Some, None, Ok, List, ◌∷◌, ◌++◌, [], length, true, IsSome}
+use Rattle.std.specs.Prelude.{ℕ, ◌≡◌, ◌-◌, ◌^◌, Option, Some, None, Ok, List, ◌∷◌, ◌++◌, [], length, true, IsSome, MatchBool, ⊤}
+use Rattle.std.specs.List.{zip}
 use Rattle.amqp_txn_types.specs.declared.performatives.Frame.{Frame}
+use Rattle.amqp_below_layer.specs.declared.inner_error.SessionInnerError.{SessionInnerError}
 use Rattle.amqp_below_layer.specs.declared.inner_error.SessionInnerError.TheVariants as faults
 use Rattle.amqp_below_layer.specs.declared.verdict.Verdict.TheVariants as verdicts
 use Rattle.amqp_below_ids.specs.Ids.{Drew}
@@ -9,20 +11,20 @@ use Rattle.amqp_resource_record.specs.Answers.{Answer}
 use Rattle.amqp_resource_record.specs.Entries.{is_veto}
 use Rattle.amqp_resource_record.specs.Hands.{hands}
 use Rattle.amqp_resource_record.specs.Stops.{code_of}
-use Rattle.amqp_resource_record.specs.Work.{handed_by}
+use Rattle.amqp_resource_record.specs.Work.{given_by, handed_by}
 use Rattle.amqp_resource_record.specs.declared.entry.Entry.{Entry}
 use Rattle.amqp_resource_record.specs.declared.step.Step.{Step}
 use Rattle.amqp_resource_record.specs.declared.stop.Stop.{Stop}
 use Rattle.amqp_resource_record.specs.declared.stop.Stop.TheVariants as stops
 use Rattle.amqp_resource_record.specs.declared.stop.StopCode.{StopCode}
 use Rattle.amqp_resource_session.specs.Session.{SameSession, StandsFor, opened_of, stop_of}
-use Rattle.amqp_resource_session.specs.Steps.{MayFault, UnderDead, ended_by}
+use Rattle.amqp_resource_session.specs.Steps.{MayFault, StopsSurely, UnderDead, ended_by, is_unknown}
 use Rattle.amqp_resource_session.specs.declared.session.TxnSession.{TxnSession}
-use Rattle.daxurbi_layer.specs.Answering.{unless_take, verdict_told}
+use Rattle.daxurbi_layer.specs.Answering.{given_count, refusal_told, unless_take, verdict_told}
 use Rattle.daxurbi_layer.specs.declared.below_answer.BelowAnswer.{BelowAnswer}
 use Rattle.daxurbi_layer.specs.declared.told_layer.ToldLayer.{ToldLayer}
 use Rattle.daxurbi_session.specs.SlotIds.{ids_of}
-use Rattle.daxurbi_session.specs.ToldSteps.{TookOnly, frames_taken, told_for}
+use Rattle.daxurbi_session.specs.ToldSteps.{IfChecked, RefusedAsTold, TookOnly, answered_with, told_for}
 use Rattle.daxurbi_session.specs.declared.last_step.Ending.{Ending}
 use Rattle.daxurbi_session.specs.declared.last_step.Ending.TheVariants as endings
 use Rattle.daxurbi_session.specs.declared.last_step.LastStep.{LastStep}
@@ -45,21 +47,25 @@ SlotStandsFor slot entries = StandsFor slot.session entries
 
 -- an entry and what was taken of its step, by a record that the session stood for before: the reply
 -- is an answer of the record, the session then stands for the record with the entry, and what was
--- taken is what the record says the step hands
+-- taken is what the record says the step hands, each frame with what the reply says was given back
 pub record EntryFits (entries : List Entry) (new : SlotSession) (entry : Entry)
     (taken : List (Frame × List Frame)) : Type 0 where
   pub answer : Answer entries entry.step entry.drawn.ids entry.reply
   pub stands : SlotStandsFor new (entries ++ entry ∷ [])
-  pub handed : frames_taken taken ≡ handed_by entries entry.step entry.reply
+  pub handed : taken
+      ≡ zip (handed_by entries entry.step entry.reply) (given_by entry.step entry.reply)
 
 -- a step was answered
 pub record StepAnswered (old new : SlotSession) (step : Step) (told : BelowAnswer) (entry : Entry)
     (taken : List (Frame × List Frame)) : Type 0 where
   pub made : entry.step ≡ step
   pub records : (r : List Entry) → SlotStandsFor old r → EntryFits r new entry taken
-  -- A veto was told, and nothing is taken but where it was told to take.
+  -- A veto was told, nothing is taken but where it was told to take, and no frame is given back.
   pub veto : is_veto entry.reply ≡ true → verdict_told told ≡ Ok verdicts.Veto
   pub untaken : unless_take told (length taken) ≡ 0
+  pub ungiven : given_count taken ≡ 0
+  -- Where it is answered with a disposition, no refusal was told.
+  pub checked : IfChecked (answered_with step) (refusal_told told ≡ None)
   -- The ids drawn are the next ones, and the session goes on.
   pub drew : Drew (ids_of old.ids) (ids_of new.ids) entry.drawn.ids
   pub runs : stop_in new ≡ None
@@ -79,17 +85,29 @@ pub record FitsStop (entries : List Entry) (step : Step) (stop : Stop) (handed :
   pub cause : StopFits entries step stop
   pub took : TookOnly entries step taken handed
 
+-- a stop that is a refusal of the layer below, with a fact of its error
+abbrev pub IfFault : Stop → (SessionInnerError → Type 0) → Type 0
+IfFault (stops.Fault error) P = MatchBool (is_unknown error) ⊤ (P error)
+IfFault _ P = ⊤
+
 -- a step stopped the session
 pub record StepStopped (old new : SlotSession) (step : Step) (told : BelowAnswer) (stop : Stop)
     (handed : ℕ) (taken : List (Frame × List Frame)) : Type 0 where
   pub records : (r : List Entry) → SlotStandsFor old r → FitsStop r step stop handed taken
+  -- Nothing is taken but where it was told to take, and of a commit nothing.
   pub untaken : unless_take told (length taken) ≡ 0
+  pub surely : IfFault stop (λ error. StopsSurely true step handed)
+  -- Where its disposition was refused, the error is the one that was told.
+  pub checked : IfFault stop
+      (λ error. IfChecked (answered_with step) (RefusedAsTold told error))
   pub ids : new.ids ≡ old.ids
   pub stops : stop_in new ≡ Some (code_of stop)
 
--- nothing changed: what the session keeps is found as before, and all else is the same
+-- nothing changed: what the session keeps is found as before, all else is the same, and the session
+-- stands for each record that it stood for
 pub record SameSlot (old new : SlotSession) : Type 0 where
   pub session : SameSession old.session new.session
+  pub stands : (r : List Entry) → SlotStandsFor old r → SlotStandsFor new r
   pub ids : new.ids ≡ old.ids
   pub last : new.last ≡ old.last
 

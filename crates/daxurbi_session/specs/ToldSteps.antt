@@ -1,6 +1,12 @@
 -- What a step makes over a layer that was told its answer and is used for this step alone.
-use Rattle.std.specs.Prelude.{ℕ, ◌≡◌, ◌≤◌, ⊤, Some, Result, Ok, Err, List, [], ◌∷◌, ◌++◌, length, map, take, IfOk, IfErr, OnErr}
+use Rattle.std.specs.List.{zip}
+use Rattle.std.specs.Prelude.{ℕ, ◌≡◌, ◌≤◌, ⊤, true, Option, Some, None, Result, Ok, Err, List, [], ◌∷◌, ◌++◌, length, map, take, IfOk, IfErr, OnErr}
+use Rattle.amqp_txn_types.specs.Frames.{txn}
+use Rattle.amqp_txn_types.specs.Presumptive.{answered_under}
+use Rattle.amqp_txn_types.specs.declared.id.TransactionId.{TransactionId}
 use Rattle.amqp_txn_types.specs.declared.performatives.Frame.{Frame}
+use Rattle.amqp_txn_types.specs.declared.performatives.Frame.TheVariants as frames
+use Rattle.amqp_below_layer.specs.declared.inner_error.SessionInnerError.{SessionInnerError}
 use Rattle.amqp_below_layer.specs.declared.inner_error.SessionInnerError.TheVariants as faults
 use Rattle.amqp_below_layer.specs.declared.verdict.Verdict.TheVariants as verdicts
 use Rattle.amqp_below_ids.specs.Drawn.{DrawnIds}
@@ -9,7 +15,7 @@ use Rattle.amqp_resource_held.specs.Held.{SameHeld}
 use Rattle.amqp_resource_held.specs.Views.{view_of_record}
 use Rattle.amqp_resource_record.specs.Answers.{Answer}
 use Rattle.amqp_resource_record.specs.Hands.{hands}
-use Rattle.amqp_resource_record.specs.Work.{handed_by}
+use Rattle.amqp_resource_record.specs.Work.{given_by, handed_by}
 use Rattle.amqp_resource_record.specs.declared.entry.Entry.{Entry}
 use Rattle.amqp_resource_record.specs.declared.reply.Reply.{Reply}
 use Rattle.amqp_resource_record.specs.declared.step.Step.{Step}
@@ -17,9 +23,9 @@ use Rattle.amqp_resource_record.specs.declared.step.Step.TheVariants as steps
 use Rattle.amqp_resource_record.specs.declared.stop.StepError.{StepError}
 use Rattle.amqp_resource_record.specs.declared.stop.StepError.TheVariants as errors
 use Rattle.amqp_resource_session.specs.Session.{StandsFor, StopAfter, below_of, held_of, stop_of}
-use Rattle.amqp_resource_session.specs.Steps.{AnswersEnd, IfEnded, IfRefused, IfUnknown, IsFirstStop, MayFault, OnNoMemory, OnVeto, UnderDead, ended_by, entry_of}
+use Rattle.amqp_resource_session.specs.Steps.{AnswersEnd, IfEnded, IfRefused, IfUnknown, IsFirstStop, MayFault, OnNoMemory, OnVeto, StopsSurely, UnderDead, ended_by, entry_of, fault_of}
 use Rattle.amqp_resource_session.specs.declared.session.TxnSession.{TxnSession}
-use Rattle.daxurbi_layer.specs.Answering.{unless_take, verdict_told}
+use Rattle.daxurbi_layer.specs.Answering.{given_count, refusal_told, unless_take, verdict_told}
 use Rattle.daxurbi_layer.specs.declared.below_answer.BelowAnswer.{BelowAnswer}
 use Rattle.daxurbi_layer.specs.declared.below_answer.BelowAnswer.TheVariants as answers
 use Rattle.daxurbi_layer.specs.declared.told_layer.ToldLayer.{ToldLayer}
@@ -48,6 +54,25 @@ TookOnly entries step taken handed =
     (handed ≤ length (hands entries step))
     × (frames_taken taken ≡ take handed (hands entries step))
 
+-- what work under an id is answered with at once
+abbrev pub answered_for : Option TransactionId → Frame → List Frame
+answered_for None frame = []
+answered_for (Some id) frame = answered_under id frame
+
+abbrev pub answered_with : Step → List Frame
+answered_with (steps.Frame frame) = answered_for (txn frame) frame
+answered_with _ = []
+
+-- a disposition, which the layer below checks, with a fact
+abbrev pub IfChecked : List Frame → Type 0 → Type 0
+IfChecked (frames.Disposition disposition ∷ rest) P = P
+IfChecked _ P = ⊤
+
+-- the error is what a refusal that was told is given as
+abbrev pub RefusedAsTold : BelowAnswer → SessionInnerError → Type 0
+RefusedAsTold told error =
+    (own : SessionInnerError) × (error ≡ fault_of own) × (refusal_told told ≡ Some own)
+
 -- what a step makes, by a record that the session stood for before it
 pub record RecordSays (entries : List Entry) (new : TxnSession ToldLayer) (step : Step)
     (taken : List (Frame × List Frame)) (result : Result (DrawnIds × Reply) StepError)
@@ -55,8 +80,10 @@ pub record RecordSays (entries : List Entry) (new : TxnSession ToldLayer) (step 
   -- The reply is an answer of the record, and the session then stands for the record with it.
   pub answer : IfOk result (λ out. Answer entries step out.0.ids out.1)
   pub stands : IfOk result (λ out. StandsFor new (entries ++ entry_of step out.0 out.1 ∷ []))
-  -- What was taken is what the record says the step hands, or the first of it where it stopped.
-  pub handed : IfOk result (λ out. frames_taken taken ≡ handed_by entries step out.1)
+  -- What was taken is what the record says the step hands, each frame with what the reply says was
+  -- given back for it; or the first of it where it stopped.
+  pub handed : IfOk result
+      (λ out. taken ≡ zip (handed_by entries step out.1) (given_by step out.1))
   pub first : IfStopped result (λ handed. TookOnly entries step taken handed)
   -- An unknown id is the fault of a frame under an id that isn't live, and of nothing else; every
   -- other fault is that of a step that makes a call below.
@@ -65,6 +92,8 @@ pub record RecordSays (entries : List Entry) (new : TxnSession ToldLayer) (step 
   pub unknown_only : IfUnknown result (λ handed. UnderDead (view_of_record entries) step)
   pub refusal : IfRefused result
       (λ error handed. MayFault (view_of_record entries) step (hands entries step) error)
+  -- Out of memory leaves the session standing for what it stood for.
+  pub memory : OnNoMemory result (StandsFor new entries)
 
 -- what a step makes on a session that hadn't stopped
 pub record ToldStep (old new : TxnSession ToldLayer) (old_ids new_ids : SlotIds) (step : Step)
@@ -75,9 +104,18 @@ pub record ToldStep (old new : TxnSession ToldLayer) (old_ids new_ids : SlotIds)
   pub runs : IfErr result IsFirstStop
   pub ended : AnswersEnd (ended_by step) result
   pub ended_only : IfEnded result (λ reason. ended_by step ≡ Some reason)
-  -- A veto comes only where it was told, and nothing is taken but where it was told to take.
+  -- A veto comes only where it was told, nothing is taken but where it was told to take, and no frame
+  -- is given back. Of a commit at which it stopped nothing was taken.
   pub veto : OnVeto result (verdict_told told ≡ Ok verdicts.Veto)
   pub untaken : unless_take told (length taken) ≡ 0
+  pub ungiven : given_count taken ≡ 0
+  pub surely : IfRefused result (λ error handed. StopsSurely true step handed)
+  -- Work that is answered with a disposition is answered where no refusal was told, and where the
+  -- disposition is refused it stops with the error that was told.
+  pub checked : IfOk result
+      (λ out. IfChecked (answered_with step) (refusal_told told ≡ None))
+  pub check_refused : IfRefused result
+      (λ error handed. IfChecked (answered_with step) (RefusedAsTold told error))
   -- Out of memory leaves what the session keeps.
   pub memory : OnNoMemory result (SameHeld (held_of old) (held_of new))
   pub stops : StopAfter result (stop_of new)

@@ -1,9 +1,10 @@
 //! Control messages as octets, without a session.
 
-ghost use Rattle.std.specs.Prelude.{◌≡◌, ◌≤◌, IfNone, IfSome, None, Some, length};
+ghost use Rattle.std.specs.Prelude.{◌≡◌, ◌≤◌, Some, length};
+ghost use Rattle.std.specs.Option.{option_map};
 ghost use Rattle.amqp_txn_codec.specs.Canon.{IsWritten, canon};
 ghost use Rattle.amqp_txn_codec.specs.Reading.{message_of};
-ghost use Rattle.daxurbi_session.specs.Payloads.{Holds, discharge_of, message_of_kind};
+ghost use Rattle.daxurbi_session.specs.Payloads.{discharge_kind, discharge_of, kind_and_id, message_of_kind};
 
 use amqp_txn_codec::{ControlMessageBody, Declare, Discharge, decode};
 use amqp_txn_types::TransactionId;
@@ -56,8 +57,8 @@ pub fn payload_of(kind: MessageKind, id: TransactionId, out: &mut [u8; 64]) -> u
 }
 
 /// The kind of a discharge.
-fn kind_of_discharge(txn_id: TransactionId, fail: Option<bool>) -> MessageKind
-    ensures { message_of_kind result txn_id ≡ discharge_of txn_id fail }
+fn kind_of_discharge(fail: Option<bool>) -> MessageKind
+    ensures { result ≡ discharge_kind fail }
 {
     match fail {
         None => MessageKind::Discharge,
@@ -69,8 +70,7 @@ fn kind_of_discharge(txn_id: TransactionId, fail: Option<bool>) -> MessageKind
 /// The kind and the id of the message that octets spell, where they spell one; a declare without a
 /// global id has no id.
 pub fn message_in(payload: &[u8]) -> Option<(MessageKind, Option<TransactionId>)>
-    ensures found { IfSome result (λ found. Holds (message_of payload.now) found.0 found.1) }
-    ensures none { IfNone result (message_of payload.now ≡ None) }
+    ensures { result ≡ option_map kind_and_id (message_of payload.now) }
 {
     match decode(payload) {
         Err(_) => None,
@@ -85,7 +85,7 @@ pub fn message_in(payload: &[u8]) -> Option<(MessageKind, Option<TransactionId>)
             ),
         ) => { Some((MessageKind::DeclareGlobal, Some(id))) }
         Ok(ControlMessageBody::Discharge(Discharge { txn_id, fail })) => {
-            Some((kind_of_discharge(txn_id, fail), Some(txn_id)))
+            Some((kind_of_discharge(fail), Some(txn_id)))
         }
     }
 }

@@ -30,8 +30,8 @@ impl SlotIds {
         SlotIds::Seeded(UuidIds::new(ChaCha20Rng::from_seed(seed)))
     }
 
-    /// The ids of a list, of 16 octets each; octets after the last whole one are left. The only error
-    /// is out of memory.
+    /// The ids of a list, of 16 octets each; octets after the last whole one are left. The only
+    /// error is out of memory.
     ///
     /// # Requires
     ///

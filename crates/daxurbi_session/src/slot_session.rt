@@ -141,15 +141,16 @@ impl SlotSession {
         }
     }
 
-    /// The lines of what the last step made; none before the first. The only error is out of memory.
+    /// The lines of what the last step made; none before the first. The only error is out of
+    /// memory.
     pub fn report(&self) -> Result<String, NoMemory>
         ensures { IfOk result (λ text. string_bytes text ≡ report_of self.now.last) }
     {
         report_text(self.alloc, &self.last)
     }
 
-    /// The lines of the frames that a commit of the id would hand; `None` exactly where the id isn't
-    /// live. The only error is out of memory.
+    /// The lines of the frames that a commit of the id would hand; `None` exactly where the id
+    /// isn't live. The only error is out of memory.
     pub fn pending(&self, txn_id: &TransactionId) -> Result<Option<String>, NoMemory>
         ensures kept { IfOk result (λ found. option_map string_bytes found
             ≡ option_map frames_text (bare_frames_on (session_of self.now) txn_id.now)) }

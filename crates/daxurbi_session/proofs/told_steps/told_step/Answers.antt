@@ -6,11 +6,12 @@ use Rattle.amqp_resource_record.specs.declared.stop.StopCode.{StopCode}
 use Rattle.amqp_resource_session.specs.Session.{SameSession, StandsFor, StopAfter, below_of, held_of, stop_of}
 use Rattle.amqp_resource_session.specs.StepClauses.{StepRecords}
 use Rattle.amqp_resource_session.specs.Steps.{step_hands}
-use Rattle.daxurbi_layer.specs.Answering.{planned_told, unless_take, verdict_told}
+use Rattle.daxurbi_layer.specs.Answering.{given_count, planned_told, unless_take, verdict_told}
 use Rattle.daxurbi_layer.specs.Handing.{ReviewsTold, told_of}
 use Rattle.daxurbi_layer.specs.declared.below_answer.BelowAnswer.{BelowAnswer}
 use Rattle.daxurbi_layer.specs.declared.told_layer.ToldLayer.{ToldLayer}
 use Rattle.daxurbi_session.specs.SlotIds.{ids_of}
+use Rattle.daxurbi_session.proofs.Checked.{work_passed, work_refused}
 use Rattle.daxurbi_session.proofs.Told.{on_no_call, on_no_memory, on_veto, told_record, untaken_along}
 use Rattle.daxurbi_session.proofs.told_steps.told_step.Goals as goal
 
@@ -45,6 +46,10 @@ returns c =
       ended_only = says.ended_only;
       veto = on_veto result (λ (reviewed : ReviewsTold (below_of mid) (below_of after) _ (Ok verdicts.Veto)). ap verdict_told (sym told) ∙ reviewed.gives) says.reviewed;
       untaken = untaken_along layer.answer c.args.told (length taken) planned (ap (λ list. unless_take layer.answer (length list)) c.into_taken.ensures ∙ layer.untaken);
+      ungiven = ap given_count c.into_taken.ensures ∙ layer.ungiven;
+      surely = says.surely;
+      checked = work_passed c.args.told step (below_of mid) (below_of after) result told (says.checked runs);
+      check_refused = work_refused c.args.told step (below_of mid) (below_of after) result told (says.checked runs);
       memory = on_no_memory result (λ (same : SameSession mid after). subst (λ h. SameHeld h (held_of new)) fresh.held (subst (λ h. SameHeld (held_of mid) h) (sym used.held) same.held)) says.same;
       stops = subst (λ stop. StopAfter result stop) (sym used.stop) (says.stops runs);
       below = used.below ∙ fresh.given;
