@@ -1,0 +1,5 @@
+pub mod Counting
+pub mod Filled
+pub mod Had
+pub mod Served
+pub mod Started

@@ -1,0 +1,5 @@
+pub mod Scripts
+pub mod Filling
+pub mod Playing
+pub mod RelayText
+pub mod Serving
