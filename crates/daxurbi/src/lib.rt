@@ -29,6 +29,8 @@ mod handle;
 mod parts;
 mod slot;
 mod slot_calls;
+#[cfg(test)]
+mod tests;
 
 pub use exports::{
     daxurbi_close, daxurbi_message, daxurbi_open, daxurbi_open_with_ids, daxurbi_payload,

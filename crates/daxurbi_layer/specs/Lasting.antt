@@ -12,7 +12,8 @@ use Rattle.daxurbi_layer.specs.declared.told_layer.ToldLayer.{ToldLayer}
 
 -- an answer by no refusal
 told_none : (o : Option SessionInnerError) (old : ToldLayer)
-    (result : Result (List Frame) SessionInnerError) → o ≡ None → FrameAnswer o old result → FrameAnswer None old result
+    (result : Result (List Frame) SessionInnerError) → o ≡ None → FrameAnswer o old result
+    → FrameAnswer None old result
 told_none o old result none gives = subst (λ x. FrameAnswer x old result) none gives
 
 -- the incoming call of the first of some frames that it takes goes on to the rest

@@ -13,9 +13,9 @@
 //! ```
 //!
 //! Who has a layer of their own asks it first, and then tells this one what it answered. Below
-//! stand the layer of `amqp_below_layer` and the types of `amqp_txn_types`. The promise that this crate
-//! carries: a layer that was told to take refuses only where memory runs out, and one that was told
-//! anything else takes nothing.
+//! stand the layer of `amqp_below_layer` and the types of `amqp_txn_types`. The promise that this
+//! crate carries: a layer that was told to take refuses only where memory runs out, and one that
+//! was told anything else takes nothing.
 #![tactic(auto)]
 
 mod below_answer;

@@ -104,8 +104,8 @@ pub record ToldStep (old new : TxnSession ToldLayer) (old_ids new_ids : SlotIds)
   pub runs : IfErr result IsFirstStop
   pub ended : AnswersEnd (ended_by step) result
   pub ended_only : IfEnded result (λ reason. ended_by step ≡ Some reason)
-  -- A veto comes only where it was told, nothing is taken but where it was told to take, and no frame
-  -- is given back. Of a commit at which it stopped nothing was taken.
+  -- A veto comes only where it was told, nothing is taken but where it was told to take, and no
+  -- frame is given back. Of a commit at which it stopped nothing was taken.
   pub veto : OnVeto result (verdict_told told ≡ Ok verdicts.Veto)
   pub untaken : unless_take told (length taken) ≡ 0
   pub ungiven : given_count taken ≡ 0

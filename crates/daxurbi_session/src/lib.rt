@@ -17,9 +17,9 @@
 //! layer about them, and tells with the step what that answered. The session keeps no record: what
 //! a step handed stands there until the next one. Below stand the session of
 //! `amqp_resource_session` over the layer of `daxurbi_layer`, and the lines of
-//! `txn_program_lines` and `txn_program_report`. The promise that this crate carries: a session that stands for a record
-//! stands, after a step that was answered, for the record with that step, and what it says was
-//! handed is exactly what the record says the step hands.
+//! `txn_program_lines` and `txn_program_report`. The promise that this crate carries: a session
+//! that stands for a record stands, after a step that was answered, for the record with that step,
+//! and what it says was handed is exactly what the record says the step hands.
 #![tactic(auto)]
 
 mod control_payloads;

@@ -84,6 +84,24 @@ fn what_is_told_is_answered(rt: HostRuntime) {
 }
 
 #[test]
+fn a_disposition_is_answered_as_it_was_told(rt: HostRuntime) {
+    let mut slot = session(&rt, rt.alloc());
+    begin(&rt, &mut slot);
+    let post = "post 07070707070707070707070707070707 1 1 - - 2b";
+    answered(&rt, &mut slot, post, BelowAnswer::Take);
+    assert!(rt;
+        reports(
+            &slot,
+            "ok\nout disposition receiver 1 - true txn:07070707070707070707070707070707:accepted\n"
+        )
+    );
+    let in_use = BelowAnswer::Refuse(NamedError::HandleInUse);
+    assert_eq!(rt; slot.step_line(post.as_bytes(), in_use), Stepped::Stopped);
+    assert!(rt; reports(&slot, "stop handle-in-use\nhanded 0\n"));
+    drop(slot);
+}
+
+#[test]
 fn a_line_that_is_no_step_changes_nothing(rt: HostRuntime) {
     let mut slot = session(&rt, rt.alloc());
     answered(&rt, &mut slot, "attach c 0", BelowAnswer::Take);
