@@ -79,6 +79,72 @@ fn a_changed_report_is_told_at_its_line(rt: HostRuntime) -> Result<(), Fail> {
     Ok(())
 }
 
+/// Whether an audit of the input with the first id ends with `no`, and tells that.
+fn is_told(alloc: Global, input: &str, why: &str) -> Result<bool, NoMemory> {
+    ends_so(alloc, &["audit", A], &[input], (1, "no\n", why))
+}
+
+#[test]
+fn a_reply_that_may_not_come_is_told(rt: HostRuntime) -> Result<(), Fail> {
+    let alloc = rt.alloc();
+    let why = "line 1 of the report: wanted attached 0, found attached 1";
+    assert!(rt; is_told(alloc, "attach c 0\nreport\nattached 1", why)?);
+    let why = "line 2 of the report: wanted link-closed not-allowed, found no-link";
+    assert!(rt;
+        is_told(
+            alloc,
+            "attach c 0\ncontrol 0 -\nreport\nattached 0\nno-link",
+            why
+        )?
+    );
+    let why = "line 1 of the report: wanted stop unknown-txn-id, found ok";
+    assert!(rt; is_told(alloc, "post 01 1 7 - - -\nreport\nok", why)?);
+    let why = "line 2 of the report: wanted ok, found out flow x";
+    assert!(rt; is_told(alloc, "flow -\nflow -\nreport\nok\nout flow x", why)?);
+    Ok(())
+}
+
+#[test]
+fn a_stop_that_may_not_come_is_told(rt: HostRuntime) -> Result<(), Fail> {
+    let alloc = rt.alloc();
+    let why = "line 1 of the report: wanted a stop, found no further line";
+    assert!(rt; is_told(alloc, "flow -\nreport", why)?);
+    let why = "line 2 of the report: wanted stop done, found stop ended";
+    assert!(rt; is_told(alloc, "flow -\nreport\nok\nstop ended", why)?);
+    let why = "line 1 of the report: wanted a line of a reply to the step, or of a stop that it \
+        allows, found stop done";
+    assert!(rt; is_told(alloc, "flow -\nreport\nstop done", why)?);
+    let why = "line 3 of the report: wanted handed N, found no further line";
+    assert!(rt; is_told(alloc, "flow -\nreport\nok\nstop done", why)?);
+    Ok(())
+}
+
+#[test]
+fn another_frame_taken_is_told(rt: HostRuntime) -> Result<(), Fail> {
+    let alloc = rt.alloc();
+    let why = "line 4 of the report: wanted taken flow - -, found taken flow 1 1";
+    let input = "flow -\nreport\nok\nstop done\nhanded 0\ntaken flow 1 1";
+    assert!(rt; is_told(alloc, input, why)?);
+    let why = "line 5 of the report: wanted no further line, found taken flow - -";
+    let input = "flow -\nreport\nok\nstop done\nhanded 0\ntaken flow - -\ntaken flow - -";
+    assert!(rt; is_told(alloc, input, why)?);
+    Ok(())
+}
+
+/// A post of which the disposition is shown in another way, or isn't shown.
+#[test]
+fn the_disposition_of_a_post_is_told(rt: HostRuntime) -> Result<(), Fail> {
+    let alloc = rt.alloc();
+    let mut other = COMMIT;
+    other[8] = "out disposition receiver 7 - false -";
+    let wanted = "line 4 of the report: wanted out disposition receiver 7 - true \
+        txn:00000000000000000000000000000001:accepted, found out disposition receiver 7 - false -";
+    assert!(rt; ends_so(alloc, &["audit", A], &other, (1, "no\n", wanted))?);
+    let none = "line 4 of the report: wanted a line of the disposition, found no further line";
+    assert!(rt; ends_so(alloc, &["audit", A], &COMMIT[..8], (1, "no\n", none))?);
+    Ok(())
+}
+
 #[test]
 fn an_input_outside_the_form_is_told_by_its_status(rt: HostRuntime) -> Result<(), Fail> {
     let alloc = rt.alloc();
