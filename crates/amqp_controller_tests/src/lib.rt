@@ -1,6 +1,4 @@
 //! Tests of the controlling side.
-//!
-//! What a test made isn't taken apart at its end: the process gives all its memory back at once.
 #![tactic(auto)]
 
 #[cfg(test)]

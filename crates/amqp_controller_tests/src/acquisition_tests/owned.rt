@@ -1,14 +1,15 @@
 //! Acquiring deliveries by a transaction that owns its controller.
 
-use super::fixtures::{answers, controller, declaration, id, is_to_fail, receiver};
-use crate::transaction_tests::values::{passed, ready, refused, same};
+use super::fixtures::{
+    answers, controller, declaration, done, id, is_to_fail, ready, receiver, refused,
+};
 use amqp_controller_acquisition::{TransactionAcquisition, TxnAcquisition};
 use amqp_controller_calls::{Abandoned, TransactionBase};
 use amqp_controller_transactions::{OwnedDischargeError, OwnedTransaction, TransactionDischarge};
 use amqp_links::{DetachError, WireReceiver, WireSender};
+use amqp_test_values::same;
 use amqp_txn_types::DeliveryState;
 use std::alloc::Global;
-use std::mem::forget;
 use std::process::Abort;
 use std::sync::Wait;
 
@@ -16,9 +17,9 @@ use std::sync::Wait;
 fn declared<R: Wait + Abort>(rt: &R, alloc: Global) -> OwnedTransaction<WireSender> {
     let controller = controller(rt, alloc);
     let begun = OwnedTransaction::declare_with_controller(controller, rt, None);
-    let declaring = passed(rt, begun);
+    let declaring = done(rt, begun);
     answers(rt, declaring.controller(), 0, declaration(rt));
-    passed(rt, ready(rt, declaring.poll(rt)))
+    done(rt, ready(rt, declaring.poll(rt)))
 }
 
 /// It is given up by a rollback that isn't answered.
@@ -27,14 +28,14 @@ fn an_owned_transaction_acquires(rt: HostRuntime) {
     let alloc = rt.alloc();
     let mut wire = receiver(&rt, alloc, &[]);
     let transaction = declared(&rt, alloc);
-    let acquisition = passed(&rt, transaction.acquire(alloc, &mut wire, 1));
+    let acquisition = done(&rt, transaction.acquire(alloc, &mut wire, 1));
     let named = *acquisition.txn_id() == id(&rt);
     let gone = acquisition.abandon(&rt);
     let puts = wire.put().len();
-    forget(wire);
+    drop(wire);
     assert!(rt; named);
     assert!(rt; same(gone, Abandoned::Unanswered));
-    assert!(rt; puts == 2);
+    assert_eq!(rt; puts, 2);
 }
 
 /// An acquisition by a transaction that owns its controller.
@@ -42,9 +43,9 @@ type OwnedAcquisition<'r> = TxnAcquisition<'r, OwnedTransaction<WireSender>, Wir
 
 /// A commit of the transaction itself is accepted.
 fn commits<R: Wait + Abort>(rt: &R, transaction: &mut OwnedTransaction<WireSender>) {
-    let waiting = passed(rt, transaction.discharge(rt, false));
+    let waiting = done(rt, transaction.discharge(rt, false));
     answers(rt, transaction.controller(), 1, DeliveryState::Accepted);
-    passed(rt, ready(rt, transaction.poll_discharge(rt, waiting)));
+    done(rt, ready(rt, transaction.poll_discharge(rt, waiting)));
 }
 
 /// An acquisition whose transaction is committed, before its link is closed.
@@ -53,7 +54,7 @@ fn committed<'r, R: Wait + Abort>(
     alloc: Global,
     wire: &'r mut WireReceiver,
 ) -> OwnedAcquisition<'r> {
-    let mut acquisition = passed(rt, declared(rt, alloc).acquire(alloc, wire, 1));
+    let mut acquisition = done(rt, declared(rt, alloc).acquire(alloc, wire, 1));
     commits(rt, acquisition.txn_mut());
     acquisition
 }
@@ -63,11 +64,11 @@ fn committed<'r, R: Wait + Abort>(
 fn a_committed_acquisition_ends(rt: HostRuntime) {
     let alloc = rt.alloc();
     let mut wire = receiver(&rt, alloc, &[]);
-    let discharging = passed(&rt, committed(&rt, alloc, &mut wire).commit(&rt));
-    passed(&rt, ready(&rt, discharging.poll(&rt)));
+    let discharging = done(&rt, committed(&rt, alloc, &mut wire).commit(&rt));
+    done(&rt, ready(&rt, discharging.poll(&rt)));
     let puts = wire.put().len();
-    forget(wire);
-    assert!(rt; puts == 2);
+    drop(wire);
+    assert_eq!(rt; puts, 2);
 }
 
 /// The calls of the control link: a declare, its look, a commit, its look, and the close.
@@ -77,11 +78,11 @@ fn a_failed_close_hands_the_acquisition_back(rt: HostRuntime) {
     let mut wire = receiver(&rt, alloc, &[]);
     let acquisition = committed(&rt, alloc, &mut wire);
     is_to_fail(&rt, alloc, acquisition.txn().controller(), 5);
-    let discharging = passed(&rt, acquisition.commit(&rt));
+    let discharging = done(&rt, acquisition.commit(&rt));
     let (acquisition, error) = refused(&rt, ready(&rt, discharging.poll(&rt)));
     let discharged = acquisition.txn().is_discharged();
     let gone = acquisition.abandon(&rt);
-    forget(wire);
+    drop(wire);
     assert!(rt;
         same(
             error,

@@ -1,15 +1,15 @@
 //! What is received and retired under an acquisition.
 
 use super::fixtures::{
-    WireAcquisition, acquired, controller, delivery, ends_discharged, id, receiver, seventh, skips,
+    WireAcquisition, acquired, controller, delivery, done, ends_discharged, id, receiver, refused,
+    seventh, skips,
 };
-use crate::transaction_tests::values::{passed, refused, same};
 use amqp_links::{
     DeliveryInfo, FlowError, LinkStateError, Poll, ReceiverMessage, RecvError, WireReceiver,
 };
+use amqp_test_values::same;
 use amqp_txn_types::{DeliveryState, Modified, Outcome, Rejected, TransactionalState};
 use std::alloc::Global;
-use std::mem::forget;
 use std::process::Abort;
 
 #[test]
@@ -17,12 +17,12 @@ fn a_delivery_is_received(rt: HostRuntime) {
     let alloc = rt.alloc();
     let controller = controller(&rt, alloc);
     let mut wire = receiver(&rt, alloc, &[]);
-    passed(&rt, wire.deliver(delivery(alloc)));
+    done(&rt, wire.deliver(delivery(alloc)));
     let mut acquisition = acquired(&rt, alloc, &controller, &mut wire);
     let found = acquisition.recv();
     skips(&rt, acquisition);
-    forget(controller);
-    forget(wire);
+    drop(controller);
+    drop(wire);
     assert!(rt; same(found, Poll::Ready(Ok(delivery(alloc)))));
 }
 
@@ -33,12 +33,12 @@ fn the_credit_is_set(rt: HostRuntime) {
     let controller = controller(&rt, alloc);
     let mut wire = receiver(&rt, alloc, &[]);
     let mut acquisition = acquired(&rt, alloc, &controller, &mut wire);
-    passed(&rt, acquisition.set_credit(5));
+    done(&rt, acquisition.set_credit(5));
     ends_discharged(&rt, &controller, acquisition);
-    forget(controller);
+    drop(controller);
     let credit = wire.credit();
-    forget(wire);
-    assert!(rt; credit == 5);
+    drop(wire);
+    assert_eq!(rt; credit, 5);
 }
 
 /// The second call of the receiver is that of the credit, and the third is the look.
@@ -51,8 +51,8 @@ fn faults_of_the_receiver_are_passed_on(rt: HostRuntime) {
     let fault = refused(&rt, acquisition.set_credit(5));
     let found = acquisition.recv();
     skips(&rt, acquisition);
-    forget(controller);
-    forget(wire);
+    drop(controller);
+    drop(wire);
     assert!(rt; same(fault, FlowError::IllegalState));
     let want = RecvError::LinkStateError(LinkStateError::IllegalState);
     assert!(rt; same(found, Poll::Ready(Err(want))));
@@ -69,10 +69,10 @@ fn failed() -> Modified {
 
 /// Retires the delivery with each outcome.
 fn retires(rt: &impl Abort, acquisition: &mut WireAcquisition<'_, '_>, info: &DeliveryInfo) {
-    passed(rt, acquisition.accept(info));
-    passed(rt, acquisition.reject(info, None));
-    passed(rt, acquisition.release(info));
-    passed(rt, acquisition.modify(info, failed()));
+    done(rt, acquisition.accept(info));
+    done(rt, acquisition.reject(info, None));
+    done(rt, acquisition.release(info));
+    done(rt, acquisition.modify(info, failed()));
 }
 
 /// The message of that place retires the seventh delivery with the outcome.
@@ -90,7 +90,7 @@ fn is_retired(rt: &impl Abort, alloc: Global, wire: &WireReceiver, place: usize,
         None => false,
         Some(message) => *message == want,
     };
-    forget(want);
+    drop(want);
     assert!(rt; equal);
 }
 
@@ -106,7 +106,7 @@ fn all_retired(rt: &impl Abort, alloc: Global, wire: &WireReceiver) {
     );
     is_retired(rt, alloc, wire, 3, Outcome::Released);
     is_retired(rt, alloc, wire, 4, Outcome::Modified(failed()));
-    assert!(rt; wire.put().len() == 5);
+    assert_eq!(rt; wire.put().len(), 5);
 }
 
 #[test]
@@ -118,8 +118,8 @@ fn a_delivery_is_retired_with_each_outcome(rt: HostRuntime) {
     let mut acquisition = acquired(&rt, alloc, &controller, &mut wire);
     retires(&rt, &mut acquisition, &info);
     ends_discharged(&rt, &controller, acquisition);
-    forget(info);
-    forget(controller);
+    drop(info);
+    drop(controller);
     all_retired(&rt, alloc, &wire);
-    forget(wire);
+    drop(wire);
 }

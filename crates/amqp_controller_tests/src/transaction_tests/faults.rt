@@ -6,7 +6,6 @@ use crate::transaction_tests::values::{passed, ready, refused, same};
 use crate::transaction_tests::{borrowed, owned};
 use amqp_controller_calls::Abandoned;
 use amqp_controller_transactions::{OwnedDischargeError, OwnedTransaction, Transaction};
-use std::mem::forget;
 use std::process::Abort;
 use std::sync::Wait;
 
@@ -16,7 +15,7 @@ fn undeclared<R: Wait + Abort + AllocGlobal>(rt: &R) {
     let declaring = Transaction::declare(&controller, rt, None).expect(rt, "an Ok");
     let error = refused(rt, ready(rt, declaring.poll(rt)));
     assert!(rt; same(error, illegal()));
-    forget(controller);
+    drop(controller);
 }
 
 /// An owned declare whose look fails: its controller is handed back.
@@ -26,7 +25,7 @@ fn undeclared_owned<R: Wait + Abort + AllocGlobal>(rt: &R) {
     let (controller, error) = refused(rt, ready(rt, declaring.poll(rt)));
     assert!(rt; same(error, illegal()));
     assert_counts(rt, &controller, (1, 1, 0));
-    forget(controller);
+    drop(controller);
 }
 
 #[test]
@@ -41,7 +40,7 @@ fn a_look_that_fails_leaves_the_value(rt: HostRuntime) {
     let controller = counting(&rt, &[5]);
     let error = unfound_row(&rt, borrowed::begun(&rt, &controller));
     assert!(rt; same(error, illegal()));
-    forget(controller);
+    drop(controller);
     let error = unfound_row(&rt, owned::begun(&rt, &[5]));
     assert!(rt; same(error, OwnedDischargeError::ControllerSendError(illegal())));
 }
@@ -52,7 +51,7 @@ fn given_up<R: Wait + Abort + AllocGlobal>(rt: &R, failing: u64) {
     let controller = counting(rt, &[failing]);
     let transaction = borrowed::begun(rt, &controller);
     gives_up(rt, transaction, 2, Abandoned::Failed(illegal()));
-    forget(controller);
+    drop(controller);
     let transaction = owned::begun(rt, &[failing]);
     gives_up(rt, transaction, 2, Abandoned::Failed(illegal()));
 }

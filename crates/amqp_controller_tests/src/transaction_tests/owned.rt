@@ -16,7 +16,6 @@ use amqp_controller_transactions::{
 };
 use amqp_links::DetachError;
 use amqp_txn_types::DeliveryState;
-use std::mem::forget;
 use std::process::Abort;
 use std::sync::Wait;
 
@@ -44,7 +43,7 @@ fn a_declare_is_put_once(rt: HostRuntime) {
         let declare = OwnedTransaction::declare_with_controller(controller, &rt, global_id);
         let declaring = passed(&rt, declare);
         put_once(&rt, declaring.controller(), octets);
-        forget(declaring);
+        drop(declaring);
     }
 }
 
@@ -103,7 +102,7 @@ fn a_refused_declare_hands_the_controller_back(rt: HostRuntime) {
     let (controller, error) = refused(&rt, declare);
     assert!(rt; same(error, illegal()));
     assert_counts(&rt, &controller, (0, 0, 0));
-    forget(controller);
+    drop(controller);
 }
 
 /// The calls of the link: a declare, two looks, a commit, two looks, and the close, which fails.
@@ -117,7 +116,7 @@ fn a_failed_close_hands_the_value_back_discharged(rt: HostRuntime) {
     assert!(rt; same(error, want));
     assert_counts(&rt, transaction.controller(), (2, 4, 1));
     assert!(rt; transaction.is_discharged());
-    forget(transaction.discharge(&rt, true).expect(&rt, "an Ok"));
+    drop(transaction.discharge(&rt, true).expect(&rt, "an Ok"));
     assert_counts(&rt, transaction.controller(), (2, 4, 1));
     gives_up(&rt, transaction, 20, Abandoned::Discharged);
 }
@@ -152,7 +151,7 @@ fn begun_over<'l, R: Wait + Abort + AllocGlobal>(
 /// So many messages and closes were put on the link.
 fn assert_link<R: Abort>(rt: &R, link: LateLink, want: (usize, usize)) {
     let counts = (link.wire.put().len(), link.wire.closes().len());
-    forget(link);
+    drop(link);
     assert!(rt; counts == want);
 }
 

@@ -9,7 +9,6 @@ use amqp_controller_transactions::{
     Controller, Discharging, OwnedTransaction, Transaction, TransactionDischarge,
 };
 use amqp_txn_types::DeliveryState;
-use std::mem::forget;
 use std::process::Abort;
 use std::sync::Wait;
 
@@ -139,7 +138,7 @@ fn handed_back<T: TransactionDischarge + Over, R: Wait + Abort>(
     let (value, error) = back;
     assert_counts(rt, value.over(), want);
     assert!(rt; !value.is_discharged() && !value.has_read_rollback());
-    forget(value.abandon(rt));
+    drop(value.abandon(rt));
     error
 }
 
@@ -159,7 +158,7 @@ fn rolls_back<T: TransactionDischarge + Over, R: Wait + Abort + AllocGlobal>(
 ) -> T {
     let commit = asks(rt, value, false, DeliveryState::Rejected(rolled_back()));
     let (value, error) = refused(rt, ready(rt, commit.poll(rt)));
-    forget(error);
+    drop(error);
     assert!(rt; value.has_read_rollback() && !value.is_discharged());
     assert_counts(rt, value.over(), (2, 4, 0));
     value

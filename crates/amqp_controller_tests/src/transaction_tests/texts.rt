@@ -10,7 +10,6 @@ use amqp_links::{
 };
 use amqp_txn_types::Rejected;
 use std::fmt::Display;
-use std::mem::forget;
 use std::process::Abort;
 
 /// Each error of the table has the text beside it.
@@ -18,7 +17,7 @@ fn assert_texts<E: Display, R: Abort + AllocGlobal>(rt: &R, table: &[(E, &str)])
     for (error, want) in table.iter() {
         let text = format!(in rt.alloc(); "{error}").expect(rt, "an Ok");
         assert!(rt; text.as_str() == *want, "the text is {text}");
-        forget(text);
+        drop(text);
     }
 }
 
@@ -64,7 +63,7 @@ fn texts_of_errors_of_control_messages(rt: HostRuntime) {
         (ControllerSendError::NoMemory, "out of memory"),
     ];
     assert_texts(&rt, table.as_slice());
-    forget(table);
+    drop(table);
 }
 
 #[test]
@@ -97,7 +96,7 @@ fn texts_of_errors_of_posts(rt: HostRuntime) {
         (PostError::NoMemory, "out of memory"),
     ];
     assert_texts(&rt, table.as_slice());
-    forget(table);
+    drop(table);
 }
 
 #[test]
@@ -113,7 +112,7 @@ fn texts_of_errors_of_owned_transactions(rt: HostRuntime) {
         ),
     ];
     assert_texts(&rt, declares.as_slice());
-    forget(declares);
+    drop(declares);
     let discharges = [
         (
             OwnedDischargeError::ControllerSendError(ControllerSendError::NoMemory),
@@ -125,7 +124,7 @@ fn texts_of_errors_of_owned_transactions(rt: HostRuntime) {
         ),
     ];
     assert_texts(&rt, discharges.as_slice());
-    forget(discharges);
+    drop(discharges);
 }
 
 /// Each error of a link is named as it must be where control messages are sent.

@@ -2,12 +2,10 @@
 
 use amqp_controller_calls::ControllerSendError;
 use amqp_links::{Progress, WireSender};
-use amqp_test_values::{call_numbers, link_end, plain_error};
 use amqp_txn_types::{
-    Declared, ErrorCondition, LinkEnd, Rejected, Role, SenderSettleMode, Text, TransactionError,
-    TransactionId,
+    CallNumbers, Declared, Error, ErrorCondition, LinkEnd, OutputHandle, ReceiverSettleMode,
+    Rejected, Role, SenderSettleMode, Text, TransactionError, TransactionId,
 };
-use std::mem::forget;
 use std::process::Abort;
 
 /// The declare of no global id.
@@ -29,8 +27,8 @@ pub const ROLLBACK: [u8; 15] = [
 /// Whether the two are equal.
 pub fn same<T: PartialEq + Drop>(found: T, want: T) -> bool {
     let equal = found == want;
-    forget(found);
-    forget(want);
+    drop(found);
+    drop(want);
     equal
 }
 
@@ -84,6 +82,15 @@ pub fn declaration() -> Declared {
     Declared { txn_id: id() }
 }
 
+/// An error without a text.
+pub fn plain_error(condition: ErrorCondition) -> Error {
+    Error {
+        condition,
+        description: None,
+        info: None,
+    }
+}
+
 /// A discharge of an id that the coordinator doesn't know, answered.
 pub fn unknown_id() -> Rejected {
     let condition = ErrorCondition::TransactionError(TransactionError::UnknownId);
@@ -112,16 +119,20 @@ pub fn name<R: Abort + AllocGlobal>(rt: &R) -> Text {
 
 /// The first end of a link that settles so.
 pub fn end<R: Abort + AllocGlobal>(rt: &R, role: Role, mode: SenderSettleMode) -> LinkEnd {
-    let mut end = link_end(name(rt), role, 0);
-    end.snd_settle_mode = mode;
-    end
+    LinkEnd {
+        name: name(rt),
+        role,
+        output: OutputHandle(0),
+        snd_settle_mode: mode,
+        rcv_settle_mode: ReceiverSettleMode::First,
+    }
 }
 
 /// A wire of whose calls those of the numbers are to fail.
 pub fn wire<R: Abort + AllocGlobal>(rt: &R, failing: &[u64]) -> WireSender {
-    let failing = call_numbers(rt.alloc(), failing).expect(rt, "an Ok");
+    let failing = Vec::from_slice(rt.alloc(), failing).expect(rt, "an Ok");
     let end = end(rt, Role::Sender, SenderSettleMode::Mixed);
     let mut wire = WireSender::new(rt.alloc(), end);
-    wire.set_failing(failing);
+    wire.set_failing(CallNumbers::from_vec(failing));
     wire
 }
