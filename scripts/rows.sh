@@ -6,7 +6,7 @@
 top=$(cd "$(dirname "$(readlink -f "$0")")/.." && pwd) || exit 1
 program=${1:-$top/txn_program}
 if [ $# -eq 0 ]; then
-  for word in run listen agree threads broker mailbox audit; do
+  for word in run listen agree threads broker relay mailbox audit; do
     "$program" --which "$word" >/dev/null || exit 1
   done
 fi
@@ -40,7 +40,7 @@ run_unproved() {
     example=${words%.words}
     name=${example##*/}
     line=$(head -n 1 "$words")
-    case $line in listen | agree | threads | broker | mailbox | audit) ;; *) line=run ;; esac
+    case $line in listen | agree | threads | broker | relay | mailbox | audit) ;; *) line=run ;; esac
     [ $line = "$which" ] || continue
     cp "$example.steps" "$folder/$name"
     cp "$words" "$folder/$name.args"
@@ -62,6 +62,7 @@ if [ "$program" = --unproved ]; then
   run_unproved txn_main run
   run_unproved txn_main_listen listen
   run_unproved txn_main_broker broker
+  run_unproved txn_main_relay relay
   run_unproved txn_main_mailbox mailbox
   run_unproved txn_main_audit audit
   run_unproved txn_main_agree agree
@@ -102,8 +103,8 @@ planned --starve 3 7 8 "$want 1\n${first}taken transfer 1 1 true - 50\n"
 
 # The stored run of each main is one of them.
 for stored in txn_main:interleaved txn_main_listen:listen-late-post \
-  txn_main_broker:broker-commit txn_main_mailbox:mailbox-commit txn_main_audit:audit \
-  txn_main_agree:agree-commit; do
+  txn_main_broker:broker-commit txn_main_relay:relay-once txn_main_mailbox:mailbox-commit \
+  txn_main_audit:audit txn_main_agree:agree-commit; do
   for pair in stdin:steps args:words stdout:report status:status; do
     example=$top/examples/${stored#*:}.${pair#*:}
     [ ! -e "$example" ] || cmp "$top/crates/${stored%:*}/${pair%:*}" "$example" || failed=$((failed + 1))
