@@ -1,5 +1,6 @@
 -- The numbers that wait in a queue are those of its messages.
-use Rattle.txn_broker_queues.proofs.Words.{Bool, Frame, Lines, List, Mail, Mark, Message, None, Sent, Some, [], ap, arith, cond, cons_option, enumerate_from, false, filter_map, is_gone, is_waiting_in, mail_at, mail_of, map, not, numbers_from, pointwise, nat_eq, refl, slice_get, suc, sym, true, waiting, ℕ, ◌&&◌, ◌+◌, ◌==◌, ◌∙◌, ◌∷◌, ◌≡◌}
+use Rattle.txn_broker_queues.proofs.Words.{Bool, Frame, Lines, List, Mail, Mark, Message, None, Option, Sent, Some, [], ap, arith, cond, cons_option, enumerate_from, false, filter_map, is_gone, is_waiting_in, length, mail_at, mail_of, map, messages, not, numbers_from, pointwise, nat_eq, queue, refl, slice_get, suc, sym, true, waiting, ℕ, ◌&&◌, ◌+◌, ◌==◌, ◌∙◌, ◌∷◌, ◌≡◌, ◌≤◌}
+use Rattle.std.proofs.lemmas.List.FromFn.{length-enumerate_from}
 
 -- where a queue's number decides as its name does, the messages of the numbers that wait are those
 -- of the queue
@@ -37,3 +38,18 @@ listed taken lines q name F n (m ∷ marks) (s ∷ sents) decides reads same =
     ] in
     step (is_waiting_in q m)
     ∙ ap (λ b. cons_option (cond b (Some (record { number = n; payload = s.payload })) None) (filter_map (waiting taken name) (enumerate_from (n + 1) sents))) test
+
+filtered : {A B : Type 0} (f : A → Option B) (xs : List A) → length (filter_map f xs) ≤ length xs
+filtered f [] = omega arith
+filtered {A} {B} f (x ∷ xs) = by_case (f x) (filtered f xs)
+  where
+    by_case : (o : Option B) → length (filter_map f xs) ≤ length xs → length (cons_option o (filter_map f xs)) ≤ length (x ∷ xs)
+    by_case None rest = omega (arith, rest)
+    by_case (Some y) rest = omega (arith, rest)
+
+-- a queue has no more messages than were sent
+pub queue_within : (taken : List Frame) (name : List ℕ) → length (queue taken name) ≤ length (messages taken)
+queue_within taken name =
+    let some = filtered (waiting taken name) (enumerate_from 0 (messages taken)) in
+    let all = length-enumerate_from 0 (messages taken) in
+    omega (arith, some, all)

@@ -6,7 +6,7 @@ ghost use Rattle.std.specs.Cmp.Lexicographic.{pointwise};
 ghost use Rattle.indexmap.specs.IndexSet.{insert_key};
 ghost use Rattle.amqp_txn_types.specs.declared.performatives.Frame.TheVariants as frames;
 ghost use Rattle.amqp_txn_types.specs.declared.small.Handle.{Handle as H};
-ghost use Rattle.txn_broker_queues.specs.Queues.{queue_found};
+ghost use Rattle.txn_broker_queues.specs.Queues.{messages, queue_found};
 ghost use Rattle.txn_broker_queues.specs.Given.{answered, given_back, refusal};
 ghost use Rattle.txn_broker_queues.specs.Keeping.{queue_names, same_handle};
 ghost use Rattle.txn_broker_queues.specs.Taking.{Admitted, Answered, NotTook, SameCounts, taken_of};
@@ -114,6 +114,14 @@ impl Broker {
             }
             None => Ok(None),
         }
+    }
+
+    /// How many messages were taken. They are numbered from 0, and after 4,294,967,295 of them no
+    /// number is left.
+    pub fn message_count(&self) -> u32
+        ensures { result ≡ length (messages (taken_of self.now)) }
+    {
+        self.queues.message_count() as u32
     }
 
     /// How many queues there are.
