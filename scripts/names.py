@@ -31,13 +31,13 @@ def documents():
 
 
 def source_words():
-    """The words of all sources, and the names of crates, files and wrong bodies."""
+    """The words of all sources, and the names of crates, files, wrong bodies and examples."""
     words = set()
     for pattern in SOURCES:
         for file in filter(pathlib.Path.is_file, TOP.glob(pattern)):
             words.update(re.findall(WORD, file.read_text(errors="replace")))
             words.update(re.findall(r"\w+", file.read_text(errors="replace")))
-    for file in TOP.glob("crates/**/*"):
+    for file in [*TOP.glob("crates/**/*"), *TOP.glob("examples/*")]:
         words.add(file.name.split(".")[0])
     return words
 
