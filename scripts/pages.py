@@ -5,8 +5,8 @@
   docs/GUIDE.md and of the crates' first pages (the `//!` lines at the head of src/lib.rt) stands in one
   file of the crates of examples or of bindings/, to the letter but for its indentation and a `pub`. A
   line `..` stands for any lines of that file.
-- Each command of the program in README.md and docs/FORMATS.md is a stored example, and what is shown
-  below it is the stored report. Every other block of these two is a stored input.
+- Each command of the program is a stored example, and what is shown below it is the stored report.
+  Every other block of README.md and docs/FORMATS.md is a stored input.
 
 Other blocks of the guide and of first pages are drawings and sketches; it is told how many there are.
 Prints each block that differs, and then ends with the status 1.
@@ -119,7 +119,7 @@ def runs_of(block):
 def is_run_stored(command, shown, examples):
     """Whether a command is a stored example, and what is shown below it its report."""
     if not command.startswith(COMMAND):
-        return True
+        return False
     words, _, source = command[len(COMMAND) :].partition(" < ")
     given = (TOP / source.strip()).read_text() if source else ""
     for arguments, steps, report in examples:
@@ -152,7 +152,7 @@ def main():
         for number, mark, block in blocks(text):
             if mark in ("rust", "c", "python"):
                 is_right = is_code_shown(block, files)
-            elif is_of_program:
+            elif is_of_program or block[0].startswith(COMMAND):
                 is_right = is_example_shown(block, examples)
             else:
                 others += 1
