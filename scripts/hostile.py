@@ -113,7 +113,13 @@ class End:
     def __init__(self, words, source, sink=None):
         with tempfile.TemporaryFile() as kept, tempfile.NamedTemporaryFile() as told:
             started = time.monotonic()
-            child = subprocess.Popen([MEASURER, told.name, program_of(words), *words], stdin=source, stdout=sink or kept, stderr=subprocess.DEVNULL, start_new_session=True)
+            child = subprocess.Popen(
+                [MEASURER, told.name, program_of(words), *words],
+                stdin=source,
+                stdout=sink or kept,
+                stderr=subprocess.DEVNULL,
+                start_new_session=True,
+            )
             try:
                 child.wait(MOST_SECONDS)
             except subprocess.TimeoutExpired:
@@ -137,7 +143,11 @@ def over(octets, words=None):
 def say(name, end, holds):
     """Prints a run, and keeps its name where it isn't as it must be."""
     holds = holds and end.memory <= MOST_KIB
-    print(f"{'right' if holds else 'WRONG'}: {name}: status {end.status}, {end.seconds:.2f} s, {end.memory} KiB", flush=True)
+    print(
+        f"{'right' if holds else 'WRONG'}: {name}: status {end.status}, "
+        f"{end.seconds:.2f} s, {end.memory} KiB",
+        flush=True,
+    )
     if not holds:
         FAILED.append(name)
         print(end.text[:400])
@@ -169,7 +179,11 @@ def devices():
     end = End(RUN, folder)
     say("a folder as input", end, end.status == 4 and end.text == b"read fault\n")
     os.close(folder)
-    for name, words, octets in [("a report", RUN, steps), ("usage", ["no", "words"], b""), ("a summary", ["make", "4"], b"")]:
+    for name, words, octets in [
+        ("a report", RUN, steps),
+        ("usage", ["no", "words"], b""),
+        ("a summary", ["make", "4"], b""),
+    ]:
         with open("/dev/full", "wb") as full, tempfile.TemporaryFile() as source:
             source.write(octets)
             source.seek(0)
@@ -184,14 +198,17 @@ def devices():
             end = End(words, source, writer)
         os.close(writer)
         say(f"{name} on a closed pipe", end, end.status == 5)
-    dripping = subprocess.Popen([sys.executable, "-c", "import os,sys\nfor octet in bytes.fromhex(sys.argv[1]): os.write(1, bytes([octet]))", steps.hex()], stdout=subprocess.PIPE)
+    drips = "import os,sys\nfor octet in bytes.fromhex(sys.argv[1]): os.write(1, bytes([octet]))"
+    dripping = subprocess.Popen(
+        [sys.executable, "-c", drips, steps.hex()], stdout=subprocess.PIPE
+    )
     end = End(RUN, dripping.stdout)
     dripping.wait()
     say("one octet at a time", end, end.status == 0 and end.text == wanted.text)
 
 
 def report_in(room, steps):
-    """How a run over a file ends that writes to a file which may have so many octets, and what it wrote."""
+    """How a run over a file ends that writes to a file of at most so many octets, and what it wrote."""
     def limited():
         # (a write past the limit must be an answer, not a signal)
         signal.signal(signal.SIGXFSZ, signal.SIG_IGN)
@@ -200,7 +217,14 @@ def report_in(room, steps):
     with tempfile.TemporaryFile() as source, tempfile.TemporaryFile() as sink:
         source.write(steps)
         source.seek(0)
-        status = subprocess.run([program_of(RUN), *RUN], stdin=source, stdout=sink, stderr=subprocess.DEVNULL, preexec_fn=limited, timeout=MOST_SECONDS).returncode
+        status = subprocess.run(
+            [program_of(RUN), *RUN],
+            stdin=source,
+            stdout=sink,
+            stderr=subprocess.DEVNULL,
+            preexec_fn=limited,
+            timeout=MOST_SECONDS,
+        ).returncode
         sink.seek(0)
         return status, sink.read()
 
@@ -209,7 +233,12 @@ def run_from_a_terminal(octets):
     """How a run ends whose reads fail once these octets were read, and what it wrote."""
     reader, writer = os.openpty()
     tty.setraw(writer)
-    child = subprocess.Popen([program_of(RUN), *RUN], stdin=reader, stdout=subprocess.PIPE, stderr=subprocess.DEVNULL)
+    child = subprocess.Popen(
+        [program_of(RUN), *RUN],
+        stdin=reader,
+        stdout=subprocess.PIPE,
+        stderr=subprocess.DEVNULL,
+    )
     os.close(reader)
     for at in range(0, len(octets), 1024):
         os.write(writer, octets[at : at + 1024])
@@ -225,13 +254,21 @@ def turns():
     for room in range(len(whole.text) + 1):
         wanted = (0 if room == len(whole.text) else 5, whole.text[:room])
         wrong += report_in(room, steps) != wanted
-    print(f"{'WRONG' if wrong else 'right'}: {len(whole.text)} octets of a report, each without room in turn: {wrong} wrong", flush=True)
-    lengths = [*range(len(steps) + 1), *(7 * lines for lines in (500, 585, 586, 1_000, 2_000, 20_000))]
+    print(
+        f"{'WRONG' if wrong else 'right'}: {len(whole.text)} octets of a report, "
+        f"each without room in turn: {wrong} wrong",
+        flush=True,
+    )
+    counts = (500, 585, 586, 1_000, 2_000, 20_000)
+    lengths = [*range(len(steps) + 1), *(7 * lines for lines in counts)]
     odd = 0
     for length in lengths:
         octets = steps[:length] if length <= len(steps) else b"flow -\n" * (length // 7)
         odd += run_from_a_terminal(octets) != (4, b"read fault\n")
-    print(f"{'WRONG' if odd else 'right'}: {len(lengths)} inputs whose next read fails: {odd} wrong", flush=True)
+    print(
+        f"{'WRONG' if odd else 'right'}: {len(lengths)} inputs whose next read fails: {odd} wrong",
+        flush=True,
+    )
     FAILED.extend(["reports without room"] * bool(wrong) + ["reads that fail"] * bool(odd))
 
 
@@ -247,13 +284,29 @@ def endless():
     say("octets without an end", end, end.status == 7)
     for name, octets, status in [
         ("a line of a megabyte, no step", b"x" * LIMIT, 3),
-        ("a payload of half a megabyte", b"transfer 4 - - " + b"00" * ((LIMIT - 16) // 2) + b"\n", None),
-        ("nested values in half a megabyte", b"attach c 4\ncontrol 0 005370" + b"00" * ((LIMIT - 40) // 2) + b"\n", None),
+        (
+            "a payload of half a megabyte",
+            b"transfer 4 - - " + b"00" * ((LIMIT - 16) // 2) + b"\n",
+            None,
+        ),
+        (
+            "nested values in half a megabyte",
+            b"attach c 4\ncontrol 0 005370" + b"00" * ((LIMIT - 40) // 2) + b"\n",
+            None,
+        ),
         ("a megabyte and one octet", b"flow -\n" * (LIMIT // 7) + b"flow -\n", 7),
         ("a megabyte of the shortest lines", b"end\n" * (LIMIT // 4), 1),
         ("a megabyte of flows", b"flow -\n" * (LIMIT // 7), 0),
-        ("a megabyte of attaches", b"".join(b"attach n%d %d\n" % (i, i) for i in range(50_000)), None),
-        ("a megabyte of declares", (b"attach c 4\n" + b"control 0 %s\n" % DECLARE.encode() * 40_000), None),
+        (
+            "a megabyte of attaches",
+            b"".join(b"attach n%d %d\n" % (i, i) for i in range(50_000)),
+            None,
+        ),
+        (
+            "a megabyte of declares",
+            (b"attach c 4\n" + b"control 0 %s\n" % DECLARE.encode() * 40_000),
+            None,
+        ),
     ]:
         end = over(octets)
         holds = is_within_the_table(end) and (status is None or end.status == status)
@@ -275,7 +328,12 @@ def handles(each):
 def picked():
     rng = random.Random(20_261_128)
     collider = built(COLLIDE)
-    meeting, alike = (subprocess.run([collider, "60000", "8192", kinds], stdout=subprocess.PIPE, check=True).stdout.split() for kinds in ("256", "30"))
+    meeting, alike = (
+        subprocess.run(
+            [collider, "60000", "8192", kinds], stdout=subprocess.PIPE, check=True
+        ).stdout.split()
+        for kinds in ("256", "30")
+    )
     for name, octets in [
         ("flows of handles at random", handles(rng.sample(range(2**32), 60_000))),
         ("flows of handles whose look-ups meet", handles(map(int, meeting))),
@@ -311,7 +369,12 @@ def words_of_a_line(rng):
         lambda: f"control {rng.choice(['0', '0', '0', '1', '2'])} {message()}",
         lambda: f"link-end {rng.choice('012')}",
     ]
-    ends = [lambda: f"detach {small()} {flag()}", lambda: "end", lambda: "remote-end", lambda: "connection-stop"]
+    ends = [
+        lambda: f"detach {small()} {flag()}",
+        lambda: "end",
+        lambda: "remote-end",
+        lambda: "connection-stop",
+    ]
     return rng.choice(lines if rng.randrange(400) else ends)()
 
 
@@ -321,13 +384,26 @@ def mutation(rng, line, each):
         return line
     at = rng.randrange(len(line))
     octet = bytes([rng.randrange(256)])
-    return rng.choice([line[:at] + octet + line[at + 1 :], line[:at] + line[at + 1 :], line[:at] + octet + line[at:], line[at:] + line[:at]])
+    return rng.choice(
+        [
+            line[:at] + octet + line[at + 1 :],
+            line[:at] + line[at + 1 :],
+            line[:at] + octet + line[at:],
+            line[at:] + line[:at],
+        ]
+    )
 
 
 def mutated(count=1_000_000):
     rng = random.Random(20_261_128)
     ids = RUN[1:]
-    commands = [RUN, ["run", "--refuse", "2,5", *ids], ["run", "--starve", "3", *ids], LISTEN, ["run", "--seed", "7"]]
+    commands = [
+        RUN,
+        ["run", "--refuse", "2,5", *ids],
+        ["run", "--starve", "3", *ids],
+        LISTEN,
+        ["run", "--seed", "7"],
+    ]
     opened = b"attach c 4\ncontrol 0 %s\ncontrol 0 %s\n" % (DECLARE.encode(), DECLARE.encode())
     told, ends, left = {}, [], count
     while left > 0:
@@ -347,7 +423,11 @@ def say_all(name, ends, told):
     """Prints what many runs took, and keeps the name where one took more than a small one may."""
     memory, seconds = max(end.memory for end in ends), max(end.seconds for end in ends)
     holds = memory <= 8 * 1024 and seconds <= 0.5
-    print(f"{'right' if holds else 'WRONG'}: {name} in {len(ends)} runs; statuses {dict(sorted(told.items()))}; at most {memory} KiB and {seconds:.2f} s", flush=True)
+    print(
+        f"{'right' if holds else 'WRONG'}: {name} in {len(ends)} runs; "
+        f"statuses {dict(sorted(told.items()))}; at most {memory} KiB and {seconds:.2f} s",
+        flush=True,
+    )
     if not holds:
         FAILED.append(name)
 
@@ -368,7 +448,14 @@ def random_octets(count=1_000_000):
 
 def main():
     global MEASURER
-    parts = {"devices": devices, "turns": turns, "endless": endless, "picked": picked, "mutated": mutated, "random": random_octets}
+    parts = {
+        "devices": devices,
+        "turns": turns,
+        "endless": endless,
+        "picked": picked,
+        "mutated": mutated,
+        "random": random_octets,
+    }
     chosen = sys.argv[1:] or list(parts)
     if any(it not in parts for it in chosen):
         sys.exit(f"usage: hostile.py [{' | '.join(parts)}]..")

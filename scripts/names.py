@@ -1,7 +1,7 @@
 #!/usr/bin/env python3
 """Checks that what the documents name is there.
 
-- A link leads to a file, and to a heading in it where it has one.
+- A link leads to a file, and to a heading in it where it has one. Those to other hosts are let pass.
 - A path between backquotes is a file or a folder: from the top, from crates/, or in some crate, with
   or without its suffix.
 - A word between backquotes is one of the sources: a crate, an item, a field, an argument, a script's
@@ -26,17 +26,18 @@ ENDS = ("_none", "_last", "_WORD")
 
 
 def documents():
-    return [TOP / "README.md", TOP / "examples/README.md", *sorted(TOP.glob("docs/*.md"))]
+    folders = [TOP, TOP / "bindings", TOP / "examples", TOP / "examples/proton_broker"]
+    return [*(folder / "README.md" for folder in folders), *sorted(TOP.glob("docs/*.md"))]
 
 
 def source_words():
-    """The words of all sources, and the names of crates, files and wrong bodies."""
+    """The words of all sources, and the names of crates, files, wrong bodies and examples."""
     words = set()
     for pattern in SOURCES:
         for file in filter(pathlib.Path.is_file, TOP.glob(pattern)):
             words.update(re.findall(WORD, file.read_text(errors="replace")))
             words.update(re.findall(r"\w+", file.read_text(errors="replace")))
-    for file in TOP.glob("crates/**/*"):
+    for file in [*TOP.glob("crates/**/*"), *TOP.glob("examples/*")]:
         words.add(file.name.split(".")[0])
     return words
 
@@ -49,6 +50,8 @@ def anchors(file):
 
 def bad_links(page, text):
     for link in re.findall(r"\]\(([^)]*)\)", text):
+        if "://" in link:
+            continue
         name, _, anchor = link.partition("#")
         file = (page.parent / name).resolve() if name else page
         if not file.exists() or anchor and anchor not in anchors(file):

@@ -1,12 +1,12 @@
 #!/usr/bin/env python3
 """Compares what documents and first pages show with what is checked or stored.
 
-- Each block of code (marked `rust`, `c` or `python`) of README.md, of docs/GUIDE.md and of the crates'
-  first pages (the `//!` lines at the head of src/lib.rt) stands in one file of the crates of examples or
-  of bindings/, to the letter but for its indentation and a `pub`. A line `..` stands for any lines of
-  that file.
-- Each command of the program in README.md and docs/FORMATS.md is a stored example, and what is shown
-  below it is the stored report. Every other block of these two is a stored input.
+- Each block of code (marked `rust`, `c` or `python`) of README.md, of bindings/README.md, of
+  docs/GUIDE.md and of the crates' first pages (the `//!` lines at the head of src/lib.rt) stands in one
+  file of the crates of examples or of bindings/, to the letter but for its indentation and a `pub`. A
+  line `..` stands for any lines of that file.
+- Each command of the program is a stored example, and what is shown below it is the stored report.
+  Every other block of README.md and docs/FORMATS.md is a stored input.
 
 Other blocks of the guide and of first pages are drawings and sketches; it is told how many there are.
 Prints each block that differs, and then ends with the status 1.
@@ -119,7 +119,7 @@ def runs_of(block):
 def is_run_stored(command, shown, examples):
     """Whether a command is a stored example, and what is shown below it its report."""
     if not command.startswith(COMMAND):
-        return True
+        return False
     words, _, source = command[len(COMMAND) :].partition(" < ")
     given = (TOP / source.strip()).read_text() if source else ""
     for arguments, steps, report in examples:
@@ -138,7 +138,8 @@ def pages():
     """Each page by its name: its text, and whether its blocks are examples of the program."""
     for name, is_of_program in [("README.md", True), ("docs/FORMATS.md", True)]:
         yield name, (TOP / name).read_text(), is_of_program
-    yield "docs/GUIDE.md", (TOP / "docs/GUIDE.md").read_text(), False
+    for name in ["bindings/README.md", "docs/GUIDE.md"]:
+        yield name, (TOP / name).read_text(), False
     for crate in sorted(TOP.glob("crates/*")):
         if (crate / "src/lib.rt").exists():
             yield f"{crate.name}/src/lib.rt", first_page(crate), False
@@ -151,7 +152,7 @@ def main():
         for number, mark, block in blocks(text):
             if mark in ("rust", "c", "python"):
                 is_right = is_code_shown(block, files)
-            elif is_of_program:
+            elif is_of_program or block[0].startswith(COMMAND):
                 is_right = is_example_shown(block, examples)
             else:
                 others += 1
