@@ -20,6 +20,7 @@ use std::alloc::Global;
 
 /// The frame of a line, by its first word and the words after it.
 #[tactic(auto, unfolding(crate::specs::Lines::frame_of_words))]
+#[inline(always)]
 pub fn frame_of_words(alloc: Global, kind: &[u8], words: Option<&[u8]>) -> Result<Frame, Unread>
     ensures { Reads (λ frame. frame) result (frame_of_words kind.now (words_left words.entry)) }
 {
@@ -46,6 +47,7 @@ pub fn frame_of_words(alloc: Global, kind: &[u8], words: Option<&[u8]>) -> Resul
 
 /// `attach NAME H`
 #[tactic(auto, unfolding(crate::specs::Lines::attach_line))]
+#[inline(always)]
 pub fn attach_line(alloc: Global, words: Option<&[u8]>) -> Result<Frame, Unread>
     ensures { Reads (λ frame. frame) result (attach_line (words_left words.entry)) }
 {
@@ -59,6 +61,7 @@ pub fn attach_line(alloc: Global, words: Option<&[u8]>) -> Result<Frame, Unread>
 
 /// `link NAME H ROLE`
 #[tactic(auto, unfolding(crate::specs::Lines::link_line))]
+#[inline(always)]
 pub fn link_line(alloc: Global, words: Option<&[u8]>) -> Result<Frame, Unread>
     ensures { Reads (λ frame. frame) result (link_line (words_left words.entry)) }
 {
@@ -72,6 +75,7 @@ pub fn link_line(alloc: Global, words: Option<&[u8]>) -> Result<Frame, Unread>
 
 /// `flow H N` or `flow -`
 #[tactic(auto, unfolding(crate::specs::Lines::flow_line))]
+#[inline(always)]
 pub fn flow_line(words: Option<&[u8]>) -> Result<Frame, Unread>
     ensures { Reads (λ frame. frame) result (flow_line (words_left words.entry)) }
 {
@@ -85,6 +89,7 @@ pub fn flow_line(words: Option<&[u8]>) -> Result<Frame, Unread>
 
 /// `flow H N`
 #[tactic(auto, unfolding(crate::specs::Lines::link_flow_line))]
+#[inline(always)]
 pub fn link_flow_line(words: Option<&[u8]>) -> Result<Frame, Unread>
     ensures { Reads (λ frame. frame) result (link_flow_line (words_left words.entry)) }
 {
@@ -96,6 +101,7 @@ pub fn link_flow_line(words: Option<&[u8]>) -> Result<Frame, Unread>
 
 /// `transfer H ID SET PAYLOAD`
 #[tactic(auto, unfolding(crate::specs::Lines::transfer_line))]
+#[inline(always)]
 pub fn transfer_line(alloc: Global, words: Option<&[u8]>) -> Result<Frame, Unread>
     ensures { Reads (λ frame. frame) result (transfer_line (words_left words.entry)) }
 {
@@ -109,6 +115,7 @@ pub fn transfer_line(alloc: Global, words: Option<&[u8]>) -> Result<Frame, Unrea
 
 /// `post T H ID SET OUT PAYLOAD`
 #[tactic(auto, unfolding(crate::specs::Lines::post_line))]
+#[inline(always)]
 pub fn post_line(alloc: Global, words: Option<&[u8]>) -> Result<Frame, Unread>
     ensures { Reads (λ frame. frame) result (post_line (words_left words.entry)) }
 {
@@ -126,6 +133,7 @@ pub fn post_line(alloc: Global, words: Option<&[u8]>) -> Result<Frame, Unread>
 
 /// `disposition ROLE FIRST LAST BOOL OUT`
 #[tactic(auto, unfolding(crate::specs::Lines::disposition_line))]
+#[inline(always)]
 pub fn disposition_line(words: Option<&[u8]>) -> Result<Frame, Unread>
     ensures { Reads (λ frame. frame) result (disposition_line (words_left words.entry)) }
 {
@@ -140,6 +148,7 @@ pub fn disposition_line(words: Option<&[u8]>) -> Result<Frame, Unread>
 
 /// `retire T ROLE FIRST LAST BOOL OUT`
 #[tactic(auto, unfolding(crate::specs::Lines::retire_line))]
+#[inline(always)]
 pub fn retire_line(alloc: Global, words: Option<&[u8]>) -> Result<Frame, Unread>
     ensures { Reads (λ frame. frame) result (retire_line (words_left words.entry)) }
 {
@@ -156,6 +165,7 @@ pub fn retire_line(alloc: Global, words: Option<&[u8]>) -> Result<Frame, Unread>
 
 /// `detach H BOOL`
 #[tactic(auto, unfolding(crate::specs::Lines::detach_line))]
+#[inline(always)]
 pub fn detach_line(words: Option<&[u8]>) -> Result<Frame, Unread>
     ensures { Reads (λ frame. frame) result (detach_line (words_left words.entry)) }
 {
@@ -171,6 +181,7 @@ pub fn detach_line(words: Option<&[u8]>) -> Result<Frame, Unread>
 }
 
 /// The attach of a link of which a line names name, handle, role and target.
+#[inline(always)]
 pub fn attach_of(
     alloc: Global,
     name: &str,
@@ -213,6 +224,7 @@ fn first_count(role: Role) -> Option<u32>
 }
 
 /// The node of that address, as a target.
+#[inline(always)]
 fn node(alloc: Global, address: &str) -> Result<TargetArchetype, NoMemory>
     ensures { IfOk result (λ target. target ≡ node address.now) }
 {
@@ -225,6 +237,7 @@ fn node(alloc: Global, address: &str) -> Result<TargetArchetype, NoMemory>
 }
 
 /// A flow of a link, by its handle and credit, or of the session alone.
+#[inline(always)]
 pub fn flow_of(link: Option<(u32, u32)>) -> Flow
     ensures { result ≡ flow_of link }
 {
@@ -248,6 +261,7 @@ pub fn flow_of(link: Option<(u32, u32)>) -> Flow
 }
 
 /// The transfer of a delivery.
+#[inline(always)]
 pub fn transfer_of(
     alloc: Global,
     delivery: Delivery,
@@ -291,6 +305,7 @@ fn format_of(delivery_id: Option<u32>) -> Option<u32>
 }
 
 /// The disposition of those deliveries.
+#[inline(always)]
 pub fn disposition_of(deliveries: Deliveries, state: Option<DeliveryState>) -> Disposition
     ensures { result ≡ disposition_of deliveries state }
 {
@@ -305,6 +320,7 @@ pub fn disposition_of(deliveries: Deliveries, state: Option<DeliveryState>) -> D
 }
 
 /// The state of a delivery under a transaction.
+#[inline(always)]
 pub fn state_under(txn_id: TransactionId, outcome: Option<Outcome>) -> Option<DeliveryState>
     ensures { result ≡ state_under txn_id outcome }
 {
@@ -312,6 +328,7 @@ pub fn state_under(txn_id: TransactionId, outcome: Option<Outcome>) -> Option<De
 }
 
 /// The outcome as a state.
+#[inline(always)]
 pub fn state_of(outcome: Option<Outcome>) -> Option<DeliveryState>
     ensures { result ≡ state_of_outcomes outcome }
 {

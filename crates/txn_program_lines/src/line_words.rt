@@ -31,6 +31,7 @@ pub struct Deliveries {
 }
 
 /// Whether the word is this text.
+#[inline(always)]
 pub fn is_text(word: &[u8], text: &str) -> bool
     ensures { result ≡ bytes_eq word.now text.now }
 {
@@ -38,6 +39,7 @@ pub fn is_text(word: &[u8], text: &str) -> bool
 }
 
 /// The first of the words that are left, and the others.
+#[inline(always)]
 pub fn word_at(words: Option<&[u8]>) -> Result<(&[u8], Option<&[u8]>), Unread>
     ensures { Reads (λ x. (x.0.now, words_left x.1)) result (word_at (words_left words.entry)) }
 {

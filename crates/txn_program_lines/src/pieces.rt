@@ -8,6 +8,7 @@ use memchr::memchr;
 
 /// The first piece of octets that are cut at each separator, and what follows that separator;
 /// `None` where it is the last piece.
+#[inline(always)]
 pub fn cut_at(octets: &[u8], separator: u8) -> (&[u8], Option<&[u8]>)
     ensures pieces { slice_split (λ octet. octet == separator) octets.now
         ≡ result.0.now ∷ pieces_left separator result.1 }

@@ -15,6 +15,7 @@ impl LineReader for Steps {
 
     ghost after_line = { with_item step_of_line };
 
+    #[inline(always)]
     fn read_line(&mut self, alloc: Global, line: &[u8]) -> Result<(), Unread> {
         let step = step_of_line(alloc, line)?;
         self.append(step)?;

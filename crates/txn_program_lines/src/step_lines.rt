@@ -15,6 +15,7 @@ use std::alloc::Global;
 
 /// The step that a line spells.
 #[tactic(auto, unfolding(crate::specs::Lines::step_of_line))]
+#[inline(always)]
 pub fn step_of_line(alloc: Global, line: &[u8]) -> Result<Step, Unread>
     ensures { Reads (λ step. step) result (step_of_line line.now) }
 {
@@ -24,6 +25,7 @@ pub fn step_of_line(alloc: Global, line: &[u8]) -> Result<Step, Unread>
 
 /// The step of a line, by its first word and the words after it.
 #[tactic(auto, unfolding(crate::specs::Lines::step_of_words))]
+#[inline(always)]
 pub fn step_of_words(alloc: Global, kind: &[u8], words: Option<&[u8]>) -> Result<Step, Unread>
     ensures { Reads (λ step. step) result (step_of_words kind.now (words_left words.entry)) }
 {
@@ -44,6 +46,7 @@ pub fn step_of_words(alloc: Global, kind: &[u8], words: Option<&[u8]>) -> Result
 
 /// `control K PAYLOAD`
 #[tactic(auto, unfolding(crate::specs::Lines::control_line))]
+#[inline(always)]
 pub fn control_line(alloc: Global, words: Option<&[u8]>) -> Result<Step, Unread>
     ensures { Reads (λ step. step) result (control_line (words_left words.entry)) }
 {
@@ -56,6 +59,7 @@ pub fn control_line(alloc: Global, words: Option<&[u8]>) -> Result<Step, Unread>
 
 /// `link-end K`
 #[tactic(auto, unfolding(crate::specs::Lines::link_end_line))]
+#[inline(always)]
 pub fn link_end_line(words: Option<&[u8]>) -> Result<Step, Unread>
     ensures { Reads (λ step. step) result (link_end_line (words_left words.entry)) }
 {
@@ -65,6 +69,7 @@ pub fn link_end_line(words: Option<&[u8]>) -> Result<Step, Unread>
 }
 
 /// `end`
+#[inline(always)]
 fn end_line(words: Option<&[u8]>) -> Result<Step, Unread>
     ensures { Reads (λ step. step) result (alone (words_left words.entry) (steps.LocalEnd None)) }
 {
@@ -73,6 +78,7 @@ fn end_line(words: Option<&[u8]>) -> Result<Step, Unread>
 }
 
 /// `remote-end`
+#[inline(always)]
 fn remote_end_line(words: Option<&[u8]>) -> Result<Step, Unread>
     ensures { Reads (λ step. step) result (alone (words_left words.entry) (steps.RemoteEnd None)) }
 {
@@ -81,6 +87,7 @@ fn remote_end_line(words: Option<&[u8]>) -> Result<Step, Unread>
 }
 
 /// `connection-stop`
+#[inline(always)]
 fn connection_stop_line(words: Option<&[u8]>) -> Result<Step, Unread>
     ensures { Reads (λ step. step) result
         (alone (words_left words.entry) (steps.ConnectionStop reasons.RemoteClosed)) }
