@@ -4,7 +4,7 @@ use amqp_below_connections::*;
 use amqp_below_layer::SessionInnerError;
 use amqp_below_sessions::{AllocLinkError, BeginError, ReceiverAttachError, SenderAttachError};
 use amqp_links::Poll;
-use amqp_test_values::{begin, is_done, other_text, same};
+use amqp_test_values::{begin, is_done, leak, other_text, same};
 use amqp_txn_types::{ConnectionStopReason, OutgoingChannel, SessionStopReason, TryClone};
 
 fn incoming(channel: u16) -> IncomingSession {
@@ -28,7 +28,7 @@ fn sessions_come_in_order(rt: HostRuntime) {
     );
     let second = incoming(4);
     let copy = second.try_clone().expect(&rt, "an Ok");
-    drop(second);
+    leak(second);
     assert!(rt; same(connection.next_incoming_session(), Poll::Ready(Some(copy))));
     connection.set_stop_reason(ConnectionStopReason::Closed);
     assert!(rt; same(connection.next_incoming_session(), Poll::Ready(None)));
@@ -78,7 +78,7 @@ fn errors_of_channels_have_their_texts(rt: HostRuntime) {
         (AllocSessionError::NoMemory, "out of memory"),
     ];
     let other = other_text(rt.alloc(), &table);
-    drop(table);
+    leak(table);
     assert!(rt; other == Ok(None));
 }
 
@@ -100,7 +100,7 @@ fn errors_of_senders_have_their_texts(rt: HostRuntime) {
         (SenderAttachError::NoMemory, "out of memory"),
     ];
     let other = other_text(rt.alloc(), &table);
-    drop(table);
+    leak(table);
     assert!(rt; other == Ok(None));
 }
 
@@ -122,6 +122,6 @@ fn errors_of_receivers_have_their_texts(rt: HostRuntime) {
         (ReceiverAttachError::NoMemory, "out of memory"),
     ];
     let other = other_text(rt.alloc(), &table);
-    drop(table);
+    leak(table);
     assert!(rt; other == Ok(None));
 }

@@ -3,7 +3,7 @@
 use amqp_below_ids::Drawn;
 use amqp_below_layer::SessionInnerError;
 use amqp_below_sessions::*;
-use amqp_test_values::{not_allowed, other_text};
+use amqp_test_values::{leak, not_allowed, other_text};
 use amqp_txn_types::{ConnectionStopReason, SessionStopReason};
 
 #[test]
@@ -23,7 +23,7 @@ fn errors_have_their_texts(rt: HostRuntime) {
         (AllocLinkError::NoMemory, "out of memory"),
     ];
     let other = other_text(alloc, &unallocated);
-    drop(unallocated);
+    leak(unallocated);
     assert!(rt; other == Ok(None));
     let unbegun = [
         (
@@ -41,7 +41,7 @@ fn errors_have_their_texts(rt: HostRuntime) {
         (BeginError::NoMemory, "out of memory"),
     ];
     let other = other_text(alloc, &unbegun);
-    drop(unbegun);
+    leak(unbegun);
     assert!(rt; other == Ok(None));
     let undrawn = [
         (
@@ -55,7 +55,7 @@ fn errors_have_their_texts(rt: HostRuntime) {
         (AllocTxnIdError::NoMemory, "out of memory"),
     ];
     let other = other_text(alloc, &undrawn);
-    drop(undrawn);
+    leak(undrawn);
     assert!(rt; other == Ok(None));
     let uncommitted = [
         (CommitFault::NoMemory, "out of memory"),
@@ -68,6 +68,6 @@ fn errors_have_their_texts(rt: HostRuntime) {
         ),
     ];
     let other = other_text(alloc, &uncommitted);
-    drop(uncommitted);
+    leak(uncommitted);
     assert!(rt; other == Ok(None));
 }

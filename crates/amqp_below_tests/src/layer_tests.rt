@@ -1,7 +1,7 @@
 //! What no clause says: that the calls succeed where there is memory, and the texts of errors.
 
 use amqp_below_layer::*;
-use amqp_test_values::{detach, gives, judges, not_allowed, other_text, takes_work};
+use amqp_test_values::{detach, gives, judges, leak, not_allowed, other_text, takes_work};
 use amqp_txn_types::{ConnectionStopReason, Frame, Frames, TryClone};
 
 #[test]
@@ -12,7 +12,7 @@ fn an_open_session_takes_everything(rt: HostRuntime) {
         window: None,
     };
     assert!(rt; gives(take_frame(&mut below, Frame::Detach(detach(3))), answers));
-    drop(below);
+    leak(below);
 }
 
 #[test]
@@ -21,7 +21,7 @@ fn an_open_session_accepts_everything(rt: HostRuntime) {
     let mut below = OpenSession::new(alloc);
     assert!(rt; judges(alloc, &mut below, 3, Verdict::Accept));
     assert!(rt; takes_work(alloc, &mut below, 3));
-    drop(below);
+    leak(below);
 }
 
 #[test]
@@ -61,7 +61,7 @@ fn errors_have_their_texts(rt: HostRuntime) {
         (SessionInnerError::NoMemory, "out of memory"),
     ];
     let other = other_text(rt.alloc(), &table);
-    drop(table);
+    leak(table);
     assert!(rt; other == Ok(None));
 }
 

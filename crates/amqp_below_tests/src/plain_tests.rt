@@ -4,7 +4,7 @@ use amqp_below_ids::CountIds;
 use amqp_below_layer::{Answers, LayerBelow, SessionInnerError, Verdict, take_frame};
 use amqp_below_sessions::*;
 use amqp_test_values::{
-    begin, detach, disposition, flow, gives, is_done, judges, plain_session, refuses, relay,
+    begin, detach, disposition, flow, gives, is_done, judges, leak, plain_session, refuses, relay,
     sender_attach, takes_work, transfer,
 };
 use amqp_txn_types::{
@@ -72,7 +72,7 @@ fn is_known<S: Session>(
 ) -> bool {
     let name = name_of(rt, alloc, name);
     let known = session.name_state(&name);
-    drop(name);
+    leak(name);
     known == state
 }
 
@@ -87,7 +87,7 @@ fn a_transfer_on_an_unmapped_handle_is_refused(rt: HostRuntime) {
     let mut plain = plain_session(alloc, SessionState::Mapped, 9);
     let answer = transfer_to(&rt, alloc, &mut plain, 4);
     assert!(rt; refuses(answer, SessionInnerError::UnattachedHandle));
-    drop(plain);
+    leak(plain);
 }
 
 #[test]
@@ -98,7 +98,7 @@ fn a_name_is_allocated_once(rt: HostRuntime) {
     assert!(rt; is_known(&rt, alloc, &plain, "a", NameState::Waiting));
     let again = allocate(&rt, alloc, &mut plain, "a");
     assert!(rt; refuses(again, AllocLinkError::DuplicatedLinkName));
-    drop(plain);
+    leak(plain);
 }
 
 #[test]
@@ -109,7 +109,7 @@ fn a_freed_handle_comes_next(rt: HostRuntime) {
     assert!(rt; frees(&mut plain, 0));
     assert!(rt; !frees(&mut plain, 0));
     assert!(rt; gives(allocate(&rt, alloc, &mut plain, "b"), OutputHandle(0)));
-    drop(plain);
+    leak(plain);
 }
 
 #[test]
@@ -125,7 +125,7 @@ fn the_last_freed_handle_comes_first(rt: HostRuntime) {
     assert!(rt; gives(allocate(&rt, alloc, &mut plain, "d"), OutputHandle(1)));
     assert!(rt; gives(allocate(&rt, alloc, &mut plain, "e"), OutputHandle(2)));
     assert!(rt; gives(allocate(&rt, alloc, &mut plain, "f"), OutputHandle(0)));
-    drop(plain);
+    leak(plain);
 }
 
 /// Allocates the link "a" of this side, which the peer attached on handle 5.
@@ -156,7 +156,7 @@ fn an_incoming_link_is_taken_at_once(rt: HostRuntime) {
     assert!(rt; is_known(&rt, alloc, &plain, "a", NameState::Taken));
     let again = allocate_incoming(&rt, alloc, &mut plain);
     assert!(rt; refuses(again, AllocLinkError::DuplicatedLinkName));
-    drop(plain);
+    leak(plain);
 }
 
 #[test]
@@ -170,8 +170,8 @@ fn the_relay_keeps_a_flow(rt: HostRuntime) {
     let mut wanted = LinkFlows::new(alloc);
     assert!(rt; is_done(wanted.push(link_flow(5))));
     assert!(rt; keeps_flows(&plain, output, &wanted));
-    drop(wanted);
-    drop(plain);
+    leak(wanted);
+    leak(plain);
 }
 
 /// Whether a flow that comes is an Ok.
@@ -215,7 +215,7 @@ fn each_transfer_of_a_run_tells_a_window_of_two(rt: HostRuntime) {
     assert!(rt; takes_so(&mut plain, first, told_window(alloc, 1)));
     let second = plain_transfer(&rt, alloc, 5);
     assert!(rt; takes_so(&mut plain, second, told_window(alloc, 2)));
-    drop(plain);
+    leak(plain);
 }
 
 /// Whether the peer's begin is an Ok.
@@ -235,7 +235,7 @@ fn no_handle_above_the_greatest(rt: HostRuntime) {
     assert!(rt; gives(allocate(&rt, alloc, &mut plain, "a"), OutputHandle(0)));
     let next = allocate(&rt, alloc, &mut plain, "b");
     assert!(rt; refuses(next, AllocLinkError::HandleMaxReached));
-    drop(plain);
+    leak(plain);
 }
 
 #[test]
@@ -248,7 +248,7 @@ fn a_link_lives_from_attach_to_detach(rt: HostRuntime) {
     assert!(rt; is_done(transfer_to(&rt, alloc, &mut plain, 5)));
     assert!(rt; hears_detach(&mut plain));
     assert!(rt; is_known(&rt, alloc, &plain, "a", NameState::Unknown));
-    drop(plain);
+    leak(plain);
 }
 
 /// Whether a detach of handle 5 is an Ok.
@@ -265,7 +265,7 @@ fn the_window_is_told_once(rt: HostRuntime) {
     assert!(rt; is_done(transfer_to(&rt, alloc, &mut plain, 5)));
     assert!(rt; tells_window(&mut plain));
     assert!(rt; !tells_window(&mut plain));
-    drop(plain);
+    leak(plain);
 }
 
 /// Whether there is a window to tell.
@@ -274,9 +274,9 @@ fn tells_window<S: LayerBelow>(below: &mut S) -> bool {
 }
 
 /// Whether there is one.
-fn is_some<T: Drop>(answer: Option<T>) -> bool {
+fn is_some<T>(answer: Option<T>) -> bool {
     let some = answer.is_some();
-    drop(answer);
+    leak(answer);
     some
 }
 
@@ -289,7 +289,7 @@ fn begins_and_ends<S: Session>(rt: &impl Abort, session: &mut S) {
     assert!(rt; session.local_state() == SessionState::EndSent);
     let end = End { error: None };
     assert!(rt; is_done(session.on_incoming_end(IncomingChannel(3), &end)));
-    drop(end);
+    leak(end);
     assert!(rt; session.local_state() == SessionState::Unmapped);
 }
 
@@ -297,7 +297,7 @@ fn begins_and_ends<S: Session>(rt: &impl Abort, session: &mut S) {
 fn a_session_begins_and_ends(rt: HostRuntime) {
     let mut plain = plain_session(rt.alloc(), SessionState::Unmapped, 9);
     begins_and_ends(&rt, &mut plain);
-    drop(plain);
+    leak(plain);
 }
 
 /// What goes out is answered by whether a first transfer has a tag.
@@ -306,21 +306,21 @@ fn checks_what_goes_out<S: Session>(rt: &impl Abort, session: &mut S) {
     let untagged = session.on_outgoing_transfer(InputHandle(2), &mut sent, true);
     assert!(rt; refuses(untagged, SessionInnerError::IllegalState));
     assert!(rt; is_done(session.on_outgoing_transfer(InputHandle(2), &mut sent, false)));
-    drop(sent);
+    leak(sent);
     assert!(rt; is_done(session.on_outgoing_flow(link_flow(0))));
     let answer = disposition(0);
     assert!(rt; is_done(session.on_outgoing_disposition(&answer)));
-    drop(answer);
+    leak(answer);
     let last = detach(0);
     assert!(rt; is_done(session.on_outgoing_detach(&last)));
-    drop(last);
+    leak(last);
 }
 
 #[test]
 fn what_goes_out_is_checked(rt: HostRuntime) {
     let mut plain = plain_session(rt.alloc(), SessionState::Mapped, 9);
     checks_what_goes_out(&rt, &mut plain);
-    drop(plain);
+    leak(plain);
 }
 
 /// Each call for a transaction is refused.
@@ -348,7 +348,7 @@ fn the_first_stop_reason_is_kept(rt: HostRuntime) {
     let stopped = allocate(&rt, alloc, &mut plain, "a");
     let wanted = AllocLinkError::SessionStopped(SessionStopReason::Ended);
     assert!(rt; refuses(stopped, wanted));
-    drop(plain);
+    leak(plain);
 }
 
 #[test]
@@ -356,7 +356,7 @@ fn a_plain_session_does_no_transactions(rt: HostRuntime) {
     let alloc = rt.alloc();
     let mut plain = plain_session(alloc, SessionState::Mapped, 9);
     does_no_transactions(&rt, &mut plain);
-    drop(plain);
+    leak(plain);
 }
 
 #[test]
@@ -366,7 +366,7 @@ fn a_plain_session_takes_what_it_accepted(rt: HostRuntime) {
     assert!(rt; is_done(allocate_incoming(&rt, alloc, &mut plain)));
     assert!(rt; judges(alloc, &mut plain, 5, Verdict::Accept));
     assert!(rt; takes_work(alloc, &mut plain, 5));
-    drop(plain);
+    leak(plain);
 }
 
 #[test]
@@ -374,7 +374,7 @@ fn a_transfer_on_an_unmapped_handle_is_vetoed(rt: HostRuntime) {
     let alloc = rt.alloc();
     let mut plain = plain_session(alloc, SessionState::Mapped, 9);
     assert!(rt; judges(alloc, &mut plain, 4, Verdict::Veto));
-    drop(plain);
+    leak(plain);
 }
 
 #[test]
@@ -383,14 +383,14 @@ fn a_transfer_to_a_sender_is_vetoed(rt: HostRuntime) {
     let mut plain = plain_session(alloc, SessionState::Mapped, 9);
     assert!(rt; is_done(allocate_as(&rt, alloc, &mut plain, Role::Sender)));
     assert!(rt; judges(alloc, &mut plain, 5, Verdict::Veto));
-    drop(plain);
+    leak(plain);
 }
 
 /// Whether a review of no frames answers this.
 fn reviews_none<S: LayerBelow>(alloc: Global, below: &mut S, wanted: Verdict) -> bool {
     let none = Frames::new(alloc);
     let answer = below.review(&none);
-    drop(none);
+    leak(none);
     gives(answer, wanted)
 }
 
@@ -399,8 +399,8 @@ fn only_a_mapped_session_accepts(rt: HostRuntime) {
     let alloc = rt.alloc();
     let mut plain = plain_session(alloc, SessionState::Mapped, 9);
     assert!(rt; reviews_none(alloc, &mut plain, Verdict::Accept));
-    drop(plain);
+    leak(plain);
     let mut ended = plain_session(alloc, SessionState::EndSent, 9);
     assert!(rt; reviews_none(alloc, &mut ended, Verdict::Veto));
-    drop(ended);
+    leak(ended);
 }

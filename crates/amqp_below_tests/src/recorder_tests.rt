@@ -5,7 +5,7 @@ use amqp_below_layer::{Exchanges, LayerBelow, OpenSession, SessionInnerError, Ve
 use amqp_below_recorder::*;
 use amqp_below_sessions::{NameState, Session};
 use amqp_test_values::{
-    call_numbers, control_attach, detach, is_done, judges, plain_session, refuses, relay,
+    call_numbers, control_attach, detach, is_done, judges, leak, plain_session, refuses, relay,
     takes_work, transfer,
 };
 use amqp_txn_types::{
@@ -21,7 +21,7 @@ fn takes_detach<S: LayerBelow>(below: &mut S, handle: u32) -> bool {
         Ok(given) => given.len() == 0,
         Err(_) => false,
     };
-    drop(answer);
+    leak(answer);
     taken
 }
 
@@ -46,8 +46,8 @@ fn a_recorder_keeps_what_was_taken(rt: HostRuntime) {
     let frame = Frame::Detach(detach(3));
     assert!(rt; is_done(exchanges.push((frame, Frames::new(alloc)))));
     assert!(rt; are_equal(below.exchanges(), &exchanges));
-    drop(exchanges);
-    drop(below);
+    leak(exchanges);
+    leak(below);
 }
 
 #[test]
@@ -102,7 +102,7 @@ fn a_recorder_takes_what_it_accepted(rt: HostRuntime) {
     assert!(rt; below.is_fresh());
     assert!(rt; takes_work(alloc, &mut below, 3));
     assert!(rt; below.exchanges().len() == 2);
-    drop(below);
+    leak(below);
 }
 
 #[test]
@@ -112,7 +112,7 @@ fn a_recorder_keeps_what_its_session_vetoed(rt: HostRuntime) {
     assert!(rt; judges(alloc, &mut below, 4, Verdict::Veto));
     assert!(rt; judges(alloc, &mut below, 4, Verdict::Veto));
     assert!(rt; vetoed(&below) == (2, 2));
-    drop(below);
+    leak(below);
 }
 
 #[test]
@@ -154,7 +154,7 @@ fn opens<S: LayerBelow>(below: &mut S, attach: &Attach) -> bool {
         Ok(given) => given.len() == 0,
         Err(_) => false,
     };
-    drop(answer);
+    leak(answer);
     opened
 }
 
@@ -164,10 +164,10 @@ fn a_recorder_keeps_what_was_opened(rt: HostRuntime) {
     let attach = control_attach(Text::from_str(alloc, "c").expect(&rt, "an Ok"), 0);
     let mut below = Recorder::new(alloc, OpenSession::new(alloc));
     assert!(rt; opens(&mut below, &attach));
-    drop(attach);
+    leak(attach);
     assert!(rt; below.opened().len() == 1);
     assert!(rt; below.exchanges().len() == 0);
-    drop(below);
+    leak(below);
 }
 
 /// What a transfer on the handle 4 is answered.
@@ -187,7 +187,7 @@ fn a_recorder_keeps_a_refusal_of_a_plain_session(rt: HostRuntime) {
     assert!(rt; refuses(refused, SessionInnerError::UnattachedHandle));
     assert!(rt; below.exchanges().len() == 0);
     assert!(rt; below.refused().len() == 1);
-    drop(below);
+    leak(below);
 }
 
 /// The first end of a link is allocated, its name waits then, and it is freed.
@@ -197,7 +197,7 @@ fn frees_what_it_allocated<S: Session>(rt: &impl Abort, alloc: Global, session: 
     let output = allocated.expect(rt, "an Ok");
     let name = Text::from_str(alloc, "a").expect(rt, "an Ok");
     assert!(rt; session.name_state(&name) == NameState::Waiting);
-    drop(name);
+    leak(name);
     assert!(rt; session.deallocate_link(output));
 }
 
@@ -215,7 +215,7 @@ fn a_recorder_over_a_session_is_one(rt: HostRuntime) {
     frees_what_it_allocated(&rt, alloc, &mut session);
     assert!(rt; session.is_fresh());
     keeps_a_reason(&rt, &mut session);
-    drop(session);
+    leak(session);
 }
 
 #[test]
@@ -223,5 +223,5 @@ fn a_recorder_over_a_plain_session_does_no_transactions(rt: HostRuntime) {
     let alloc = rt.alloc();
     let mut session = Recorder::new(alloc, plain_session(alloc, SessionState::Mapped, 9));
     does_no_transactions(&rt, &mut session);
-    drop(session);
+    leak(session);
 }

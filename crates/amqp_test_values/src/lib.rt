@@ -10,7 +10,7 @@ mod frames;
 mod links;
 mod sessions;
 
-pub use answers::{gives, is_done, refuses, same};
+pub use answers::{error_of, gives, is_done, leak, refuses, same, value_of};
 pub use errors::{not_allowed, other_text, plain_error, reads};
 pub use frames::{
     begin, control_attach, detach, disposition, flow, sender_attach, transfer, under, work,

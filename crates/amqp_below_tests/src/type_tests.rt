@@ -1,21 +1,21 @@
 //! What no clause says: that each call succeeds where there is memory, and printed texts.
 
-use amqp_test_values::same;
+use amqp_test_values::{leak, other_text, reads, same};
 use amqp_txn_types::*;
-use std::alloc::Global;
+use std::alloc::{Alloc, Global};
 use std::process::Abort;
 
 fn symbols(rt: &impl Abort, alloc: Global) -> Symbols {
     let mut symbols = Symbols::new(alloc);
     symbols
-        .push(
+        .append(
             TxnCapability::LocalTransactions
                 .to_symbol(alloc)
                 .expect(rt, "an Ok"),
         )
         .expect(rt, "an Ok");
     symbols
-        .push(
+        .append(
             TxnCapability::MultiTxnsPerSsn
                 .to_symbol(alloc)
                 .expect(rt, "an Ok"),
@@ -145,9 +145,9 @@ fn detach(rt: &impl Abort, alloc: Global) -> Detach {
     }
 }
 
-fn assert_copied<T: TryClone + PartialEq + Drop>(rt: &impl Abort, original: T) {
+fn assert_copied<T: TryClone + PartialEq>(rt: &impl Abort, original: T) {
     let copy = original.try_clone().expect(rt, "an Ok");
-    assert!(rt; copy == original);
+    assert!(rt; same(copy, original));
 }
 
 fn moves_to_a_thread<T: Send>(_value: &T) {}
@@ -159,14 +159,15 @@ fn a_frame_crosses_threads(rt: HostRuntime) {
     let frame = Frame::Detach(detach(&rt, rt.alloc()));
     moves_to_a_thread(&frame);
     is_shared_by_threads(&frame);
+    leak(frame);
 }
 
 #[test]
 fn an_id_has_at_most_32_octets(rt: HostRuntime) {
     let longest = TransactionId::new(&[9; 32]).expect(&rt, "an Ok");
-    assert_eq!(rt; longest.as_ref(), [9; 32].as_slice());
-    assert_eq!(rt; TransactionId::new(&[9; 33]), Err(IdTooLong));
-    assert_eq!(rt; TransactionId::from([5; 16]).as_ref(), [5; 16].as_slice());
+    assert!(rt; longest.as_ref() == [9; 32].as_slice());
+    assert!(rt; TransactionId::new(&[9; 33]) == Err(IdTooLong));
+    assert!(rt; TransactionId::from([5; 16]).as_ref() == [5; 16].as_slice());
     assert!(rt;
         TransactionId::new(b"\x01\x02").expect(&rt, "an Ok")
             < TransactionId::new(b"\x02").expect(&rt, "an Ok")
@@ -180,25 +181,18 @@ fn lists_grow_at_their_end(rt: HostRuntime) {
     assert!(rt; text.is_empty());
     text.push('é').expect(&rt, "an Ok");
     text.push('t').expect(&rt, "an Ok");
-    assert_eq!(rt;
-        (text.len(), text.get(0), text.as_str()),
-        (3, Some(0xc3), "ét")
-    );
+    assert!(rt; text.len() == 3 && text.get(0) == Some(0xc3) && text.as_str() == "ét");
+    leak(text);
     let mut symbol = Symbol::new(rt.alloc());
     assert!(rt; symbol.is_empty());
     symbol.push('a').expect(&rt, "an Ok");
     symbol.push('b').expect(&rt, "an Ok");
-    assert_eq!(rt;
-        (symbol.len(), symbol.get(0), symbol.as_str()),
-        (2, Some(b'a'), "ab")
-    );
+    assert!(rt; symbol.len() == 2 && symbol.get(0) == Some(b'a') && symbol.as_str() == "ab");
+    leak(symbol);
     let mut numbers = Items::<u64>::new(rt.alloc());
     assert!(rt; numbers.is_empty());
     numbers.push(3).expect(&rt, "an Ok");
-    assert_eq!(rt;
-        (numbers.len(), numbers.get(0), numbers.as_slice()),
-        (1, Some(&3), [3].as_slice())
-    );
+    assert!(rt; numbers.len() == 1 && numbers.get(0) == Some(&3));
     assert_copied(&rt, numbers)
 }
 
@@ -211,8 +205,8 @@ fn a_loop_over_a_list_sees_its_items_in_order(rt: HostRuntime) {
     for number in &numbers {
         seen.append(*number).expect(&rt, "an Ok");
     }
-    assert!(rt; seen == numbers);
-    assert_eq!(rt; numbers.iter().last(), Some(&4));
+    assert!(rt; numbers.iter().last() == Some(&4));
+    assert!(rt; same(seen, numbers));
 }
 
 #[test]
@@ -225,20 +219,22 @@ fn symbols_grow_at_their_end(rt: HostRuntime) {
     list.append(Symbol::from_str(rt.alloc(), "b").expect(&rt, "an Ok"))
         .expect(&rt, "an Ok");
     let b = Symbol::from_str(rt.alloc(), "b").expect(&rt, "an Ok");
-    assert_eq!(rt; (list.len(), list.get(1), list.get(2)), (2, Some(&b), None));
+    assert!(rt; list.len() == 2 && list.get(1) == Some(&b) && list.get(2).is_none());
+    leak(b);
     assert_copied(&rt, list)
 }
 
 #[test]
 fn a_payload_has_the_octets_it_was_made_of(rt: HostRuntime) {
     let short = Payload::from_slice(rt.alloc(), b"hi").expect(&rt, "an Ok");
-    assert_eq!(rt;
-        (short.len(), short.get(1), short.as_slice()),
-        (2, Some(b'i'), b"hi".as_slice())
-    );
-    assert!(rt; Payload::new().is_empty());
+    assert!(rt; short.len() == 2 && short.get(1) == Some(b'i'));
+    assert!(rt; short.as_slice() == b"hi".as_slice());
+    leak(short);
+    let empty = Payload::new();
+    assert!(rt; empty.is_empty());
+    leak(empty);
     let long = Payload::from_slice(rt.alloc(), &[7; 31]).expect(&rt, "an Ok");
-    assert_eq!(rt; long.as_slice(), [7; 31].as_slice());
+    assert!(rt; long.as_slice() == [7; 31].as_slice());
     assert_copied(&rt, long)
 }
 
@@ -247,21 +243,28 @@ fn octets_in_place_grow_into_a_list(rt: HostRuntime) {
     let mut octets = Binary::from_slice(rt.alloc(), b"\x01\x02").expect(&rt, "an Ok");
     octets.push(3).expect(&rt, "an Ok");
     octets.push(4).expect(&rt, "an Ok");
-    assert_eq!(rt; octets.as_slice(), b"\x01\x02\x03\x04".as_slice());
-    assert_eq!(rt;
-        (octets.len(), octets.get(3), octets.get(4)),
-        (4, Some(4), None)
-    );
+    assert!(rt; octets.as_slice() == b"\x01\x02\x03\x04".as_slice());
+    assert!(rt; octets.len() == 4 && octets.get(3) == Some(4) && octets.get(4).is_none());
     assert_copied(&rt, octets);
     let mut long = Binary::from_slice(rt.alloc(), &[7; 31]).expect(&rt, "an Ok");
     long.push(8).expect(&rt, "an Ok");
-    assert_eq!(rt; long.get(31), Some(8));
+    assert!(rt; long.get(31) == Some(8));
     assert_copied(&rt, long);
     let mut numbers = Items::<u64>::new(rt.alloc());
     numbers.append(1).expect(&rt, "an Ok");
     numbers.append(2).expect(&rt, "an Ok");
-    assert_eq!(rt; numbers.as_slice(), [1, 2].as_slice());
-    assert!(rt; Binary::new(rt.alloc()).is_empty());
+    assert!(rt; numbers.as_slice() == [1, 2].as_slice());
+    leak(numbers);
+    let empty = Binary::new(rt.alloc());
+    assert!(rt; empty.is_empty());
+    leak(empty);
+}
+
+/// The fields have this key and value at that place.
+fn assert_field(rt: &impl Abort, fields: &Fields, place: usize, key: &Symbol, value: Value) {
+    let (found_key, found) = fields.get(place).expect(rt, "a field");
+    assert!(rt; found_key == key && *found == value);
+    leak(value);
 }
 
 #[test]
@@ -269,14 +272,16 @@ fn fields_keep_the_order_of_insertion(rt: HostRuntime) {
     let b = Symbol::from_str(rt.alloc(), "b").expect(&rt, "an Ok");
     let a = Symbol::from_str(rt.alloc(), "a").expect(&rt, "an Ok");
     let mut fields = fields(&rt, rt.alloc());
-    assert_eq!(rt; fields.len(), 2);
-    assert_eq!(rt; fields.get(0), Some((&b, &Value::Bool(true))));
-    assert_eq!(rt; fields.get(1), Some((&a, &Value::Ulong(2))));
+    assert!(rt; fields.len() == 2);
+    assert_field(&rt, &fields, 0, &b, Value::Bool(true));
+    assert_field(&rt, &fields, 1, &a, Value::Ulong(2));
     fields.remove(&b);
-    assert_eq!(rt; fields.get(0), Some((&a, &Value::Ulong(2))));
+    assert_field(&rt, &fields, 0, &a, Value::Ulong(2));
     fields.remove(&a);
     assert!(rt; fields.is_empty());
-    assert!(rt; fields == Fields::new(rt.alloc()));
+    assert!(rt; same(fields, Fields::new(rt.alloc())));
+    leak(a);
+    leak(b);
 }
 
 #[test]
@@ -323,10 +328,7 @@ fn strip_settles_a_retirement_under_a_transaction(rt: HostRuntime) {
     let goes = Frame::Disposition(disposition(true, Some(DeliveryState::Released)));
     let work = TxnWorkFrame::Retire(came);
     let txn_id = TransactionId::new(b"\x07").expect(&rt, "an Ok");
-    assert_eq!(rt;
-        txn_of(&frame_of(work.try_clone().expect(&rt, "an Ok"))),
-        Some(txn_id)
-    );
+    assert!(rt; txn_of(&frame_of(work.try_clone().expect(&rt, "an Ok"))) == Some(txn_id));
     assert!(rt; same(strip(work), goes));
     let plain = disposition(false, Some(DeliveryState::Released));
     let stays = Frame::Disposition(plain.try_clone().expect(&rt, "an Ok"));
@@ -372,9 +374,9 @@ fn every_performative_is_copied(rt: HostRuntime) {
         properties: Some(fields(&rt, alloc)),
     };
     let mut frames = Frames::new(alloc);
-    frames.push(Frame::Flow(flow)).expect(&rt, "an Ok");
+    frames.append(Frame::Flow(flow)).expect(&rt, "an Ok");
     frames
-        .push(Frame::Detach(detach(&rt, alloc)))
+        .append(Frame::Detach(detach(&rt, alloc)))
         .expect(&rt, "an Ok");
     assert_copied(&rt, frames);
     assert_copied(&rt, LinkFrame::Flow(link_flow(&rt, alloc)));
@@ -405,6 +407,13 @@ fn every_performative_is_copied(rt: HostRuntime) {
     assert_copied(&rt, End { error: None })
 }
 
+/// The outcome is copied, as a state and under a transaction.
+fn copies_outcome(rt: &impl Abort, outcome: Outcome) {
+    let copy = outcome.try_clone().expect(rt, "an Ok");
+    assert_copied(rt, DeliveryState::from(copy));
+    assert_copied(rt, under_txn(rt, Some(outcome)));
+}
+
 #[test]
 fn every_state_is_copied(rt: HostRuntime) {
     let alloc = rt.alloc();
@@ -414,19 +423,11 @@ fn every_state_is_copied(rt: HostRuntime) {
         undeliverable_here: Some(true),
         message_annotations: Some(fields(&rt, alloc)),
     };
-    for outcome in [
-        Outcome::Accepted,
-        Outcome::Rejected(rejected(&rt, alloc)),
-        Outcome::Released,
-        Outcome::Modified(modified),
-        Outcome::Declared(Declared { txn_id }),
-    ] {
-        assert_copied(
-            &rt,
-            DeliveryState::from(outcome.try_clone().expect(&rt, "an Ok")),
-        );
-        assert_copied(&rt, under_txn(&rt, Some(outcome)));
-    }
+    copies_outcome(&rt, Outcome::Accepted);
+    copies_outcome(&rt, Outcome::Rejected(rejected(&rt, alloc)));
+    copies_outcome(&rt, Outcome::Released);
+    copies_outcome(&rt, Outcome::Modified(modified));
+    copies_outcome(&rt, Outcome::Declared(Declared { txn_id }));
     let received = DeliveryState::Received {
         section_number: 1,
         section_offset: 2,
@@ -434,33 +435,30 @@ fn every_state_is_copied(rt: HostRuntime) {
     assert_copied(&rt, received)
 }
 
+/// The condition is copied within a list, and within the reason of a stop.
+fn copies_reason(rt: &impl Abort, alloc: Global, condition: ErrorCondition) {
+    let copy = condition.try_clone().expect(rt, "an Ok");
+    let mut conditions = Items::<ErrorCondition>::new(alloc);
+    conditions.append(copy).expect(rt, "an Ok");
+    assert_copied(rt, conditions);
+    let closed = ConnectionStopReason::ClosedWithError(error(rt, alloc, condition));
+    assert_copied(rt, SessionStopReason::from(closed));
+}
+
 #[test]
 fn every_reason_is_copied(rt: HostRuntime) {
     let alloc = rt.alloc();
-    let custom = ErrorCondition::Custom(Symbol::from_str(alloc, "own").expect(&rt, "an Ok"));
-    let mut conditions = Items::<ErrorCondition>::new(alloc);
-    conditions
-        .push(ErrorCondition::AmqpError(AmqpError::NotAllowed))
-        .expect(&rt, "an Ok");
-    conditions
-        .push(ErrorCondition::ConnectionError(ConnectionError::FramingError))
-        .expect(&rt, "an Ok");
-    conditions
-        .push(ErrorCondition::SessionError(SessionError::HandleInUse))
-        .expect(&rt, "an Ok");
-    conditions
-        .push(ErrorCondition::LinkError(LinkError::TransferLimitExceeded))
-        .expect(&rt, "an Ok");
-    conditions
-        .push(ErrorCondition::TransactionError(TransactionError::Timeout))
-        .expect(&rt, "an Ok");
-    conditions.push(custom).expect(&rt, "an Ok");
-    assert_copied(&rt, conditions.try_clone().expect(&rt, "an Ok"));
-    for condition in conditions.into_vec() {
-        let closed = ConnectionStopReason::ClosedWithError(error(&rt, alloc, condition));
-        let stopped = SessionStopReason::from(closed);
-        assert_copied(&rt, stopped);
-    }
+    copies_reason(&rt, alloc, ErrorCondition::AmqpError(AmqpError::NotAllowed));
+    let framing = ErrorCondition::ConnectionError(ConnectionError::FramingError);
+    copies_reason(&rt, alloc, framing);
+    let in_use = ErrorCondition::SessionError(SessionError::HandleInUse);
+    copies_reason(&rt, alloc, in_use);
+    let exceeded = ErrorCondition::LinkError(LinkError::TransferLimitExceeded);
+    copies_reason(&rt, alloc, exceeded);
+    let timeout = ErrorCondition::TransactionError(TransactionError::Timeout);
+    copies_reason(&rt, alloc, timeout);
+    let custom = Symbol::from_str(alloc, "own").expect(&rt, "an Ok");
+    copies_reason(&rt, alloc, ErrorCondition::Custom(custom));
     assert_copied(&rt, ConnectionStopReason::Closed);
     assert_copied(&rt, ConnectionStopReason::RemoteClosed);
     assert_copied(&rt, SessionStopReason::Ended);
@@ -488,56 +486,46 @@ fn every_reason_with_an_error_is_copied(rt: HostRuntime) {
     assert_copied(&rt, End { error: Some(why) })
 }
 
+/// The capability has that symbol.
+fn assert_symbol(rt: &(impl Abort + Alloc<A = Global>), capability: TxnCapability, want: &str) {
+    let symbol = capability.to_symbol(rt.alloc()).expect(rt, "an Ok");
+    assert!(rt; symbol.as_str() == want);
+    leak(symbol);
+}
+
 #[test]
 fn texts_are_those_of_the_standard(rt: HostRuntime) {
-    for (capability, want) in [
-        (TxnCapability::LocalTransactions, "amqp:local-transactions"),
-        (
-            TxnCapability::DistributedTransactions,
-            "amqp:distributed-transactions",
-        ),
-        (
-            TxnCapability::PromotableTransactions,
-            "amqp:promotable-transactions",
-        ),
-        (TxnCapability::MultiTxnsPerSsn, "amqp:multi-txns-per-ssn"),
-        (TxnCapability::MultiSsnsPerTxn, "amqp:multi-ssns-per-txn"),
-    ] {
-        assert_eq!(rt;
-            capability
-                .to_symbol(rt.alloc())
-                .expect(&rt, "an Ok")
-                .as_str(),
-            want
-        );
-    }
+    assert_symbol(
+        &rt,
+        TxnCapability::LocalTransactions,
+        "amqp:local-transactions",
+    );
+    let distributed = TxnCapability::DistributedTransactions;
+    assert_symbol(&rt, distributed, "amqp:distributed-transactions");
+    let promotable = TxnCapability::PromotableTransactions;
+    assert_symbol(&rt, promotable, "amqp:promotable-transactions");
+    assert_symbol(
+        &rt,
+        TxnCapability::MultiTxnsPerSsn,
+        "amqp:multi-txns-per-ssn",
+    );
+    assert_symbol(
+        &rt,
+        TxnCapability::MultiSsnsPerTxn,
+        "amqp:multi-ssns-per-txn",
+    );
 }
 
 #[test]
 fn errors_print_these_texts(rt: HostRuntime) {
     let alloc = rt.alloc();
-    for (text, want) in [
-        (
-            format!(in alloc; "{NoMemory}").expect(&rt, "an Ok"),
-            "out of memory",
-        ),
-        (
-            format!(in alloc; "{IdTooLong}").expect(&rt, "an Ok"),
-            "a transaction id has at most 32 octets",
-        ),
-        (
-            format!(in alloc; "{}", TransactionError::UnknownId).expect(&rt, "an Ok"),
-            "amqp:transaction:unknown-id",
-        ),
-        (
-            format!(in alloc; "{}", TransactionError::Rollback).expect(&rt, "an Ok"),
-            "amqp:transaction:rollback",
-        ),
-        (
-            format!(in alloc; "{}", TransactionError::Timeout).expect(&rt, "an Ok"),
-            "amqp:transaction:timeout",
-        ),
-    ] {
-        assert_eq!(rt; text.as_str(), want);
-    }
+    let standard = [
+        (TransactionError::UnknownId, "amqp:transaction:unknown-id"),
+        (TransactionError::Rollback, "amqp:transaction:rollback"),
+        (TransactionError::Timeout, "amqp:transaction:timeout"),
+    ];
+    assert!(rt; other_text(alloc, standard.as_slice()) == Ok(None));
+    assert!(rt; reads(alloc, &NoMemory, "out of memory") == Ok(true));
+    let too_long = "a transaction id has at most 32 octets";
+    assert!(rt; reads(alloc, &IdTooLong, too_long) == Ok(true));
 }

@@ -38,7 +38,7 @@ fn declares_are_read_in_every_form(rt: HostRuntime) {
         b"\x00\xa3\x10amqp:header:list\xd0\x00\x00\x00\x05\x00\x00\x00\x01A\x00\xa3\x11amqp:amqp-value:*\x00S\x31E\x00\xa3\x0famqp:footer:map\xd1\x00\x00\x00\x0f\x00\x00\x00\x02\xa3\x07x-opt-fU\x01",
     ];
     for octets in spellings {
-        assert_eq!(rt; decode(octets), Ok(declare()), "at {octets:?}");
+        assert!(rt; decode(octets) == Ok(declare()), "at {octets:?}");
     }
 }
 
@@ -49,7 +49,7 @@ fn a_global_id_is_read(rt: HostRuntime) {
         b"\x00SpE\x00SsE\x00Sw\x00S\x31\xd0\x00\x00\x00\x0e\x00\x00\x00\x01\xa0\x08global-\x31";
     let global_id = Some(TransactionId::new(b"global-1").expect(&rt, "an Ok"));
     let message = ControlMessageBody::Declare(Declare { global_id });
-    assert_eq!(rt; decode(octets), Ok(message));
+    assert!(rt; decode(octets) == Ok(message));
 }
 
 fn reads_discharge(
@@ -59,7 +59,7 @@ fn reads_discharge(
     fail: Option<bool>,
 ) -> Result<(), IdTooLong> {
     let message = discharge(id, fail)?;
-    assert_eq!(rt; decode(octets), Ok(message), "at {octets:?}");
+    assert!(rt; decode(octets) == Ok(message), "at {octets:?}");
     Ok(())
 }
 
@@ -172,7 +172,7 @@ fn other_octets_are_refused(rt: HostRuntime) {
         b"\x00SpE\x00SsE\x00Sw\x00\xa3\x13amqp:discharge:list\xd0\x00\x00\x00\x18\x00\x00\x00\x02\xa0\x10\x00\x00\x00\x00\x00\x00\x00\x00\x00\x00\x00\x00\x00\x00\x00\x01U\x01",
     ];
     for octets in others {
-        assert_eq!(rt; decode(octets), Err(NotControl), "at {octets:?}");
+        assert!(rt; decode(octets) == Err(NotControl), "at {octets:?}");
     }
 }
 
@@ -183,27 +183,26 @@ fn the_canonical_spelling_is_written(rt: HostRuntime) {
     let fail = Some(true);
     let message = ControlMessageBody::Discharge(Discharge { txn_id, fail });
     let payload = message.encode(rt.alloc()).expect(&rt, "an Ok");
-    assert_eq!(rt; payload.as_slice(), spelling.as_slice());
+    assert!(rt; payload.as_slice() == spelling.as_slice());
     let mut out = [9; 64];
     let len = message.encode_into(&mut out);
-    assert_eq!(rt; &out[..len], spelling.as_slice());
+    assert!(rt; &out[..len] == spelling.as_slice());
 }
 
 fn only_the_whole_is_read(rt: &(impl Abort + Alloc<A = Global>), message: ControlMessageBody) {
     let payload = message.encode(rt.alloc()).expect(rt, "an Ok");
     let spelling = payload.as_slice();
-    assert_eq!(rt; decode(spelling), Ok(message));
+    assert!(rt; decode(spelling) == Ok(message));
     for end in 0..spelling.len() {
-        assert_eq!(rt;
-            decode(&spelling[..end]),
-            Err(NotControl),
+        assert!(rt;
+            decode(&spelling[..end]) == Err(NotControl),
             "at {end} of {spelling:?}"
         );
     }
     let mut longer = Vec::new(rt.alloc());
     longer.extend_from_slice(spelling).expect(rt, "an Ok");
     longer.push(0x40).expect(rt, "an Ok");
-    assert_eq!(rt; decode(longer.as_slice()), Err(NotControl));
+    assert!(rt; decode(longer.as_slice()) == Err(NotControl));
 }
 
 #[test]
@@ -223,40 +222,40 @@ fn only_the_whole_canonical_spelling_is_read(rt: HostRuntime) {
 #[test]
 fn an_octet_more_and_a_longer_id_are_no_message(rt: HostRuntime) {
     let more = b"\x00Sw\x00S\x32\xc0\x07\x02\xa0\x03\x01\x02\x03A\x00";
-    assert_eq!(rt; decode(more), Err(NotControl));
+    assert!(rt; decode(more) == Err(NotControl));
     let mut longer = Vec::new(rt.alloc());
     longer
         .extend_from_slice(b"\x00Sw\x00S\x32\xc0\x24\x01\xa0\x21")
         .expect(&rt, "an Ok");
     longer.extend_from_slice(&[0x11; 33]).expect(&rt, "an Ok");
-    assert_eq!(rt; decode(longer.as_slice()), Err(NotControl));
+    assert!(rt; decode(longer.as_slice()) == Err(NotControl));
 }
 
 #[test]
 fn a_value_is_skipped(rt: HostRuntime) {
     // A list of two octets between others, and a described value.
-    assert_eq!(rt; skip_value(b"\x01\xc0\x02\x01\x40\x99", 1), Some(5));
-    assert_eq!(rt; skip_value(b"\x00\x53\x07\xa1\x01\x61", 0), Some(6));
-    assert_eq!(rt; skip_value(b"\x00\x53\x07\xa1\x02\x61", 0), None);
-    assert_eq!(rt; skip_value(b"\x3f", 0), None);
+    assert!(rt; skip_value(b"\x01\xc0\x02\x01\x40\x99", 1) == Some(5));
+    assert!(rt; skip_value(b"\x00\x53\x07\xa1\x01\x61", 0) == Some(6));
+    assert!(rt; skip_value(b"\x00\x53\x07\xa1\x02\x61", 0) == None);
+    assert!(rt; skip_value(b"\x3f", 0) == None);
 }
 
 #[test]
 fn values_within_values_are_read_at_once(rt: HostRuntime) {
     // Each of 400,000 constructors 0 wants two values, and 400,001 nulls are all of them.
     let mut value = vec![in rt.alloc(); 0; 400_000].expect(&rt, "an Ok");
-    assert_eq!(rt; skip_value(value.as_slice(), 0), None);
+    assert!(rt; skip_value(value.as_slice(), 0) == None);
     let mut header = Vec::new(rt.alloc());
     header.extend_from_slice(b"\x00Sp").expect(&rt, "an Ok");
     header
         .extend_from_slice(value.as_slice())
         .expect(&rt, "an Ok");
-    assert_eq!(rt; decode(header.as_slice()), Err(NotControl));
+    assert!(rt; decode(header.as_slice()) == Err(NotControl));
     let nulls = vec![in rt.alloc(); 0x40; 400_001].expect(&rt, "an Ok");
     value
         .extend_from_slice(nulls.as_slice())
         .expect(&rt, "an Ok");
-    assert_eq!(rt; skip_value(value.as_slice(), 0), Some(800_001));
+    assert!(rt; skip_value(value.as_slice(), 0) == Some(800_001));
     let mut octets = Vec::new(rt.alloc());
     octets.extend_from_slice(b"\x00Sp").expect(&rt, "an Ok");
     octets
@@ -265,11 +264,11 @@ fn values_within_values_are_read_at_once(rt: HostRuntime) {
     octets
         .extend_from_slice(b"\x00Sw\x00S\x31E")
         .expect(&rt, "an Ok");
-    assert_eq!(rt; decode(octets.as_slice()), Ok(declare()));
+    assert!(rt; decode(octets.as_slice()) == Ok(declare()));
 }
 
 #[test]
 fn the_error_says_what_is_wrong(rt: HostRuntime) {
     let text = format!(in rt.alloc(); "{NotControl}").expect(&rt, "an Ok");
-    assert_eq!(rt; text.as_str(), "the octets are no control message");
+    assert!(rt; text.as_str() == "the octets are no control message");
 }
