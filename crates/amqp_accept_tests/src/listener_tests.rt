@@ -8,12 +8,15 @@ use amqp_below_sessions::{
     AllocLinkError, AllocTxnIdError, HandleDeclare, HandleDischarge, ListenerSessionEndpoint,
     NameState, PlainSession, Session,
 };
-use amqp_test_values::{control_attach, flow, plain_session, refuses, relay, sender_attach};
+use amqp_test_values::{
+    control_attach, flow, gives, leak, plain_session, refuses, relay, sender_attach,
+};
 use amqp_txn_types::{
-    Flow, Frames, Handle, InputHandle, OutputHandle, Role, SessionState, SessionStopReason, Text,
-    TransactionError, TransactionId,
+    Attach, Flow, Frames, Handle, InputHandle, OutputHandle, Role, SessionState, SessionStopReason,
+    Text, TransactionError, TransactionId,
 };
 use std::alloc::Global;
+use std::process::Abort;
 
 /// A listener over a mapped session without links.
 pub fn listener(alloc: Global) -> ListenerSession<PlainSession> {
@@ -29,106 +32,134 @@ fn granting(handle: u32, credit: u32) -> Flow {
 }
 
 /// Whether the answer is an Ok with this many frames.
-fn gives(answer: Result<Frames, SessionInnerError>, count: usize) -> bool {
-    match answer {
+pub fn gives_frames(answer: Result<Frames, SessionInnerError>, count: usize) -> bool {
+    let found = match &answer {
         Ok(given) => given.len() == count,
-        Err(error) => {
-            drop(error);
-            false
-        }
-    }
+        Err(_) => false,
+    };
+    leak(answer);
+    found
+}
+
+/// Whether there is none.
+pub fn is_none<T>(value: Option<T>) -> bool {
+    let none = value.is_none();
+    leak(value);
+    none
+}
+
+fn name(rt: &impl Abort, alloc: Global, name: &str) -> Text {
+    Text::from_str(alloc, name).expect(rt, "an Ok")
 }
 
 /// The peer attaches a link.
-fn attach_to(
+fn attach_to<S: LayerBelow>(
+    rt: &impl Abort,
     alloc: Global,
-    listener: &mut ListenerSession<PlainSession>,
-    name: &str,
+    session: &mut S,
+    link: &str,
 ) -> Result<Frames, SessionInnerError> {
-    match Text::from_str(alloc, name) {
-        Ok(name) => listener.on_incoming_attach(sender_attach(name, 5, None)),
-        Err(_) => Err(SessionInnerError::NoMemory),
-    }
+    session.on_incoming_attach(sender_attach(name(rt, alloc, link), 5, None))
 }
 
 /// The peer attaches the control link "c".
-fn attach_control(
+fn attach_control<S: LayerBelow>(
+    rt: &impl Abort,
     alloc: Global,
-    listener: &mut ListenerSession<PlainSession>,
+    session: &mut S,
 ) -> Result<Frames, SessionInnerError> {
-    match Text::from_str(alloc, "c") {
-        Ok(name) => listener.on_control_attach(&control_attach(name, 3)),
-        Err(_) => Err(SessionInnerError::NoMemory),
-    }
+    let attach = control_attach(name(rt, alloc, "c"), 3);
+    let answer = session.on_control_attach(&attach);
+    leak(attach);
+    answer
+}
+
+/// What an attach to a control link is answered.
+fn hears_control<S: LayerBelow>(
+    session: &mut S,
+    attach: &Attach,
+) -> Result<Frames, SessionInnerError> {
+    session.on_control_attach(attach)
+}
+
+/// Whether a flow of that credit for the handle is an Ok without frames.
+fn grants<S: LayerBelow>(session: &mut S, handle: u32, credit: u32) -> bool {
+    gives_frames(session.on_incoming_flow(granting(handle, credit)), 0)
 }
 
 /// Whether the next attach that waits is of this name.
-fn is_next(listener: &mut ListenerSession<PlainSession>, name: &str) -> bool {
-    match listener.next_attach() {
-        None => false,
+pub fn is_next<E: ListenerSessionEndpoint>(session: &mut E, name: &str) -> bool {
+    let next = session.next_attach();
+    let same = match &next {
         Some(attach) => attach.name.as_str() == name,
-    }
+        None => false,
+    };
+    leak(next);
+    same
 }
 
 /// Whether no attach waits.
-fn none_waits(listener: &mut ListenerSession<PlainSession>) -> bool {
-    listener.next_attach().is_none()
+pub fn none_waits<E: ListenerSessionEndpoint>(session: &mut E) -> bool {
+    is_none(session.next_attach())
+}
+
+/// Closes the queue.
+pub fn close<E: ListenerSessionEndpoint>(session: &mut E) {
+    session.close_listener();
+}
+
+/// Whether the queue is closed.
+pub fn is_closed<E: ListenerSessionEndpoint>(session: &E) -> bool {
+    session.listener_closed()
+}
+
+/// Keeps the reason why the session stopped.
+pub fn stop<S: Session>(session: &mut S, reason: SessionStopReason) {
+    session.set_session_stop_reason(reason);
 }
 
 /// Whether the name is known so.
-fn is_known(
+fn is_known<S: Session>(
+    rt: &impl Abort,
     alloc: Global,
-    listener: &ListenerSession<PlainSession>,
-    name: &str,
+    session: &S,
+    link: &str,
     state: NameState,
 ) -> bool {
-    match Text::from_str(alloc, name) {
-        Ok(name) => listener.name_state(&name) == state,
-        Err(_) => false,
-    }
+    let link = name(rt, alloc, link);
+    let known = session.name_state(&link);
+    leak(link);
+    known == state
 }
 
 /// Allocates a link of this side.
-fn allocate(
+fn allocate<S: Session>(
+    rt: &impl Abort,
     alloc: Global,
-    listener: &mut ListenerSession<PlainSession>,
-    name: &str,
+    session: &mut S,
+    link: &str,
 ) -> Result<OutputHandle, AllocLinkError> {
-    match Text::from_str(alloc, name) {
-        Ok(name) => listener.allocate_link(name, relay(alloc, Role::Sender)),
-        Err(_) => Err(AllocLinkError::NoMemory),
-    }
+    session.allocate_link(name(rt, alloc, link), relay(alloc, Role::Sender))
 }
 
 /// Allocates a link that the peer attached on handle 5.
-fn allocate_incoming(
+fn allocate_incoming<S: Session>(
+    rt: &impl Abort,
     alloc: Global,
-    listener: &mut ListenerSession<PlainSession>,
-    name: &str,
+    session: &mut S,
+    link: &str,
 ) -> Result<OutputHandle, AllocLinkError> {
-    match Text::from_str(alloc, name) {
-        Ok(name) => {
-            listener.allocate_incoming_link(name, relay(alloc, Role::Sender), InputHandle(5))
-        }
-        Err(_) => Err(AllocLinkError::NoMemory),
-    }
+    let relay = relay(alloc, Role::Sender);
+    session.allocate_incoming_link(name(rt, alloc, link), relay, InputHandle(5))
 }
 
-/// Whether two flows were passed on to a link that was allocated, with these credits.
-fn has_credits(
-    listener: &ListenerSession<PlainSession>,
-    allocated: Result<OutputHandle, AllocLinkError>,
-    first: u32,
-    second: u32,
-) -> bool {
-    let Ok(output) = allocated else {
-        return false;
-    };
-    let Some(relay) = listener.session().relay(output) else {
+/// Whether two flows were passed on to a link, with these credits.
+fn has_credits(session: &PlainSession, output: OutputHandle, first: u32, second: u32) -> bool {
+    let Some(relay) = session.relay(output) else {
         return false;
     };
     match relay.flows.as_slice() {
-        [one, other] => { one.link_credit == Some(first) && other.link_credit == Some(second) }
+        [one, other] => one.link_credit == Some(first) && other.link_credit == Some(second),
         _ => false,
     }
 }
@@ -137,101 +168,112 @@ fn has_credits(
 fn attaches_wait_in_order(rt: HostRuntime) {
     let alloc = rt.alloc();
     let mut listener = listener(alloc);
-    assert!(rt; gives(attach_to(alloc, &mut listener, "a"), 0));
-    assert!(rt; gives(attach_to(alloc, &mut listener, "b"), 0));
+    assert!(rt; gives_frames(attach_to(&rt, alloc, &mut listener, "a"), 0));
+    assert!(rt; gives_frames(attach_to(&rt, alloc, &mut listener, "b"), 0));
     assert!(rt; is_next(&mut listener, "a"));
     assert!(rt; is_next(&mut listener, "b"));
     assert!(rt; none_waits(&mut listener));
-    assert!(rt; !listener.listener_closed());
-    drop(listener);
+    assert!(rt; !is_closed(&listener));
+    leak(listener);
 }
 
 #[test]
 fn a_closed_queue_refuses_by_the_name(rt: HostRuntime) {
     let alloc = rt.alloc();
     let mut listener = listener(alloc);
-    assert!(rt; allocate_incoming(alloc, &mut listener, "a") == Ok(OutputHandle(0)));
-    listener.close_listener();
-    assert!(rt; listener.listener_closed());
-    let taken = attach_to(alloc, &mut listener, "a");
+    assert!(rt;
+        gives(
+            allocate_incoming(&rt, alloc, &mut listener, "a"),
+            OutputHandle(0)
+        )
+    );
+    close(&mut listener);
+    assert!(rt; is_closed(&listener));
+    let taken = attach_to(&rt, alloc, &mut listener, "a");
     assert!(rt; refuses(taken, SessionInnerError::HandleInUse));
-    let unknown = attach_to(alloc, &mut listener, "b");
+    let unknown = attach_to(&rt, alloc, &mut listener, "b");
     assert!(rt; refuses(unknown, SessionInnerError::UnattachedHandle));
-    drop(listener);
+    leak(listener);
 }
 
 #[test]
 fn an_attach_that_is_waited_for_passes_the_queue(rt: HostRuntime) {
     let alloc = rt.alloc();
     let mut listener = listener(alloc);
-    assert!(rt; allocate(alloc, &mut listener, "a") == Ok(OutputHandle(0)));
-    assert!(rt; gives(attach_to(alloc, &mut listener, "a"), 0));
-    assert!(rt; is_known(alloc, &listener, "a", NameState::Taken));
+    assert!(rt; gives(allocate(&rt, alloc, &mut listener, "a"), OutputHandle(0)));
+    assert!(rt; gives_frames(attach_to(&rt, alloc, &mut listener, "a"), 0));
+    assert!(rt; is_known(&rt, alloc, &listener, "a", NameState::Taken));
     assert!(rt; none_waits(&mut listener));
-    drop(listener);
+    leak(listener);
 }
 
 #[test]
 fn held_flows_are_replayed_in_order(rt: HostRuntime) {
     let alloc = rt.alloc();
     let mut listener = listener(alloc);
-    assert!(rt; gives(listener.on_incoming_flow(granting(5, 1)), 0));
-    assert!(rt; gives(listener.on_incoming_flow(granting(6, 9)), 0));
-    assert!(rt; gives(listener.on_incoming_flow(granting(5, 2)), 0));
-    let allocated = allocate_incoming(alloc, &mut listener, "a");
-    assert!(rt; has_credits(&listener, allocated, 1, 2));
-    drop(listener);
+    assert!(rt; grants(&mut listener, 5, 1));
+    assert!(rt; grants(&mut listener, 6, 9));
+    assert!(rt; grants(&mut listener, 5, 2));
+    let allocated = allocate_incoming(&rt, alloc, &mut listener, "a");
+    let output = allocated.expect(&rt, "an Ok");
+    assert!(rt; has_credits(listener.session(), output, 1, 2));
+    leak(listener);
 }
 
 #[test]
 fn held_flows_stay_where_the_link_is_refused(rt: HostRuntime) {
     let alloc = rt.alloc();
     let mut listener = listener(alloc);
-    assert!(rt; allocate(alloc, &mut listener, "a") == Ok(OutputHandle(0)));
-    assert!(rt; gives(listener.on_incoming_flow(granting(5, 1)), 0));
-    assert!(rt; gives(listener.on_incoming_flow(granting(5, 2)), 0));
-    let refused = allocate_incoming(alloc, &mut listener, "a");
+    assert!(rt; gives(allocate(&rt, alloc, &mut listener, "a"), OutputHandle(0)));
+    assert!(rt; grants(&mut listener, 5, 1));
+    assert!(rt; grants(&mut listener, 5, 2));
+    let refused = allocate_incoming(&rt, alloc, &mut listener, "a");
     assert!(rt; refuses(refused, AllocLinkError::DuplicatedLinkName));
-    let allocated = allocate_incoming(alloc, &mut listener, "b");
-    assert!(rt; has_credits(&listener, allocated, 1, 2));
-    drop(listener);
+    let allocated = allocate_incoming(&rt, alloc, &mut listener, "b");
+    let output = allocated.expect(&rt, "an Ok");
+    assert!(rt; has_credits(listener.session(), output, 1, 2));
+    leak(listener);
 }
 
 #[test]
 fn a_control_link_is_answered(rt: HostRuntime) {
     let alloc = rt.alloc();
     let mut listener = listener(alloc);
-    assert!(rt; gives(attach_control(alloc, &mut listener), 2));
-    let again = attach_control(alloc, &mut listener);
+    assert!(rt; gives_frames(attach_control(&rt, alloc, &mut listener), 2));
+    let again = attach_control(&rt, alloc, &mut listener);
     assert!(rt; refuses(again, SessionInnerError::HandleInUse));
-    listener.set_session_stop_reason(SessionStopReason::Ended);
-    let stopped = attach_control(alloc, &mut listener);
+    stop(&mut listener, SessionStopReason::Ended);
+    let stopped = attach_control(&rt, alloc, &mut listener);
     assert!(rt; refuses(stopped, SessionInnerError::IllegalState));
-    drop(listener);
+    leak(listener);
 }
 
 #[test]
 fn a_link_to_no_coordinator_is_no_control_link(rt: HostRuntime) {
     let alloc = rt.alloc();
     let mut listener = listener(alloc);
-    let name = Text::from_str(alloc, "c").expect(&rt, "an Ok");
-    let attach = sender_attach(name, 5, None);
-    let answer = listener.on_control_attach(&attach);
-    drop(attach);
+    let attach = sender_attach(name(&rt, alloc, "c"), 5, None);
+    let answer = hears_control(&mut listener, &attach);
+    leak(attach);
     assert!(rt; refuses(answer, SessionInnerError::IllegalState));
-    assert!(rt; is_known(alloc, &listener, "c", NameState::Unknown));
-    assert!(rt; gives(attach_control(alloc, &mut listener), 2));
-    drop(listener);
+    assert!(rt; is_known(&rt, alloc, &listener, "c", NameState::Unknown));
+    assert!(rt; gives_frames(attach_control(&rt, alloc, &mut listener), 2));
+    leak(listener);
+}
+
+/// Each call for a transaction is refused.
+fn does_no_transactions<S: HandleDeclare + HandleDischarge>(rt: &impl Abort, session: &mut S) {
+    let id = TransactionId::from([7; 16]);
+    let allocated = session.allocate_transaction_id(&mut CountIds::new());
+    assert!(rt; refuses(allocated, AllocTxnIdError::NotImplemented));
+    let unknown = TransactionError::UnknownId;
+    assert!(rt; gives(session.commit_transaction(&id), Err(unknown)));
+    assert!(rt; refuses(session.rollback_transaction(&id), unknown));
 }
 
 #[test]
 fn a_listener_does_no_transactions(rt: HostRuntime) {
     let mut listener = listener(rt.alloc());
-    let id = TransactionId::from([7; 16]);
-    let allocated = listener.allocate_transaction_id(&mut CountIds::new());
-    assert!(rt; refuses(allocated, AllocTxnIdError::NotImplemented));
-    let unknown = TransactionError::UnknownId;
-    assert!(rt; listener.commit_transaction(&id) == Ok(Err(unknown)));
-    assert!(rt; listener.rollback_transaction(&id) == Err(unknown));
-    drop(listener);
+    does_no_transactions(&rt, &mut listener);
+    leak(listener);
 }

@@ -1,12 +1,13 @@
 //! Links that are accepted, and those that aren't.
 
 use crate::link_tests::test_values::{
-    accept, are_frames, control_attach, control_reply, frames_of, granted, reply, same,
-    sender_attach, session,
+    accept, are_frames, control_attach, control_reply, frames_of, granted, reply, sender_attach,
+    session,
 };
 use amqp_accept_links::*;
 use amqp_below_layer::SessionInnerError;
 use amqp_below_sessions::{NameState, ReceiverAttachError, Session};
+use amqp_test_values::{error_of, leak, same, value_of};
 use amqp_txn_types::{
     Attach, Coordinator, Frames, Role, SessionState, SessionStopReason, Text, is_coordinator,
 };
@@ -35,9 +36,9 @@ fn control_answer(
     let acceptor = ControlLinkAcceptor::builder().build();
     let answer = accept_control(alloc, &acceptor, &remote, &mut session);
     let known = session.name_state(&Text::new(alloc));
-    drop(session);
-    drop(acceptor);
-    drop(remote);
+    leak(session);
+    leak(acceptor);
+    leak(remote);
     (answer, known)
 }
 
@@ -45,16 +46,16 @@ fn control_answer(
 fn a_control_link_is_accepted(rt: HostRuntime) {
     let alloc = rt.alloc();
     let (answer, known) = control_answer(alloc, SessionState::Mapped);
-    assert_eq!(rt; known, NameState::Taken);
-    assert!(rt; are_frames(answer.ok(), control_reply(alloc), Some(granted(200))));
+    assert!(rt; known == NameState::Taken);
+    assert!(rt; are_frames(value_of(answer), control_reply(alloc), Some(granted(200))));
 }
 
 #[test]
 fn a_refused_flow_frees_the_link(rt: HostRuntime) {
     let (answer, known) = control_answer(rt.alloc(), SessionState::Unmapped);
-    assert_eq!(rt; known, NameState::Unknown);
+    assert!(rt; known == NameState::Unknown);
     let refused = ReceiverAttachError::Session(SessionInnerError::IllegalState);
-    assert!(rt; same(answer.err(), Some(refused)));
+    assert!(rt; same(error_of(answer), Some(refused)));
 }
 
 #[test]
@@ -64,7 +65,7 @@ fn a_local_receiver_is_accepted(rt: HostRuntime) {
         .credit_mode(CreditMode::Auto(3))
         .build();
     let frames = frames_of(alloc, &acceptor, sender_attach(alloc));
-    drop(acceptor);
+    leak(acceptor);
     assert!(rt; are_frames(frames, reply(alloc, Role::Receiver), Some(granted(3))));
 }
 
@@ -77,10 +78,19 @@ fn accept_inner<S: Session, T: TargetKind>(
 ) -> Result<Frames, ReceiverAttachError> {
     let shared = SharedLinkAcceptorFields::default();
     let answer = receiver.accept_incoming_attach_inner(alloc, &shared, remote, session);
-    drop(shared);
-    let (wire, frames) = answer?;
-    drop(wire);
-    Ok(frames)
+    leak(shared);
+    frames_of_wire(answer)
+}
+
+/// The second of an Ok.
+fn frames_of_wire<T, E>(answer: Result<(T, Frames), E>) -> Result<Frames, E> {
+    match answer {
+        Ok((wire, frames)) => {
+            leak(wire);
+            Ok(frames)
+        }
+        Err(error) => Err(error),
+    }
 }
 
 /// What the default receiver of control links answers over a mapped session.
@@ -89,22 +99,22 @@ fn inner_answer(alloc: Global, remote: Attach) -> Result<Frames, ReceiverAttachE
         LocalReceiverLinkAcceptor::default();
     let mut session = session(alloc, SessionState::Mapped);
     let answer = accept_inner(alloc, &receiver, remote, &mut session);
-    drop(session);
-    drop(receiver);
+    leak(session);
+    leak(receiver);
     answer
 }
 
 #[test]
 fn a_local_receiver_of_control_links_is_accepted(rt: HostRuntime) {
     let alloc = rt.alloc();
-    let frames = inner_answer(alloc, control_attach(alloc)).ok();
+    let frames = value_of(inner_answer(alloc, control_attach(alloc)));
     assert!(rt; are_frames(frames, control_reply(alloc), Some(granted(200))));
 }
 
 #[test]
 fn a_local_receiver_of_another_kind_is_not(rt: HostRuntime) {
     let alloc = rt.alloc();
-    let refused = inner_answer(alloc, sender_attach(alloc)).err();
+    let refused = error_of(inner_answer(alloc, sender_attach(alloc)));
     assert!(rt;
         same(
             refused,
@@ -126,9 +136,9 @@ fn refusal_of(
     }
     let acceptor = LinkAcceptor::new();
     let answer = accept(alloc, &acceptor, remote, &mut session);
-    drop(session);
-    drop(acceptor);
-    answer.err()
+    leak(session);
+    leak(acceptor);
+    error_of(answer)
 }
 
 #[test]

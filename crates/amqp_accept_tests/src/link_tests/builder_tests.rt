@@ -1,18 +1,23 @@
 //! Each setter of the builders once, and copies of what they build.
 
-use crate::link_tests::test_values::symbols;
+use crate::link_tests::test_values::{set, symbols};
 use amqp_accept_links::*;
+use amqp_test_values::leak;
 use amqp_txn_types::{Fields, ReceiverSettleMode, SenderSettleMode, TryClone};
 
 /// Whether the value is the wanted one, and its copy too.
-fn is_copied<T: TryClone + PartialEq + Drop>(found: T, wanted: T) -> bool {
+fn is_copied<T: TryClone + PartialEq>(found: T, wanted: T) -> bool {
     let copied = match found.try_clone() {
-        Ok(copy) => copy == wanted,
+        Ok(copy) => {
+            let equal = copy == wanted;
+            leak(copy);
+            equal
+        }
         Err(_) => false,
     };
     let equal = found == wanted;
-    drop(found);
-    drop(wanted);
+    leak(found);
+    leak(wanted);
     copied && equal
 }
 
@@ -28,9 +33,9 @@ fn modes_are_built(rt: HostRuntime) {
     let receiver = acceptor
         .shared
         .receiver_mode_for(ReceiverSettleMode::Second);
-    drop(acceptor);
-    assert_eq!(rt; sender, SenderSettleMode::Settled);
-    assert_eq!(rt; receiver, ReceiverSettleMode::Second);
+    leak(acceptor);
+    assert!(rt; sender == SenderSettleMode::Settled);
+    assert!(rt; receiver == ReceiverSettleMode::Second);
 }
 
 #[test]
@@ -38,16 +43,22 @@ fn shared_fields_are_built(rt: HostRuntime) {
     let alloc = rt.alloc();
     let acceptor = ControlLinkAcceptor::builder()
         .max_message_size(1)
-        .offered_capabilities(symbols(alloc, "o"))
-        .desired_capabilities(symbols(alloc, "d"))
+        .offered_capabilities(symbols(&rt, alloc, "o"))
+        .desired_capabilities(symbols(&rt, alloc, "d"))
         .properties(Fields::new(alloc))
         .buffer_size(2)
         .build();
     let mut wanted = SharedLinkAcceptorFields::default();
     wanted.max_message_size = Some(1);
-    wanted.offered_capabilities = Some(symbols(alloc, "o"));
-    wanted.desired_capabilities = Some(symbols(alloc, "d"));
-    wanted.properties = Some(Fields::new(alloc));
+    set(
+        &mut wanted.offered_capabilities,
+        Some(symbols(&rt, alloc, "o")),
+    );
+    set(
+        &mut wanted.desired_capabilities,
+        Some(symbols(&rt, alloc, "d")),
+    );
+    set(&mut wanted.properties, Some(Fields::new(alloc)));
     wanted.buffer_size = 2;
     assert!(rt; is_copied(acceptor.shared, wanted));
 }
@@ -57,14 +68,17 @@ fn control_receivers_are_built(rt: HostRuntime) {
     let alloc = rt.alloc();
     let acceptor = ControlLinkAcceptor::builder()
         .credit_mode(CreditMode::Manual)
-        .target_capabilities(symbols(alloc, "t"))
+        .target_capabilities(symbols(&rt, alloc, "t"))
         .auto_accept(true)
         .verify_incoming_source(false)
         .verify_incoming_target(false)
         .build();
     let mut wanted = ControlLinkAcceptor::default();
     wanted.receiver.credit_mode = CreditMode::Manual;
-    wanted.receiver.target_capabilities = Some(symbols(alloc, "t"));
+    set(
+        &mut wanted.receiver.target_capabilities,
+        Some(symbols(&rt, alloc, "t")),
+    );
     wanted.receiver.auto_accept = true;
     wanted.receiver.verify_incoming_source = false;
     wanted.receiver.verify_incoming_target = false;
@@ -77,16 +91,22 @@ fn local_ends_are_built(rt: HostRuntime) {
     let acceptor = LinkAcceptor::new()
         .into_builder()
         .initial_delivery_count(1)
-        .source_capabilities(symbols(alloc, "s"))
+        .source_capabilities(symbols(&rt, alloc, "s"))
         .credit_mode(CreditMode::Manual)
-        .target_capabilities(symbols(alloc, "t"))
+        .target_capabilities(symbols(&rt, alloc, "t"))
         .auto_accept(true)
         .build();
     let mut wanted = LinkAcceptor::default();
     wanted.local_sender_acceptor.initial_delivery_count = 1;
-    wanted.local_sender_acceptor.source_capabilities = Some(symbols(alloc, "s"));
+    set(
+        &mut wanted.local_sender_acceptor.source_capabilities,
+        Some(symbols(&rt, alloc, "s")),
+    );
     wanted.local_receiver_acceptor.credit_mode = CreditMode::Manual;
-    wanted.local_receiver_acceptor.target_capabilities = Some(symbols(alloc, "t"));
+    set(
+        &mut wanted.local_receiver_acceptor.target_capabilities,
+        Some(symbols(&rt, alloc, "t")),
+    );
     wanted.local_receiver_acceptor.auto_accept = true;
     assert!(rt; is_copied(acceptor, wanted));
 }
@@ -101,7 +121,7 @@ fn verification_is_built_for_both_ends(rt: HostRuntime) {
     let verifies_at_sender = sender.verify_incoming_source || sender.verify_incoming_target;
     let receiver = &acceptor.local_receiver_acceptor;
     let verifies_at_receiver = receiver.verify_incoming_source || receiver.verify_incoming_target;
-    drop(acceptor);
+    leak(acceptor);
     assert!(rt; !verifies_at_sender);
     assert!(rt; !verifies_at_receiver);
 }

@@ -1,23 +1,24 @@
 //! Nodes that the peer wants to be made.
 
 use crate::link_tests::test_values::{
-    are_frames, dynamic_attach, dynamic_target_attach, frames_of, granted, reply, symbols,
+    are_frames, dynamic_attach, dynamic_target_attach, frames_of, granted, reply, set, symbols,
 };
 use amqp_accept_links::*;
+use amqp_test_values::leak;
 use amqp_txn_types::{Attach, Role, Source, Target};
 use std::alloc::Global;
 
 /// The attach that accepts a link without its node.
 fn nodeless_reply(alloc: Global) -> Attach {
     let mut wanted = reply(alloc, Role::Sender);
-    wanted.source = None;
+    set(&mut wanted.source, None);
     wanted
 }
 
 #[test]
 fn a_closure_is_asked_for_a_node(rt: HostRuntime) {
     let alloc = rt.alloc();
-    let known = symbols(alloc, "a");
+    let known = symbols(&rt, alloc, "a");
     let ask = Ask::new(|source: Source| {
         if known.is_empty() {
             return None;
@@ -36,7 +37,7 @@ fn a_closure_is_asked_for_a_node(rt: HostRuntime) {
 fn a_link_without_its_node_is_accepted(rt: HostRuntime) {
     let alloc = rt.alloc();
     let ask = Ask::new(|source: Source| {
-        drop(source);
+        leak(source);
         None
     });
     let acceptor = LinkAcceptor::builder().on_dynamic_source(ask).build();

@@ -2,20 +2,14 @@
 
 use amqp_accept_links::*;
 use amqp_below_sessions::{PlainSession, Session};
-use amqp_test_values::begin;
+use amqp_test_values::{begin, leak};
 use amqp_txn_types::{
     Attach, Coordinator, Flow, Frame, Frames, Handle, OutgoingChannel, ReceiverSettleMode, Role,
     SenderSettleMode, SessionState, Source, Symbol, Symbols, Target, TargetArchetype, Text,
 };
 use std::alloc::Global;
-
-/// Whether the two are equal. It says nothing of them, so that no proof of a test looks into them.
-pub fn same<T: PartialEq + Drop>(found: T, wanted: T) -> bool {
-    let equal = found == wanted;
-    drop(found);
-    drop(wanted);
-    equal
-}
+use std::mem::replace;
+use std::process::Abort;
 
 pub fn session(alloc: Global, state: SessionState) -> PlainSession {
     PlainSession::new(alloc, OutgoingChannel(0), state, begin(7))
@@ -89,10 +83,16 @@ pub fn reply(alloc: Global, role: Role) -> Attach {
     reply
 }
 
+/// Puts the value in that place.
+pub fn set<T>(place: &mut T, value: T) {
+    leak(replace(place, value));
+}
+
 /// The attach that answers that of a control link, under output handle 0.
 pub fn control_reply(alloc: Global) -> Attach {
     let mut reply = reply(alloc, Role::Receiver);
-    reply.target = Some(TargetArchetype::Coordinator(Coordinator::default()));
+    let coordinator = TargetArchetype::Coordinator(Coordinator::default());
+    set(&mut reply.target, Some(coordinator));
     reply
 }
 
@@ -129,18 +129,17 @@ pub fn are_frames(found: Option<Frames>, reply: Attach, flow: Option<Flow>) -> b
         Some(frames) => are_equal(frames.as_slice(), &reply, &flow),
         None => false,
     };
-    drop(found);
-    drop(reply);
-    drop(flow);
+    leak(found);
+    leak(reply);
+    leak(flow);
     equal
 }
 
 /// A list of one symbol.
-pub fn symbols(alloc: Global, word: &str) -> Symbols {
+pub fn symbols(rt: &impl Abort, alloc: Global, word: &str) -> Symbols {
     let mut symbols = Symbols::new(alloc);
-    if let Ok(symbol) = Symbol::from_str(alloc, word) {
-        drop(symbols.append(symbol));
-    }
+    let symbol = Symbol::from_str(alloc, word).expect(rt, "an Ok");
+    symbols.append(symbol).expect(rt, "an Ok");
     symbols
 }
 
@@ -176,8 +175,20 @@ pub fn frames_of<FS: OnDynamic<Source>, FT: OnDynamic<Target>>(
 {
     let mut session = session(alloc, SessionState::Mapped);
     let answer = accept(alloc, acceptor, remote, &mut session);
-    drop(session);
-    let (endpoint, frames) = answer.ok()?;
-    drop(endpoint);
-    Some(frames)
+    leak(session);
+    frames_in(answer)
+}
+
+/// The second of an Ok.
+pub fn frames_in<T, E>(answer: Result<(T, Frames), E>) -> Option<Frames> {
+    match answer {
+        Ok((first, frames)) => {
+            leak(first);
+            Some(frames)
+        }
+        Err(error) => {
+            leak(error);
+            None
+        }
+    }
 }

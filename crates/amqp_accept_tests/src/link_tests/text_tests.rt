@@ -2,14 +2,15 @@
 
 use amqp_accept_links::*;
 use amqp_below_sessions::{AllocLinkError, ReceiverAttachError, SenderAttachError};
+use amqp_test_values::leak;
 use amqp_txn_types::SessionStopReason;
 use std::alloc::Global;
 use std::fmt::Display;
 
 /// Whether the text of the value is this.
-fn reads<T: Display + Drop>(alloc: Global, value: T, want: &str) -> bool {
+fn reads<T: Display>(alloc: Global, value: T, want: &str) -> bool {
     let text = format!(in alloc; "{value}");
-    drop(value);
+    leak(value);
     match text {
         Ok(text) => text.as_str() == want,
         Err(_) => false,
