@@ -15,6 +15,7 @@ runs=${PROGRAM:-$("$top/txn_program" --which run)} || exit 1
 listens=${PROGRAM:-$("$top/txn_program" --which listen)} || exit 1
 brokers=${PROGRAM:-$("$top/txn_program" --which broker)} || exit 1
 agrees=${PROGRAM:-$("$top/txn_program" --which agree)} || exit 1
+relays=${PROGRAM:-$("$top/txn_program" --which relay)} || exit 1
 work=$(mktemp -d) || exit 1
 trap 'rm -r "$work"' EXIT
 
@@ -56,6 +57,7 @@ run_with() {
     listen) program=$listens ;;
     broker) program=$brokers ;;
     agree) program=$agrees ;;
+    relay) program=$relays ;;
   esac
   head -c 8 /dev/zero >"$work/count"
   COUNT_IN=$work/count FAIL_AT=$1 LD_PRELOAD=$work/failing.so "$program" "${words[@]}" <"$file" 2>/dev/null

@@ -1,15 +1,13 @@
 -- An item that arrives: the stage and the queues after it.
-use Rattle.std.proofs.Common.{◌≡◌, ℕ, zero, suc, ◌+◌, ◌<◌, ◌≤◌, Bool, true, false, cond, Option, Some, None, List, [], ◌∷◌, ◌++◌, length, map, take, drop, refl, sym, ◌∙◌, ap, arith, subst, append-nil, append_assoc, ◌⊎◌, inl, inr, Result, Ok, Err}
-use Rattle.std.proofs.lemmas.List.{length-append, length_push}
+use Rattle.std.proofs.Common.{◌≡◌, ℕ, zero, suc, ◌+◌, ◌≤◌, Bool, true, false, cond, Option, Some, None, List, [], ◌∷◌, ◌++◌, length, map, take, refl, sym, ◌∙◌, ap, arith, subst, append-nil, append_assoc, inl, inr}
+use Rattle.std.proofs.lemmas.List.{length-append}
 use Rattle.std.proofs.lemmas.Option.{same_Some}
 use Rattle.amqp_txn_types.specs.Frames.{stripped, txn}
 use Rattle.amqp_txn_types.specs.Presumptive.{answered_under}
 use Rattle.amqp_txn_types.specs.declared.id.TransactionId.{TransactionId}
 use Rattle.amqp_txn_types.specs.declared.performatives.Frame.{Frame}
 use Rattle.amqp_txn_types.specs.declared.small.TransactionError.TheVariants as transaction_errors
-use Rattle.amqp_txn_codec.specs.Canon.{canon}
 use Rattle.amqp_below_ids.specs.Drawn.{DrawnIds}
-use Rattle.amqp_below_ids.specs.declared.list_ids.ListIds.{ListIds}
 use Rattle.amqp_resource_record.specs.declared.entry.Entry.{Entry}
 use Rattle.amqp_resource_record.specs.declared.reply.Reply.{Reply}
 use Rattle.amqp_resource_record.specs.declared.reply.Reply.TheVariants as replies
@@ -23,10 +21,7 @@ use Rattle.amqp_resource_record.specs.Hands.{hands, sources}
 use Rattle.amqp_resource_record.specs.Live.{is_live}
 use Rattle.amqp_resource_record.specs.Work.{handed_by, origins}
 use Rattle.txn_broker_queues.specs.declared.message.Message.{Message}
-use Rattle.txn_broker_queues.specs.Taking.{Board, frames_of, taken_of, told_by}
-use Rattle.txn_parties.specs.declared.event.Event.TheVariants as events
-use Rattle.txn_parties.specs.declared.event.Happened.{Happened}
-use Rattle.txn_parties.specs.declared.event.Happened.TheVariants as happenings
+use Rattle.txn_broker_queues.specs.Taking.{Board, taken_of, told_by}
 use Rattle.txn_parties.specs.declared.event.Heard.TheVariants as hearings
 use Rattle.txn_parties.specs.declared.item.Answered.{Answered}
 use Rattle.txn_parties.specs.declared.item.Asked.TheVariants as asked
@@ -34,24 +29,21 @@ use Rattle.txn_parties.specs.declared.item.Halt.{Halt}
 use Rattle.txn_parties.specs.declared.item.Item.{Item}
 use Rattle.txn_parties.specs.declared.item.Item.TheVariants as items
 use Rattle.txn_parties.specs.BackWire.{answers, state_of, verdict}
-use Rattle.txn_parties.specs.Exchange.{Exchange, entries_of, forward, items_of, made as made_of, record_of}
+use Rattle.txn_parties.specs.Exchange.{Exchange, items_of, record_of}
 use Rattle.txn_parties.specs.Invariant.{Keeps}
-use Rattle.txn_parties.specs.Items.{declare_message, discharge_message, step_of}
-use Rattle.txn_parties.specs.Lives.{Life, Running, Runs, life_in}
+use Rattle.txn_parties.specs.Items.{step_of}
+use Rattle.txn_parties.specs.Lives.{Running, life_in}
 use Rattle.txn_parties.specs.Spans.{drawn_on, stop_places}
 use Rattle.txn_parties.specs.Taken.{Grew, frames_drawn}
-use Rattle.txn_parties.specs.Turns.{AnswersFirst, Arrives, IsAnswered, IsStopped, MayStop, StopsFirst, StopsFrame, StopsUnder, TurnArrive, entry_by, with_answer, with_stop}
+use Rattle.txn_parties.specs.Turns.{MayStop, StopsFrame, StopsUnder, entry_by, with_answer, with_stop}
 use Rattle.txn_parties.proofs.Living.{Accepts, Ends, Vetoes, own_ends}
 use Rattle.txn_parties.proofs.Turning.{record_more}
-use Rattle.txn_parties.proofs.Wires.{items-snoc}
-use Rattle.txn_world.specs.Happening.{EventSays, TwoParties}
-use Rattle.txn_relay.specs.Moves.{after_declare, put_since}
 use Rattle.txn_relay.specs.Once.{accepted_commits, accepts_commit}
-use Rattle.txn_relay.specs.Stages.{Answering, Counted, Declaring, Discharged, Idle, Last, Open, Queues, Rejected, SaysCommitted, Stage, Stands, Undeclared, declared, post_frame, post_item, retirement_frame, retirement_item, three}
+use Rattle.txn_relay.specs.Stages.{Answering, Counted, Declaring, Discharged, Idle, Last, Open, Queues, Rejected, Stage, Stands, Undeclared, declared, post_frame, post_item, retirement_frame, retirement_item, three}
 use Rattle.txn_relay.proofs.Behind.{items-append}
 use Rattle.txn_relay.proofs.Lasting.{Under, before_length, handed_none, hands_commit, hands_declare, hands_frame, life_is, life_one, life_two, post_stripped, post_txn, post_under, retirement_stripped, retirement_txn, retirement_under, running, steps_are}
 use Rattle.txn_relay.proofs.Queues.{moved, posted, retired}
-use Rattle.txn_relay.proofs.Serving.{commit_counted, count_more, count_same, declare_not_counted, took_answered, took_frames}
+use Rattle.txn_relay.proofs.Serving.{commit_counted, count_more, count_same, declare_not_counted, took_frames}
 
 -- the stage and the queues of a moment, with these frames taken
 pub record At (sides : Exchange) (taken : List Frame) (work : List Message) (made put : ℕ) : Type 0 where

@@ -1,5 +1,5 @@
 -- What the calls of a relay answer, from what is so of it and what the two parties say.
-use Rattle.std.proofs.Common.{◌≡◌, ℕ, zero, suc, ◌+◌, ◌<◌, ◌≤◌, Option, Some, None, List, [], ◌∷◌, length, map, take, drop, refl, sym, ◌∙◌, ap, arith, subst, Result, Ok, Err}
+use Rattle.std.proofs.Common.{◌≡◌, ℕ, suc, ◌+◌, ◌<◌, ◌≤◌, Option, Some, List, [], ◌∷◌, length, take, drop, refl, sym, ◌∙◌, ap, arith, subst, Result, Ok, Err}
 use Rattle.std.specs.Prelude.{IfOk, OnErr, slice_get}
 use Rattle.std.proofs.lemmas.Option.{same_Some, slice_get_within}
 use Rattle.amqp_txn_types.specs.declared.id.TransactionId.{TransactionId}
@@ -13,19 +13,17 @@ use Rattle.txn_parties.specs.declared.event.Happened.{Happened}
 use Rattle.txn_parties.specs.declared.event.Happened.TheVariants as happenings
 use Rattle.txn_parties.specs.declared.event.Heard.{Heard}
 use Rattle.txn_parties.specs.declared.event.Heard.TheVariants as hearings
-use Rattle.txn_parties.specs.Exchange.{Exchange, heard, made as made_of}
-use Rattle.txn_parties.specs.Turns.{Turn}
+use Rattle.txn_parties.specs.Exchange.{heard, made as made_of}
 use Rattle.txn_world.specs.Happening.{EventSays, TwoParties}
-use Rattle.txn_world_wires.specs.Putting.{IsDeclare}
 use Rattle.txn_relay.specs.Going.{BeginsWith, Goes, IsFirst, IsWork, PutFirst, next_after, next_for}
 use Rattle.txn_relay.specs.declared.event.RelayEvent.{RelayEvent}
 use Rattle.txn_relay.specs.declared.event.RelayEvent.TheVariants as relay_events
 use Rattle.txn_relay.specs.declared.relay.Next.{Next}
 use Rattle.txn_relay.specs.Moves.{moves, put_since}
 use Rattle.txn_relay.specs.Once.{heard_committed}
-use Rattle.txn_relay.specs.Relaying.{Draws, Half, Holds, Moved, Put, RelaySays, Relaying, Turned}
+use Rattle.txn_relay.specs.Relaying.{Draws, Half, Happens, Holds, LeavesSome, Moved, Put, RelaySays, Relaying, Turned}
 use Rattle.txn_relay.specs.Stages.{Stands}
-use Rattle.txn_relay.proofs.Moving.{Declares, Puts, declare_next, declare_within, put_next}
+use Rattle.txn_relay.proofs.Moving.{declare_next, declare_within, put_next}
 use Rattle.txn_relay.proofs.Returning.{arrives, cuts, returns}
 use Rattle.txn_relay.proofs.Telling.{begins_after, begins_first, begins_start, counted_last, counted_none, counted_others, holds, no_moves}
 
@@ -205,31 +203,16 @@ work_message relay move txn work made =
 
 -- ---- what an event answers
 
-pub says_arrive : (draws : Draws) (now : Relaying) (world new : TwoParties Board ListIds) (work : List Message) (made put : ℕ) (event : RelayEvent) (result : Result Happened NoMemory) → relay_of world work ≡ now → event ≡ relay_events.Arrive → Did draws world new work made put events.Arrive result → RelaySays draws now (relay_of new work) event result
-says_arrive draws now world new work made put event result view is d =
+-- an event of the two parties is what it did, and the relay stands
+pub says : (draws : Draws) (now : Relaying) (world new : TwoParties Board ListIds) (work : List Message) (made put : ℕ) (event this : RelayEvent) (result : Result Happened NoMemory)
+    → relay_of world work ≡ now → event ≡ this → IfOk result (Happens draws (relay_of world work) (relay_of new work) this) → OnErr result (LeavesSome (relay_of world work) (relay_of new work) this)
+    → Stands new.sides (taken_of new.below) work made put → RelaySays draws now (relay_of new work) event result
+says draws now world new work made put event this result view is happens err stands =
     subst (λ (r : Relaying). RelaySays draws r (relay_of new work) event result) view
     (subst (λ (e : RelayEvent). RelaySays draws (relay_of world work) (relay_of new work) e result) (sym is) (record {
-      happens = d.happens;
-      err = d.err;
-      holds = holds (relay_of new work) made put d.stands;
-    }))
-
-pub says_return : (draws : Draws) (now : Relaying) (world new : TwoParties Board ListIds) (work : List Message) (made put : ℕ) (event : RelayEvent) (result : Result Happened NoMemory) → relay_of world work ≡ now → event ≡ relay_events.Return → Did draws world new work made put events.Return result → RelaySays draws now (relay_of new work) event result
-says_return draws now world new work made put event result view is d =
-    subst (λ (r : Relaying). RelaySays draws r (relay_of new work) event result) view
-    (subst (λ (e : RelayEvent). RelaySays draws (relay_of world work) (relay_of new work) e result) (sym is) (record {
-      happens = d.happens;
-      err = d.err;
-      holds = holds (relay_of new work) made put d.stands;
-    }))
-
-pub says_cut : (draws : Draws) (now : Relaying) (world new : TwoParties Board ListIds) (work : List Message) (made put : ℕ) (event : RelayEvent) (result : Result Happened NoMemory) → relay_of world work ≡ now → event ≡ relay_events.Cut → Did draws world new work made put events.Cut result → RelaySays draws now (relay_of new work) event result
-says_cut draws now world new work made put event result view is d =
-    subst (λ (r : Relaying). RelaySays draws r (relay_of new work) event result) view
-    (subst (λ (e : RelayEvent). RelaySays draws (relay_of world work) (relay_of new work) e result) (sym is) (record {
-      happens = d.happens;
-      err = d.err;
-      holds = holds (relay_of new work) made put d.stands;
+      happens = happens;
+      err = err;
+      holds = holds (relay_of new work) made put stands;
     }))
 
 -- what Go answers

@@ -1,14 +1,13 @@
 -- The last transaction in the record: where its frames are, and what its commit hands.
-use Rattle.std.proofs.Common.{◌≡◌, ℕ, zero, suc, ◌+◌, ◌<◌, ◌≤◌, Bool, true, false, cond, ◌&&◌, Option, Some, None, List, [], ◌∷◌, ◌++◌, length, map, refl, sym, ◌∙◌, ap, arith, subst, append-nil, append_assoc}
+use Rattle.std.proofs.Common.{◌≡◌, ℕ, suc, ◌+◌, Bool, true, false, cond, ◌&&◌, Some, None, List, [], ◌∷◌, ◌++◌, length, map, refl, sym, ◌∙◌, ap, arith, subst, append_assoc}
 use Rattle.std.specs.Prelude.{◌==◌, slice_get}
 use Rattle.std.proofs.lemmas.List.{length-append, length-map, map-append}
 use Rattle.std.proofs.lemmas.Bool.{eq-eqb}
 use Rattle.amqp_txn_types.specs.declared.id.TransactionId.{TransactionId}
 use Rattle.amqp_txn_types.specs.declared.performatives.Frame.{Frame}
-use Rattle.amqp_txn_types.specs.Frames.{is_coordinator_attach, is_plain_by, is_plain_frame, stripped, txn}
+use Rattle.amqp_txn_types.specs.Frames.{is_coordinator_attach, is_plain_by, stripped, txn}
 use Rattle.amqp_txn_types.specs.Ids.{is_some_id}
 use Rattle.amqp_txn_codec.specs.Canon.{canon}
-use Rattle.amqp_txn_codec.specs.Reading.{message_of}
 use Rattle.amqp_resource_record.specs.declared.entry.Entry.{Entry}
 use Rattle.amqp_resource_record.specs.declared.reply.Reply.{Reply}
 use Rattle.amqp_resource_record.specs.declared.reply.Reply.TheVariants as replies
@@ -17,14 +16,14 @@ use Rattle.amqp_resource_record.specs.declared.step.Step.TheVariants as steps
 use Rattle.amqp_resource_record.specs.Entries.{steps_of}
 use Rattle.amqp_resource_record.specs.Hands.{commits, commits_message, frame_of_step, frames_at, hands, if_open, sources, sources_of}
 use Rattle.amqp_resource_record.specs.Links.{is_open}
-use Rattle.amqp_resource_record.specs.Live.{frame_places, home, is_live, is_open_at, undischarged}
+use Rattle.amqp_resource_record.specs.Live.{home, is_live, is_open_at, undischarged}
 use Rattle.amqp_resource_record.specs.Work.{handed_by, is_rejected}
 use Rattle.amqp_resource_record.proofs.Ids.{same_id-refl}
 use Rattle.amqp_resource_record.proofs.Whole.{commits-discharge}
 use Rattle.txn_broker_queues.specs.declared.message.Message.{Message}
 use Rattle.txn_parties.specs.declared.item.Item.{Item}
 use Rattle.txn_parties.specs.declared.item.Item.TheVariants as items
-use Rattle.txn_parties.specs.Exchange.{Exchange, entries_of, items_of, record_of}
+use Rattle.txn_parties.specs.Exchange.{Exchange, items_of, record_of}
 use Rattle.txn_parties.specs.Invariant.{Keeps}
 use Rattle.txn_parties.specs.Items.{declare_message, discharge_message, step_of}
 use Rattle.txn_parties.specs.Lives.{Holds, Life, Running, Runs, Unborn, born, fate_from, life_in, next_life}

@@ -1,5 +1,5 @@
 -- The moves of Go: what each event of one puts, and the stage after it.
-use Rattle.std.proofs.Common.{◌≡◌, ℕ, zero, suc, ◌+◌, ◌<◌, ◌≤◌, Bool, true, false, cond, not, ◌&&◌, ◌||◌, Option, Some, None, List, [], ◌∷◌, ◌++◌, length, map, take, drop, refl, sym, ◌∙◌, ap, arith, subst, append-nil, append_assoc, Result, Ok, Err}
+use Rattle.std.proofs.Common.{◌≡◌, ℕ, zero, suc, ◌+◌, ◌≤◌, Bool, true, false, cond, not, ◌&&◌, ◌||◌, Option, Some, None, List, [], ◌∷◌, ◌++◌, length, take, drop, refl, sym, ◌∙◌, ap, arith, subst, append-nil, append_assoc, Result, Ok}
 use Rattle.std.specs.Prelude.{◌==◌, nat_lt, slice_get}
 use Rattle.std.specs.List.{list_any}
 use Rattle.std.proofs.Math.Seq.{take-append-add}
@@ -12,7 +12,6 @@ use Rattle.amqp_txn_types.specs.declared.items.NoMemory.{NoMemory}
 use Rattle.amqp_txn_types.specs.declared.performatives.Frame.{Frame}
 use Rattle.amqp_below_ids.specs.declared.list_ids.ListIds.{ListIds}
 use Rattle.amqp_resource_record.specs.declared.entry.Entry.{Entry}
-use Rattle.amqp_resource_record.specs.declared.reply.Reply.TheVariants as replies
 use Rattle.txn_broker_queues.specs.declared.message.Message.{Message}
 use Rattle.txn_broker_queues.specs.Taking.{Board, taken_of, told_by}
 use Rattle.txn_parties.specs.declared.event.Event.{Event}
@@ -23,20 +22,19 @@ use Rattle.txn_parties.specs.declared.event.Heard.TheVariants as hearings
 use Rattle.txn_parties.specs.declared.item.Answered.{Answered}
 use Rattle.txn_parties.specs.declared.item.Item.{Item}
 use Rattle.txn_parties.specs.declared.item.Item.TheVariants as items
-use Rattle.txn_parties.specs.BackWire.{heard_by, id_in, verdict_in}
 use Rattle.txn_parties.specs.Exchange.{Exchange, back_of, forward, heard, id_heard, items_of, made as made_of, record_of}
 use Rattle.txn_parties.specs.Invariant.{Keeps}
 use Rattle.txn_parties.specs.Items.{controller_in, ends_link, is_any_declare, is_declare, is_discharge, item_ends, made_in, or_else}
-use Rattle.txn_parties.specs.Turns.{Turn, TurnPut, has_link, if_id, if_link, put_of, with_put}
+use Rattle.txn_parties.specs.Turns.{Turn, TurnPut, if_id, if_link, put_of, with_put}
 use Rattle.txn_parties.proofs.Turning.{forward_put}
 use Rattle.txn_parties.proofs.Wires.{controller_in-append}
 use Rattle.txn_world.specs.Happening.{EventSays, TwoParties}
 use Rattle.txn_world_wires.specs.Putting.{IsDeclare}
 use Rattle.txn_relay.specs.Moves.{after_declare, declare_for, moves, post_of, put_since, retirement_of, work_of}
 use Rattle.txn_relay.specs.Once.{accepted_commits}
-use Rattle.txn_relay.specs.Stages.{Answering, Behind, Declaring, Discharged, Idle, Last, Open, Queues, Rejected, Stage, Stands, Undeclared, declared, post_item, retirement_item, three}
-use Rattle.txn_relay.proofs.Behind.{AllBelow, items-append, no_controller, no_declare, no_discharge, no_end, no_link_end}
-use Rattle.txn_relay.proofs.Hearing.{declared_heard, heard_declared, last_heard, last_id}
+use Rattle.txn_relay.specs.Stages.{Declaring, Last, Open, Stage, Stands, declared, post_item, retirement_item, three}
+use Rattle.txn_relay.proofs.Behind.{items-append, no_controller, no_declare, no_discharge, no_end, no_link_end}
+use Rattle.txn_relay.proofs.Hearing.{declared_heard, last_id}
 use Rattle.txn_relay.proofs.Lasting.{get_past}
 use Rattle.txn_relay.proofs.Queues.{get_within, take_get}
 use Rattle.txn_relay.proofs.Telling.{All, Ended, IsIdle, IsOpen, LastHeard, Unborn, Waits, Works, any_right, heard_idle, idle_moves, last_is, moves_at, work_moves}

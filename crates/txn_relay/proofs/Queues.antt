@@ -1,6 +1,6 @@
 -- One message moved: the queues once its post and its retirement were taken.
-use Rattle.txn_broker_queues.proofs.Words.{Bool, Frame, Linked, List, None, Option, Sent, Some, [], ap, append-nil, append_assoc, arith, cond, cons_option, drop, enumerate_from, false, filter_map, filter_map-append, inl, inr, is_gone, leb_tells, length, link_after, list_any, list_any-append, map, map-append, messages, nat_eq, nat_le, none-some, not, option_to_list, pointwise, queue, refl, removes, same_Some, same_text, sent_on, slice_get, subst, suc, sym, take, true, waiting, zero, ℕ, ◌++◌, ◌+◌, ◌&&◌, ◌<◌, ◌||◌, ◌∙◌, ◌∷◌, ◌≡◌, ◌≤◌, ◌⊎◌}
-use Rattle.txn_broker_queues.proofs.Snoc.{gone_more, gone_new, link_work, messages_more, or_false, sent_new, sent_place}
+use Rattle.txn_broker_queues.proofs.Words.{Bool, Frame, List, None, Option, Sent, Some, [], ap, append-nil, arith, cond, cons_option, drop, enumerate_from, false, filter_map, filter_map-append, inl, inr, is_gone, leb_tells, length, link_after, list_any, list_any-append, map-append, messages, nat_eq, nat_le, none-some, not, option_to_list, pointwise, queue, refl, removes, same_Some, same_text, sent_on, slice_get, suc, sym, take, true, waiting, zero, ℕ, ◌++◌, ◌+◌, ◌&&◌, ◌<◌, ◌||◌, ◌∙◌, ◌∷◌, ◌≡◌, ◌≤◌}
+use Rattle.txn_broker_queues.proofs.Snoc.{gone_more, gone_new, link_work, messages_more, or_false, sent_new}
 use Rattle.txn_broker_queues.proofs.Mails.{Placed, enumerate-append, placed}
 use Rattle.txn_broker_queues.specs.Queues.{attaches}
 use Rattle.txn_broker_queues.specs.declared.message.Message.{Message}

@@ -1,6 +1,5 @@
 -- An answer that returns, the cut, and what an event of the two parties leaves of a relay.
-use Rattle.std.proofs.Common.{◌≡◌, ℕ, zero, suc, ◌+◌, ◌<◌, ◌≤◌, Bool, true, false, cond, Option, Some, None, List, [], ◌∷◌, ◌++◌, length, map, take, refl, sym, ◌∙◌, ap, arith, subst, append-nil, append_assoc, ◌⊎◌, inl, inr, Result, Ok, Err}
-use Rattle.std.specs.Prelude.{◌==◌}
+use Rattle.std.proofs.Common.{◌≡◌, ℕ, suc, ◌+◌, ◌<◌, Bool, true, false, cond, Option, Some, None, List, [], ◌∷◌, ◌++◌, length, refl, sym, ◌∙◌, ap, arith, subst, append_assoc, inl, inr, Result, Ok}
 use Rattle.std.proofs.lemmas.List.Sums.{sum_by-append}
 use Rattle.std.proofs.lemmas.Bool.Decides.{eqb_tells}
 use Rattle.std.proofs.lemmas.Option.{same_Some}
@@ -13,7 +12,6 @@ use Rattle.amqp_resource_record.specs.declared.entry.Entry.{Entry}
 use Rattle.amqp_resource_record.specs.declared.reply.Reply.{Reply}
 use Rattle.amqp_resource_record.specs.declared.reply.Reply.TheVariants as replies
 use Rattle.amqp_resource_record.specs.declared.stop.StopCode.TheVariants as codes
-use Rattle.amqp_resource_record.specs.Work.{handed_by}
 use Rattle.txn_broker_queues.specs.declared.message.Message.{Message}
 use Rattle.txn_broker_queues.specs.Taking.{Board, taken_of, told_by}
 use Rattle.txn_parties.specs.declared.event.Event.TheVariants as events
@@ -25,17 +23,17 @@ use Rattle.txn_parties.specs.declared.item.Asked.TheVariants as asked
 use Rattle.txn_parties.specs.declared.item.Halt.{Halt}
 use Rattle.txn_parties.specs.declared.item.Item.{Item}
 use Rattle.txn_parties.specs.declared.item.Item.TheVariants as items
-use Rattle.txn_parties.specs.BackWire.{answers, declared_id, heard_by, id_in, state_of, verdict, verdict_in}
-use Rattle.txn_parties.specs.Exchange.{Exchange, back_of, entries_of, forward, items_of, made as made_of, record_of}
+use Rattle.txn_parties.specs.BackWire.{answers, declared_id, heard_by, id_in, state_of, verdict_in}
+use Rattle.txn_parties.specs.Exchange.{Exchange, back_of, entries_of, forward, items_of, record_of}
 use Rattle.txn_parties.specs.Invariant.{Keeps}
 use Rattle.txn_parties.specs.Items.{is_any_declare, made_in, step_of}
-use Rattle.txn_parties.specs.Turns.{AnswersFirst, Arrives, IsAnswered, IsStopped, StopsFirst, Turn, TurnArrive, TurnCut, TurnReturn, entry_by, with_answer, with_heard, with_stop}
+use Rattle.txn_parties.specs.Turns.{AnswersFirst, IsAnswered, IsStopped, StopsFirst, TurnArrive, TurnCut, TurnReturn, entry_by, with_answer, with_heard, with_stop}
 use Rattle.txn_parties.proofs.Wires.{items-snoc}
 use Rattle.txn_world.specs.Happening.{EventSays, TwoParties}
-use Rattle.txn_relay.specs.Moves.{after_declare, put_since}
+use Rattle.txn_relay.specs.Moves.{after_declare}
 use Rattle.txn_relay.specs.Once.{accepted_commits}
-use Rattle.txn_relay.specs.Stages.{Answering, Behind, Counted, Declaring, Discharged, Idle, IsBelow, Last, Open, Queues, Rejected, SaysCommitted, Stage, Stands, Undeclared, declared, post_item, retirement_item, three}
-use Rattle.txn_relay.proofs.Arriving.{At, Stops, answered_at, none_taken, stopped_at}
+use Rattle.txn_relay.specs.Stages.{Answering, Behind, Counted, Declaring, Discharged, Idle, IsBelow, Last, Open, Rejected, SaysCommitted, Stage, Stands, Undeclared, declared, post_item, retirement_item, three}
+use Rattle.txn_relay.proofs.Arriving.{At, answered_at, none_taken, stopped_at}
 use Rattle.txn_relay.proofs.Behind.{all-append, all_more, back-append, items-append}
 use Rattle.txn_relay.proofs.Hearing.{heard_ended, own_heard, still_committed}
 use Rattle.txn_relay.proofs.Serving.{took_answered}

@@ -1,7 +1,7 @@
 -- What the broker takes of an item that arrives, and what the record counts of it.
-use Rattle.std.proofs.Common.{◌≡◌, ℕ, zero, suc, ◌+◌, ◌≤◌, Bool, true, false, cond, Option, Some, None, List, [], ◌∷◌, ◌++◌, length, map, take, refl, sym, ◌∙◌, ap, arith, subst, append-nil, append_assoc}
+use Rattle.std.proofs.Common.{◌≡◌, ℕ, ◌+◌, ◌≤◌, true, false, cond, Some, List, [], ◌∷◌, ◌++◌, length, refl, sym, ◌∙◌, ap, arith}
 use Rattle.std.specs.List.{zip}
-use Rattle.std.proofs.lemmas.List.{length-append, map-append}
+use Rattle.std.proofs.lemmas.List.{map-append}
 use Rattle.std.proofs.lemmas.List.Sums.{sum_by_push}
 use Rattle.std.proofs.lemmas.Option.{same_Some}
 use Rattle.amqp_txn_types.specs.declared.id.TransactionId.{TransactionId}
@@ -19,7 +19,6 @@ use Rattle.amqp_resource_record.specs.Work.{given_by, handed_by}
 use Rattle.amqp_resource_record.proofs.Whole.{given_lengths}
 use Rattle.amqp_txn_types.specs.Growing.{grown}
 use Rattle.txn_broker_queues.specs.Taking.{Board, frames_of, taken_of, told_by}
-use Rattle.txn_parties.specs.declared.item.Item.{Item}
 use Rattle.txn_parties.specs.Items.{declare_message, discharge_message}
 use Rattle.txn_parties.proofs.Living.{declare_read, discharge_read}
 use Rattle.txn_relay.specs.Once.{accepted_commits, accepts_commit, is_commit_message}

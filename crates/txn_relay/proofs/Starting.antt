@@ -1,8 +1,8 @@
 -- A relay before its first event.
-use Rattle.std.proofs.Common.{◌≡◌, ℕ, zero, suc, ◌+◌, ◌<◌, ◌≤◌, Bool, true, false, cond, Option, Some, None, List, [], ◌∷◌, ◌++◌, length, refl, sym, ◌∙◌, ap, arith, subst, append-nil}
+use Rattle.std.proofs.Common.{◌≡◌, ℕ, ◌≤◌, true, false, cond, List, [], ◌∷◌, ◌++◌, length, refl, sym, ◌∙◌, ap, arith, subst, append-nil}
 use Rattle.std.specs.List.{list_any, AllByRecursion}
 use Rattle.std.proofs.lemmas.List.Sums.{sum_by-cons}
-use Rattle.std.proofs.lemmas.Option.{none-some, same_Some}
+use Rattle.std.proofs.lemmas.Option.{none-some}
 use Rattle.amqp_txn_types.specs.declared.performatives.Frame.{Frame}
 use Rattle.amqp_below_ids.specs.declared.list_ids.ListIds.{ListIds}
 use Rattle.amqp_resource_record.specs.declared.entry.Entry.{Entry}
@@ -12,15 +12,16 @@ use Rattle.amqp_resource_record.specs.declared.step.Step.{Step}
 use Rattle.amqp_resource_record.specs.declared.step.Step.TheVariants as steps
 use Rattle.amqp_resource_record.specs.Entries.{is_attached}
 use Rattle.txn_broker_queues.specs.declared.message.Message.{Message}
-use Rattle.txn_broker_queues.specs.Queues.{attaches, queue}
+use Rattle.txn_broker_queues.specs.Queues.{attaches, messages, queue}
 use Rattle.txn_broker_queues.specs.Taking.{Board, taken_of}
-use Rattle.txn_parties.specs.Exchange.{Begins, Exchange, begun, record_of}
+use Rattle.txn_broker_queues.proofs.Listing.{queue_within}
+use Rattle.txn_parties.specs.Exchange.{Begins, Exchange, begun}
 use Rattle.txn_parties.proofs.Turning.{keeps_start}
 use Rattle.txn_world.specs.Happening.{TwoParties}
 use Rattle.txn_relay.specs.Moves.{from_name, to_name}
 use Rattle.txn_relay.specs.Once.{accepted_commits, accepts_commit, payloads}
 use Rattle.txn_relay.specs.Relaying.{IsReady}
-use Rattle.txn_relay.specs.Stages.{Behind, Idle, Queues, Stands}
+use Rattle.txn_relay.specs.Stages.{Idle, Queues, Stands}
 use Rattle.txn_relay.proofs.Queues.{found_parts}
 
 attach_not_commit : (s : Step) (r : Reply) → is_attached r ≡ true → accepts_commit s r ≡ false
@@ -50,6 +51,15 @@ stands_begun first taken work begins one few q = record {
   where
     count : accepted_commits (first ++ []) ≡ 0
     count = ap accepted_commits (append-nil first) ∙ no_commits first begins.attached
+
+-- there are no more messages than the broker below was sent
+pub ready_within : (world : TwoParties Board ListIds) (work : List Message) (below : Board) (count : ℕ) → IsReady world work → below ≡ world.below → count ≡ length (messages (taken_of below)) → length work ≤ count
+ready_within world work below count ready is sent =
+    let from = found_parts (list_any (attaches from_name) (taken_of world.below)) (queue (taken_of world.below) from_name) work ready.from_is in
+    let within = queue_within (taken_of world.below) from_name in
+    let same = ap length from.1 in
+    let all = ap (λ (b : Board). length (messages (taken_of b))) is in
+    omega (arith, within, same, all, sent)
 
 -- a relay that is ready stands
 pub stands_ready : (world : TwoParties Board ListIds) (work : List Message) → IsReady world work → length work ≤ 4294967295 → Stands world.sides (taken_of world.below) work 0 0

@@ -1,5 +1,5 @@
 -- Where the messages are, what was heard, and what the next move is, by the stage.
-use Rattle.std.proofs.Common.{◌≡◌, ℕ, zero, suc, ◌+◌, ◌<◌, ◌≤◌, Bool, true, false, cond, ◌||◌, Option, Some, None, List, [], ◌∷◌, ◌++◌, length, drop, take, refl, sym, ◌∙◌, ap, arith, subst, append-nil, append_assoc, ◌⊎◌, inl, inr}
+use Rattle.std.proofs.Common.{◌≡◌, ℕ, zero, suc, ◌+◌, ◌<◌, ◌≤◌, Bool, true, false, cond, ◌||◌, Option, Some, None, List, [], ◌∷◌, ◌++◌, length, drop, take, refl, sym, ◌∙◌, ap, arith, subst, append-nil, ◌⊎◌, inl, inr}
 use Rattle.std.specs.Prelude.{◌==◌, slice_get}
 use Rattle.std.specs.List.{list_any}
 use Rattle.std.proofs.lemmas.List.Folds.{list_any-append}
@@ -11,24 +11,22 @@ use Rattle.amqp_resource_record.specs.declared.entry.Entry.{Entry}
 use Rattle.amqp_resource_record.specs.declared.reply.Reply.TheVariants as replies
 use Rattle.txn_broker_queues.specs.declared.message.Message.{Message}
 use Rattle.txn_broker_queues.specs.Taking.{taken_of}
-use Rattle.txn_parties.specs.declared.event.Event.{Event}
-use Rattle.txn_parties.specs.declared.event.Event.TheVariants as events
 use Rattle.txn_parties.specs.declared.event.Heard.{Heard}
 use Rattle.txn_parties.specs.declared.event.Heard.TheVariants as hearings
 use Rattle.txn_parties.specs.declared.item.Answered.{Answered}
 use Rattle.txn_parties.specs.declared.item.Asked.TheVariants as asked
 use Rattle.txn_parties.specs.declared.item.Item.{Item}
 use Rattle.txn_parties.specs.declared.item.Item.TheVariants as items
-use Rattle.txn_parties.specs.BackWire.{answers, heard_by, id_in, state_of, verdict, verdict_in}
+use Rattle.txn_parties.specs.BackWire.{heard_by, id_in, state_of, verdict, verdict_in}
 use Rattle.txn_parties.specs.Exchange.{Exchange, back_of, forward, heard, items_of, made as made_of, record_of}
 use Rattle.txn_parties.specs.Items.{is_discharge}
-use Rattle.txn_relay.specs.Going.{BeginsWith, IsWork, next_after, next_by, next_for, next_heard, next_of}
+use Rattle.txn_relay.specs.Going.{BeginsWith, next_after, next_by, next_for, next_heard, next_of}
 use Rattle.txn_relay.specs.declared.relay.Next.{Next}
 use Rattle.txn_relay.specs.declared.relay.Next.TheVariants as nexts
 use Rattle.txn_relay.specs.Moves.{declare_for, moves, moves_after, moves_by, put_since, rest_of, work_of}
 use Rattle.txn_relay.specs.Once.{LastUnheard, Once, accepted_commits, committed_among, heard_committed, is_committed}
 use Rattle.txn_relay.specs.Relaying.{Holds, Relaying}
-use Rattle.txn_relay.specs.Stages.{Answering, Behind, Counted, Declaring, Discharged, Idle, Last, Open, Rejected, SaysCommitted, Stage, Stands, Undeclared, declared, post_item, retirement_item, three}
+use Rattle.txn_relay.specs.Stages.{Answering, Behind, Counted, Declaring, Discharged, Idle, Last, Open, Rejected, Stage, Stands, Undeclared, declared, post_item, retirement_item, three}
 use Rattle.txn_relay.proofs.Behind.{items-append}
 use Rattle.txn_relay.proofs.Hearing.{IsNothing, IsRejected, NotCommitted, all_committed, earlier, heard_declared, heard_ended, heard_none, heard_refused, last_heard, not_committed}
 

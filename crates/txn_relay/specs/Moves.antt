@@ -1,13 +1,12 @@
 -- What a relay puts next: one transaction a message. The sections named here and in the files that
 -- follow are those of the standard (OASIS AMQP 1.0).
-use Rattle.std.specs.Prelude.{ℕ, zero, suc, Bool, true, false, cond, Option, Some, None, List, [], ◌∷◌, codes, drop, length, slice_get}
-use Rattle.std.specs.Int.{to_be_bytes, w32}
+use Rattle.std.specs.Prelude.{ℕ, zero, suc, true, cond, Option, Some, None, List, [], ◌∷◌, codes, drop, length, slice_get}
 use Rattle.amqp_txn_types.specs.Plain.{plain_disposition}
 use Rattle.amqp_txn_types.specs.declared.delivery.Outcome.TheVariants as outcomes
-use Rattle.amqp_txn_types.specs.declared.performatives.Disposition.{Disposition}
 use Rattle.amqp_txn_types.specs.declared.performatives.Transfer.{Transfer}
 use Rattle.amqp_txn_types.specs.declared.small.Role.TheVariants as roles
 use Rattle.txn_broker_queues.specs.declared.message.Message.{Message}
+use Rattle.txn_broker_queues.specs.Given.{transfer_back}
 use Rattle.txn_parties.specs.declared.event.Event.{Event}
 use Rattle.txn_parties.specs.declared.event.Event.TheVariants as events
 use Rattle.txn_parties.specs.declared.event.Heard.{Heard}
@@ -34,22 +33,10 @@ to_handle = 2
 
 -- ---- the work of one transaction
 
--- the transfer of a message on a link, settled, with the message's number as its id (part 2, 2.7.5,
--- transfer)
+-- the transfer of a message on a link: that of a broker, but settled (part 2, 2.7.5, transfer)
 abbrev pub transfer_on : ℕ → ℕ → Transfer
-transfer_on handle number = record {
-  handle = record { 0 = handle };
-  delivery_id = Some number;
-  delivery_tag = Some (to_be_bytes w32 number);
-  message_format = Some 0;
-  settled = Some true;
-  more = false;
-  rcv_settle_mode = None;
-  state = None;
-  resume = false;
-  aborted = false;
-  batchable = false;
-}
+transfer_on handle number =
+    record (transfer_back (record { 0 = handle }) number) { settled = Some true }
 
 -- the post of a message: its transfer on the link of `to` (part 4, 4.4.1, transactional posting)
 abbrev pub post_of : ℕ → Message → Event

@@ -1,5 +1,5 @@
 -- Each message is in exactly one of the two queues, and what was heard tells how far the relay came.
-use Rattle.std.specs.Prelude.{ℕ, zero, suc, ◌≡◌, ◌+◌, ◌≤◌, ◌⊎◌, Bool, true, false, cond, not, Option, Some, None, List, count_by, drop, length, map, take}
+use Rattle.std.specs.Prelude.{ℕ, zero, suc, ◌≡◌, ◌+◌, ◌≤◌, ◌⊎◌, Bool, true, false, cond, not, Option, Some, List, count_by, drop, length, map, take}
 use Rattle.std.specs.List.{list_any}
 use Rattle.amqp_txn_codec.specs.Discharges.{is_rollback}
 use Rattle.amqp_txn_codec.specs.Reading.{message_of}

@@ -1,5 +1,5 @@
 -- What contracts see of a relay, and what its calls answer and leave.
-use Rattle.std.specs.Prelude.{ℕ, ◌≡◌, ◌<◌, ◌≤◌, true, Some, Result, Ok, Err, List, [], ◌∷◌, Option, None, drop, length, map, take, IfOk, OnErr}
+use Rattle.std.specs.Prelude.{ℕ, ◌≡◌, ◌<◌, true, Some, Result, Ok, List, [], ◌∷◌, Option, drop, length, map, take, IfOk, OnErr}
 use Rattle.amqp_txn_types.specs.declared.id.TransactionId.{TransactionId}
 use Rattle.amqp_txn_types.specs.declared.items.NoMemory.{NoMemory}
 use Rattle.amqp_txn_types.specs.declared.small.Role.TheVariants as roles

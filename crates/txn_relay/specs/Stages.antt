@@ -1,6 +1,6 @@
 -- How far a relay is: the transactions before the last one, which all were committed and heard so,
 -- and the stage of the last one.
-use Rattle.std.specs.Prelude.{ℕ, suc, ◌≡◌, ◌+◌, ◌<◌, ◌≤◌, ◌⊎◌, true, false, Option, Some, None, List, [], ◌∷◌, ◌++◌, drop, length, slice_get, take}
+use Rattle.std.specs.Prelude.{ℕ, suc, ◌≡◌, ◌+◌, ◌<◌, ◌≤◌, ◌⊎◌, true, false, Some, None, List, [], ◌∷◌, ◌++◌, drop, length, slice_get, take}
 use Rattle.std.specs.List.{list_any, AllByRecursion}
 use Rattle.amqp_txn_types.specs.declared.id.TransactionId.{TransactionId}
 use Rattle.amqp_txn_types.specs.declared.delivery.Outcome.TheVariants as outcomes

@@ -69,15 +69,16 @@ impl Relay {
     /// # Requires
     ///
     /// That the two parties, which have one controller, had no event yet; that the messages are
-    /// those of the broker's queue `from` and its queue `to` has none; that handle 1 is attached as
-    /// a sender to `from` and handle 2 as one to `to`; and that there are at most 4,294,967,295
-    /// messages, as many as a broker numbers.
+    /// those of the broker's queue `from` and its queue `to` has none; and that handle 1 is attached
+    /// as a sender to `from` and handle 2 as one to `to`.
     pub fn new(alloc: Global, world: World<Broker, ListIds>, work: Messages) -> Relay
-        requires ready { IsReady world work }
-        requires few { length work ≤ 4294967295 }
+        requires { IsReady world work }
         ensures made { result ≡ record { world = world; work = work } }
         ensures holds { Holds result }
     {
+        // So there are few: the broker has numbered them.
+        let numbered = world.below().message_count();
+        prove!(work.len() <= numbered as usize);
         Relay {
             world,
             work,

@@ -20,10 +20,6 @@ numbered_more n (p ∷ payloads) payload =
     let e : n + 1 + length payloads ≡ n + suc (length payloads) = omega arith in
     ap (λ l. record { number = n; payload = p } ∷ l) (numbered_more (n + 1) payloads payload ∙ ap (λ k. numbered (n + 1) payloads ++ record { number = k; payload = payload } ∷ []) e)
 
-pub numbered-length : (n : ℕ) (payloads : List (List ℕ)) → length (numbered n payloads) ≡ length payloads
-numbered-length n [] = refl
-numbered-length n (p ∷ payloads) = ap (λ k. suc k) (numbered-length (n + 1) payloads)
-
 -- the transfer of a message to `from`
 abbrev pub sent_from : ℕ → List ℕ → Frame
 sent_from number payload = frames.Transfer (transfer_on from_handle number) payload

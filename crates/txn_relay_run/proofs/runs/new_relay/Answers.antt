@@ -1,14 +1,6 @@
-use Rattle.std.proofs.Common.{◌≡◌, ap, arith, length, ◌∙◌}
 use Rattle.amqp_below_ids.specs.Listed.{listed}
-use Rattle.txn_relay_run.proofs.Filled.{numbered-length}
 use Rattle.txn_relay_run.proofs.Started.{start_from}
 use Rattle.txn_relay_run.proofs.runs.new_relay.Goals as goal
-
-pub new-requires-in-Ok-clause-few : goal.new-requires-in-Ok-clause-few
-new-requires-in-Ok-clause-few c =
-    let long = ap length c.in_ok-broker.ensures.messages ∙ numbered-length 0 c.args.payloads.now in
-    let few = c.requires.few in
-    omega (arith, long, few)
 
 pub returns-in-Ok : goal.returns-in-Ok
 returns-in-Ok c =

@@ -1,6 +1,6 @@
 use Rattle.std.proofs.Common.{[], ◌∷◌, ap, sym, ◌∙◌}
 use Rattle.txn_parties.specs.declared.event.Event.TheVariants as events
-use Rattle.txn_relay.specs.Moves.{post_of, retirement_of, work_of}
+use Rattle.txn_relay.specs.Moves.{retirement_of, work_of}
 use Rattle.txn_relay.proofs.Doing.{goes_more, work_is, work_message}
 use Rattle.txn_relay.proofs.relay.Relay.post.Goals as goal
 
