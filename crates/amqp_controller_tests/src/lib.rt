@@ -1,4 +1,6 @@
 //! Tests of the controlling side.
+//!
+//! What a test made isn't taken apart at its end: the process gives all its memory back at once.
 #![tactic(auto)]
 
 #[cfg(test)]

@@ -1,13 +1,14 @@
 //! Acquiring deliveries.
 
 use super::fixtures::{
-    a_and_b, acquired, as_of, controller, done, flow_is, receiver, refused, skips, still_waits,
-    transaction, waits, with_uint,
+    a_and_b, acquired, as_of, controller, flow_is, receiver, skips, still_waits, transaction,
+    waits, with_uint,
 };
+use crate::transaction_tests::values::{passed, refused, same};
 use amqp_controller_acquisition::TransactionAcquisition;
 use amqp_controller_transactions::TransactionDischarge;
 use amqp_links::{FlowError, WireReceiver};
-use amqp_test_values::same;
+use amqp_test_values::leak;
 use amqp_txn_types::{Binary, Fields, Symbol, Value};
 use std::alloc::Global;
 use std::process::Abort;
@@ -18,7 +19,7 @@ fn naming(rt: &impl Abort, alloc: Global) -> Fields {
     let key = Symbol::from_str(alloc, "txn-id").expect(rt, "a key");
     let id = Binary::from_slice(alloc, &[1, 2, 3]).expect(rt, "an id");
     let mut fields = Fields::new(alloc);
-    done(rt, fields.insert(key, Value::Binary(id)));
+    passed(rt, fields.insert(key, Value::Binary(id)));
     fields
 }
 
@@ -30,12 +31,12 @@ fn acquiring_puts_one_flow_that_names_the_transaction(rt: HostRuntime) {
     let mut wire = receiver(&rt, alloc, &[2]);
     let acquisition = acquired(&rt, alloc, &controller, &mut wire);
     skips(&rt, acquisition);
-    drop(controller);
+    leak(controller);
     let flow = flow_is(&wire, 1, None, naming(&rt, alloc));
     let puts = wire.put().len();
-    drop(wire);
+    leak(wire);
     assert!(rt; flow);
-    assert_eq!(rt; puts, 1);
+    assert!(rt; puts == 1);
 }
 
 /// Acquiring fails as illegal, puts nothing, and leaves the receiver, with the properties of
@@ -51,13 +52,13 @@ fn fails_and_leaves<R: Wait + Abort>(
     let controller = controller(rt, alloc);
     let transaction = transaction(rt, &controller);
     let (transaction, fault) = refused(rt, transaction.acquire(alloc, &mut wire, 1));
-    drop(transaction.abandon(rt));
-    drop(controller);
+    leak(transaction.abandon(rt));
+    leak(controller);
     still_waits(rt, alloc, &mut wire, next);
     let none = wire.put().is_empty();
     let left = as_of(&wire, &other);
-    drop(wire);
-    drop(other);
+    leak(wire);
+    leak(other);
     assert!(rt; same(fault, FlowError::IllegalState));
     assert!(rt; none);
     assert!(rt; left);

@@ -1,29 +1,23 @@
 //! How acquisitions end.
 
 use super::fixtures::{
-    WireAcquisition, WireTransaction, a_and_b, acquired, answers, as_of, controller, done,
-    ends_discharged, flow_is, is_to_fail, last_is, next_call_is, pending, puts, ready, receiver,
-    refused, skips, still_waits, waits,
+    WireAcquisition, WireTransaction, a_and_b, acquired, answers, as_of, controller,
+    ends_discharged, flow_is, is_to_fail, last_is, next_call_is, puts, receiver, skips,
+    still_waits, waits,
+};
+use crate::transaction_tests::links::illegal;
+use crate::transaction_tests::values::{
+    COMMIT, ROLLBACK, passed, pending, ready, refused, rolled_back, same,
 };
 use amqp_controller_acquisition::AcquisitionDischarging;
 use amqp_controller_calls::{Abandoned, ControllerSendError};
 use amqp_controller_transactions::{Controller, TransactionDischarge};
-use amqp_links::{FlowError, LinkStateError, WireReceiver, WireSender};
-use amqp_test_values::{plain_error, same};
-use amqp_txn_types::{DeliveryState, ErrorCondition, Fields, Rejected, TransactionError};
+use amqp_links::{FlowError, WireReceiver, WireSender};
+use amqp_test_values::leak;
+use amqp_txn_types::{DeliveryState, Fields, Rejected};
 use std::alloc::Global;
 use std::process::Abort;
 use std::sync::Wait;
-
-/// The commit of the id 010203.
-const COMMIT: [u8; 15] = [
-    0, 0x53, 0x77, 0, 0x53, 0x32, 0xc0, 7, 2, 0xa0, 3, 1, 2, 3, 0x42,
-];
-
-/// The rollback of the id 010203.
-const ROLLBACK: [u8; 15] = [
-    0, 0x53, 0x77, 0, 0x53, 0x32, 0xc0, 7, 2, 0xa0, 3, 1, 2, 3, 0x41,
-];
 
 /// An acquisition whose end is awaited.
 type WireDischarging<'r, 't> = AcquisitionDischarging<'r, WireTransaction<'t>, WireReceiver>;
@@ -32,25 +26,20 @@ type WireDischarging<'r, 't> = AcquisitionDischarging<'r, WireTransaction<'t>, W
 fn is_cleaned(rt: &impl Abort, alloc: Global, wire: WireReceiver, puts: usize) {
     let cleaned = flow_is(&wire, 0, Some(true), Fields::new(alloc));
     let count = wire.put().len();
-    drop(wire);
+    leak(wire);
     assert!(rt; cleaned);
-    assert_eq!(rt; count, puts);
+    assert!(rt; count == puts);
 }
 
 /// The receiver put one message, and its properties are a and b.
 fn is_as_before(rt: &impl Abort, alloc: Global, wire: WireReceiver) {
     let other = a_and_b(rt, alloc, &[]);
     let left = as_of(&wire, &other);
-    drop(other);
+    leak(other);
     let count = wire.put().len();
-    drop(wire);
+    leak(wire);
     assert!(rt; left);
-    assert_eq!(rt; count, 1);
-}
-
-/// The error of a call of the control link that is to fail.
-fn illegal() -> ControllerSendError {
-    ControllerSendError::LinkStateError(LinkStateError::IllegalState)
+    assert!(rt; count == 1);
 }
 
 /// A discharge of the acquisition, which was put.
@@ -60,9 +49,9 @@ fn begun<'r, 't, R: Wait + Abort>(
     fail: bool,
 ) -> WireDischarging<'r, 't> {
     if fail {
-        done(rt, acquisition.rollback(rt))
+        passed(rt, acquisition.rollback(rt))
     } else {
-        done(rt, acquisition.commit(rt))
+        passed(rt, acquisition.commit(rt))
     }
 }
 
@@ -78,9 +67,9 @@ fn ends<R: Wait + Abort>(
     let discharging = pending(rt, discharging.poll(rt));
     assert!(rt; last_is(rt, alloc, controller, octets));
     answers(rt, controller, 1, DeliveryState::Accepted);
-    done(rt, ready(rt, discharging.poll(rt)));
+    passed(rt, ready(rt, discharging.poll(rt)));
     assert!(rt; next_call_is(rt, alloc, controller, 6));
-    assert_eq!(rt; puts(rt, controller), 2);
+    assert!(rt; puts(rt, controller) == 2);
 }
 
 /// A discharge cleans up once, and is put once.
@@ -90,7 +79,7 @@ fn discharge_row<R: Wait + Abort>(rt: &R, alloc: Global, fail: bool, octets: &[u
     let acquisition = acquired(rt, alloc, &controller, &mut wire);
     let discharging = begun(rt, acquisition, fail);
     ends(rt, alloc, &controller, discharging, octets);
-    drop(controller);
+    leak(controller);
     is_cleaned(rt, alloc, wire, 2);
 }
 
@@ -110,9 +99,9 @@ fn a_commit_after_a_failed_cleanup_puts_nothing(rt: HostRuntime) {
     let acquisition = acquired(&rt, alloc, &controller, &mut wire);
     let (acquisition, error) = refused(&rt, acquisition.commit(&rt));
     assert!(rt; same(error, illegal()));
-    assert_eq!(rt; puts(&rt, &controller), 1);
+    assert!(rt; puts(&rt, &controller) == 1);
     ends_discharged(&rt, &controller, acquisition);
-    drop(controller);
+    leak(controller);
     is_as_before(&rt, alloc, wire);
 }
 
@@ -127,8 +116,8 @@ fn a_refused_discharge_hands_the_acquisition_back(rt: HostRuntime) {
     let (acquisition, error) = refused(&rt, acquisition.commit(&rt));
     assert!(rt; same(error, illegal()));
     skips(&rt, acquisition);
-    assert_eq!(rt; puts(&rt, &controller), 1);
-    drop(controller);
+    assert!(rt; puts(&rt, &controller) == 1);
+    leak(controller);
     is_cleaned(&rt, alloc, wire, 3);
 }
 
@@ -141,7 +130,7 @@ fn a_failed_cleanup_leaves_the_other_properties(rt: HostRuntime) {
     let fault = refused(&rt, acquisition.cleanup());
     assert!(rt; same(fault, FlowError::IllegalState));
     ends_discharged(&rt, &controller, acquisition);
-    drop(controller);
+    leak(controller);
     is_as_before(&rt, alloc, wire);
 }
 
@@ -151,9 +140,9 @@ fn a_cleanup_takes_the_credit_back(rt: HostRuntime) {
     let controller = controller(&rt, alloc);
     let mut wire = receiver(&rt, alloc, &[]);
     let mut acquisition = acquired(&rt, alloc, &controller, &mut wire);
-    done(&rt, acquisition.cleanup());
+    passed(&rt, acquisition.cleanup());
     ends_discharged(&rt, &controller, acquisition);
-    drop(controller);
+    leak(controller);
     is_cleaned(&rt, alloc, wire, 2);
 }
 
@@ -173,8 +162,8 @@ fn handed_back_row<R: Wait + Abort>(
     assert!(rt; same(error, want));
     assert!(rt; !acquisition.txn().is_discharged());
     skips(rt, acquisition);
-    drop(controller);
-    drop(wire);
+    leak(controller);
+    leak(wire);
 }
 
 #[test]
@@ -186,14 +175,6 @@ fn a_refused_end_hands_the_acquisition_back(rt: HostRuntime) {
     handed_back_row(&rt, rt.alloc(), state, want);
 }
 
-/// A discharge that the coordinator answered by a rollback.
-fn rolled_back() -> DeliveryState {
-    let condition = ErrorCondition::TransactionError(TransactionError::Rollback);
-    DeliveryState::Rejected(Rejected {
-        error: Some(plain_error(condition)),
-    })
-}
-
 /// It is given up without a rollback, after another cleanup.
 #[test]
 fn an_acquisition_that_was_rolled_back_cleans_up(rt: HostRuntime) {
@@ -202,12 +183,12 @@ fn an_acquisition_that_was_rolled_back_cleans_up(rt: HostRuntime) {
     let mut wire = receiver(&rt, alloc, &[]);
     let acquisition = acquired(&rt, alloc, &controller, &mut wire);
     let discharging = begun(&rt, acquisition, false);
-    answers(&rt, &controller, 1, rolled_back());
+    answers(&rt, &controller, 1, DeliveryState::Rejected(rolled_back()));
     let (acquisition, error) = refused(&rt, ready(&rt, discharging.poll(&rt)));
-    drop(error);
+    leak(error);
     assert!(rt; same(acquisition.abandon(&rt), Abandoned::RolledBack));
-    assert_eq!(rt; puts(&rt, &controller), 2);
-    drop(controller);
+    assert!(rt; puts(&rt, &controller) == 2);
+    leak(controller);
     is_cleaned(&rt, alloc, wire, 3);
 }
 
@@ -225,9 +206,9 @@ fn gives_up<R: Wait + Abort>(rt: &R, alloc: Global) {
     let acquisition = acquired(rt, alloc, &controller, &mut wire);
     assert!(rt; same(given_up(rt, acquisition), Abandoned::Unanswered));
     assert!(rt; last_is(rt, alloc, &controller, &ROLLBACK));
-    assert_eq!(rt; puts(rt, &controller), 2);
+    assert!(rt; puts(rt, &controller) == 2);
     assert!(rt; next_call_is(rt, alloc, &controller, 5));
-    drop(controller);
+    leak(controller);
     still_waits(rt, alloc, &mut wire, 4);
     is_cleaned(rt, alloc, wire, 2);
 }
@@ -240,7 +221,7 @@ fn fails_to_roll_back<R: Wait + Abort>(rt: &R, alloc: Global) {
     let acquisition = acquired(rt, alloc, &controller, &mut wire);
     assert!(rt; same(given_up(rt, acquisition), Abandoned::Failed(illegal())));
     assert!(rt; next_call_is(rt, alloc, &controller, 4));
-    drop(controller);
+    leak(controller);
     is_cleaned(rt, alloc, wire, 2);
 }
 
@@ -258,10 +239,10 @@ fn an_abandon_once_discharged_puts_nothing(rt: HostRuntime) {
     waits(&rt, alloc, &mut wire);
     let acquisition = acquired(&rt, alloc, &controller, &mut wire);
     ends_discharged(&rt, &controller, acquisition);
-    assert_eq!(rt; puts(&rt, &controller), 2);
-    drop(controller);
+    assert!(rt; puts(&rt, &controller) == 2);
+    leak(controller);
     still_waits(&rt, alloc, &mut wire, 3);
     let count = wire.put().len();
-    drop(wire);
-    assert_eq!(rt; count, 1);
+    leak(wire);
+    assert!(rt; count == 1);
 }

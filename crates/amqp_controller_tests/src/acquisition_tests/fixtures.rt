@@ -1,6 +1,7 @@
 //! A transaction over a wire, and a receiver that is a wire. A helper asserts what it names, and
 //! lets each value go by name: so the proof of a test has one path.
 
+use crate::transaction_tests::values::{passed, ready, same};
 use amqp_controller_acquisition::{TransactionAcquisition, TxnAcquisition};
 use amqp_controller_calls::Abandoned;
 use amqp_controller_transactions::{Controller, Transaction, TransactionDischarge};
@@ -8,7 +9,7 @@ use amqp_links::{
     Delivery, DeliveryInfo, LinkStateError, Poll, Progress, ReceiverLink, ReceiverMessage,
     RecvError, Sendable, SenderLink, Sent, WireReceiver, WireSender,
 };
-use amqp_test_values::{call_numbers, link_end, same};
+use amqp_test_values::{call_numbers, leak, link_end};
 use amqp_txn_types::{
     Binary, Declared, DeliveryState, Fields, LinkEnd, Payload, Role, Symbol, Text, Token,
     TransactionId, Value,
@@ -22,38 +23,6 @@ pub type WireTransaction<'t> = Transaction<'t, WireSender>;
 
 /// An acquisition by a transaction over a wire.
 pub type WireAcquisition<'r, 't> = TxnAcquisition<'r, WireTransaction<'t>, WireReceiver>;
-
-/// The Ok of a call. Its error needn't be Debug, as for `expect`.
-pub fn done<T, E>(rt: &impl Abort, answer: Result<T, E>) -> T {
-    match answer {
-        Ok(value) => value,
-        Err(_error) => panic!(rt; "it is refused"),
-    }
-}
-
-/// The error of a call.
-pub fn refused<T, E>(rt: &impl Abort, answer: Result<T, E>) -> E {
-    match answer {
-        Ok(_value) => panic!(rt; "it isn't refused"),
-        Err(error) => error,
-    }
-}
-
-/// The wait that goes on.
-pub fn pending<P, T>(rt: &impl Abort, progress: Progress<P, T>) -> P {
-    match progress {
-        Progress::Pending(waiting) => waiting,
-        Progress::Ready(_value) => panic!(rt; "it is over"),
-    }
-}
-
-/// The answer of a wait that is over.
-pub fn ready<P, T>(rt: &impl Abort, progress: Progress<P, T>) -> T {
-    match progress {
-        Progress::Pending(_waiting) => panic!(rt; "it is pending"),
-        Progress::Ready(value) => value,
-    }
-}
 
 /// The id 010203.
 pub fn id(rt: &impl Abort) -> TransactionId {
@@ -100,13 +69,13 @@ pub fn delivery(alloc: Global) -> Delivery {
 
 /// A delivery waits on the receiver, whose credit is set to five by its first call.
 pub fn waits(rt: &impl Abort, alloc: Global, wire: &mut WireReceiver) {
-    done(rt, wire.deliver(delivery(alloc)));
-    done(rt, wire.set_credit(5));
+    passed(rt, wire.deliver(delivery(alloc)));
+    passed(rt, wire.set_credit(5));
 }
 
 /// The credit is five, the next call of the receiver has that number, and the delivery still waits.
 pub fn still_waits(rt: &impl Abort, alloc: Global, wire: &mut WireReceiver, next: u64) {
-    assert_eq!(rt; wire.credit(), 5);
+    assert!(rt; wire.credit() == 5);
     wire.set_failing(call_numbers(alloc, &[next]).expect(rt, "numbers"));
     let fault = RecvError::LinkStateError(LinkStateError::IllegalState);
     assert!(rt; same(wire.recv(), Poll::Ready(Err(fault))));
@@ -149,9 +118,9 @@ pub fn transaction<'t, R: Wait + Abort>(
     rt: &R,
     controller: &'t Controller<WireSender>,
 ) -> WireTransaction<'t> {
-    let declaring = done(rt, Transaction::declare(controller, rt, None));
+    let declaring = passed(rt, Transaction::declare(controller, rt, None));
     answers(rt, controller, 0, declaration(rt));
-    done(rt, ready(rt, declaring.poll(rt)))
+    passed(rt, ready(rt, declaring.poll(rt)))
 }
 
 /// The transaction with the receiver, that is to have the credit 1.
@@ -162,7 +131,7 @@ pub fn acquired<'r, 't, R: Wait + Abort>(
     wire: &'r mut WireReceiver,
 ) -> WireAcquisition<'r, 't> {
     let transaction = transaction(rt, controller);
-    done(rt, transaction.acquire(alloc, wire, 1))
+    passed(rt, transaction.acquire(alloc, wire, 1))
 }
 
 /// Gives the acquisition up without a rollback, which ends as skipped.
@@ -187,9 +156,9 @@ fn discharges<R: Wait + Abort>(
     controller: &Controller<WireSender>,
     transaction: &mut WireTransaction<'_>,
 ) {
-    let waiting = done(rt, transaction.discharge(rt, true));
+    let waiting = passed(rt, transaction.discharge(rt, true));
     answers(rt, controller, 1, DeliveryState::Accepted);
-    done(rt, ready(rt, transaction.poll_discharge(rt, waiting)));
+    passed(rt, ready(rt, transaction.poll_discharge(rt, waiting)));
 }
 
 /// Whether the receiver's properties are those of another.
@@ -212,7 +181,7 @@ pub fn flow_is(wire: &WireReceiver, credit: u32, drain: Option<bool>, properties
         None => false,
         Some(message) => *message == want,
     };
-    drop(want);
+    leak(want);
     equal
 }
 
@@ -276,6 +245,6 @@ pub fn last_is<R: Wait + Abort>(
         }
     };
     drop(link);
-    drop(want);
+    leak(want);
     equal
 }

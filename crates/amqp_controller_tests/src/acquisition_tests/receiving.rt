@@ -1,13 +1,13 @@
 //! What is received and retired under an acquisition.
 
 use super::fixtures::{
-    WireAcquisition, acquired, controller, delivery, done, ends_discharged, id, receiver, refused,
-    seventh, skips,
+    WireAcquisition, acquired, controller, delivery, ends_discharged, id, receiver, seventh, skips,
 };
+use crate::transaction_tests::values::{passed, refused, same};
 use amqp_links::{
     DeliveryInfo, FlowError, LinkStateError, Poll, ReceiverMessage, RecvError, WireReceiver,
 };
-use amqp_test_values::same;
+use amqp_test_values::leak;
 use amqp_txn_types::{DeliveryState, Modified, Outcome, Rejected, TransactionalState};
 use std::alloc::Global;
 use std::process::Abort;
@@ -17,12 +17,12 @@ fn a_delivery_is_received(rt: HostRuntime) {
     let alloc = rt.alloc();
     let controller = controller(&rt, alloc);
     let mut wire = receiver(&rt, alloc, &[]);
-    done(&rt, wire.deliver(delivery(alloc)));
+    passed(&rt, wire.deliver(delivery(alloc)));
     let mut acquisition = acquired(&rt, alloc, &controller, &mut wire);
     let found = acquisition.recv();
     skips(&rt, acquisition);
-    drop(controller);
-    drop(wire);
+    leak(controller);
+    leak(wire);
     assert!(rt; same(found, Poll::Ready(Ok(delivery(alloc)))));
 }
 
@@ -33,12 +33,12 @@ fn the_credit_is_set(rt: HostRuntime) {
     let controller = controller(&rt, alloc);
     let mut wire = receiver(&rt, alloc, &[]);
     let mut acquisition = acquired(&rt, alloc, &controller, &mut wire);
-    done(&rt, acquisition.set_credit(5));
+    passed(&rt, acquisition.set_credit(5));
     ends_discharged(&rt, &controller, acquisition);
-    drop(controller);
+    leak(controller);
     let credit = wire.credit();
-    drop(wire);
-    assert_eq!(rt; credit, 5);
+    leak(wire);
+    assert!(rt; credit == 5);
 }
 
 /// The second call of the receiver is that of the credit, and the third is the look.
@@ -51,8 +51,8 @@ fn faults_of_the_receiver_are_passed_on(rt: HostRuntime) {
     let fault = refused(&rt, acquisition.set_credit(5));
     let found = acquisition.recv();
     skips(&rt, acquisition);
-    drop(controller);
-    drop(wire);
+    leak(controller);
+    leak(wire);
     assert!(rt; same(fault, FlowError::IllegalState));
     let want = RecvError::LinkStateError(LinkStateError::IllegalState);
     assert!(rt; same(found, Poll::Ready(Err(want))));
@@ -69,10 +69,10 @@ fn failed() -> Modified {
 
 /// Retires the delivery with each outcome.
 fn retires(rt: &impl Abort, acquisition: &mut WireAcquisition<'_, '_>, info: &DeliveryInfo) {
-    done(rt, acquisition.accept(info));
-    done(rt, acquisition.reject(info, None));
-    done(rt, acquisition.release(info));
-    done(rt, acquisition.modify(info, failed()));
+    passed(rt, acquisition.accept(info));
+    passed(rt, acquisition.reject(info, None));
+    passed(rt, acquisition.release(info));
+    passed(rt, acquisition.modify(info, failed()));
 }
 
 /// The message of that place retires the seventh delivery with the outcome.
@@ -90,7 +90,7 @@ fn is_retired(rt: &impl Abort, alloc: Global, wire: &WireReceiver, place: usize,
         None => false,
         Some(message) => *message == want,
     };
-    drop(want);
+    leak(want);
     assert!(rt; equal);
 }
 
@@ -106,7 +106,7 @@ fn all_retired(rt: &impl Abort, alloc: Global, wire: &WireReceiver) {
     );
     is_retired(rt, alloc, wire, 3, Outcome::Released);
     is_retired(rt, alloc, wire, 4, Outcome::Modified(failed()));
-    assert_eq!(rt; wire.put().len(), 5);
+    assert!(rt; wire.put().len() == 5);
 }
 
 #[test]
@@ -118,8 +118,8 @@ fn a_delivery_is_retired_with_each_outcome(rt: HostRuntime) {
     let mut acquisition = acquired(&rt, alloc, &controller, &mut wire);
     retires(&rt, &mut acquisition, &info);
     ends_discharged(&rt, &controller, acquisition);
-    drop(info);
-    drop(controller);
+    leak(info);
+    leak(controller);
     all_retired(&rt, alloc, &wire);
-    drop(wire);
+    leak(wire);
 }

@@ -12,7 +12,7 @@ use amqp_controller_transactions::{
     Attaching, Controller, OwnedDeclareError, OwnedTransaction, TransactionDischarge,
 };
 use amqp_links::{LinkStateError, Poll, SenderLink, WireSender};
-use amqp_test_values::{begin, call_numbers, sender_attach};
+use amqp_test_values::{begin, call_numbers, leak, sender_attach};
 use amqp_txn_types::{
     Coordinator, DeliveryState, OutgoingChannel, Role, SenderSettleMode, SessionState,
     SessionStopReason, Token,
@@ -30,7 +30,7 @@ fn peer_attaches<S: Session, R: Abort + AllocGlobal>(rt: &R, session: &mut S) {
     let mut attach = sender_attach(name(rt), 0, None);
     attach.role = Role::Receiver;
     attach.snd_settle_mode = SenderSettleMode::Unsettled;
-    drop(session.on_incoming_attach(attach).expect(rt, "an Ok"));
+    leak(session.on_incoming_attach(attach).expect(rt, "an Ok"));
 }
 
 /// The control link whose attach a sender is to send.
@@ -38,7 +38,7 @@ fn attach<S: Session, R: Abort + AllocGlobal>(rt: &R, session: &mut S) -> Attach
     let begun = Controller::attach(rt.alloc(), session, name(rt));
     let (attaching, attach) = begun.expect(rt, "an Ok");
     assert!(rt; attach.role == Role::Sender);
-    drop(attach);
+    leak(attach);
     attaching
 }
 
@@ -67,7 +67,7 @@ fn assert_calls<R: Wait + Abort + AllocGlobal>(
 }
 
 /// A link is pending first, and attached once the peer attached it; it settles so.
-fn is_attached<S: Session + Drop, R: Wait + Abort + AllocGlobal>(
+fn is_attached<S: Session, R: Wait + Abort + AllocGlobal>(
     rt: &R,
     mut session: S,
     attaching: Attaching,
@@ -76,14 +76,14 @@ fn is_attached<S: Session + Drop, R: Wait + Abort + AllocGlobal>(
     let attaching = pending(rt, attaching.poll(&mut session));
     peer_attaches(rt, &mut session);
     let controller = ready(rt, attaching.poll(&mut session)).expect(rt, "an Ok");
-    drop(session);
+    leak(session);
     let want = end(rt, Role::Sender, mode);
     let link = controller.link(rt);
     assert!(rt; *link.end() == want);
     drop(link);
-    drop(want);
+    leak(want);
     assert_calls(rt, &controller, 0, 1);
-    drop(controller);
+    leak(controller);
 }
 
 #[test]
@@ -100,7 +100,7 @@ fn built<S: Session, R: Abort + AllocGlobal>(rt: &R, session: &mut S) -> Attachi
         .coordinator(Coordinator::default())
         .sender_settle_mode(SenderSettleMode::Settled);
     let (attaching, attach) = builder.attach(session).expect(rt, "an Ok");
-    drop(attach);
+    leak(attach);
     attaching
 }
 
@@ -113,7 +113,7 @@ fn a_control_link_is_built(rt: HostRuntime) {
 
 /// A second link of a name is refused.
 fn attaches_once<S: Session, R: Abort + AllocGlobal>(rt: &R, session: &mut S) {
-    drop(Controller::attach(rt.alloc(), session, name(rt)).expect(rt, "an Ok"));
+    leak(Controller::attach(rt.alloc(), session, name(rt)).expect(rt, "an Ok"));
     let coordinator = Coordinator::default();
     let again = Controller::attach_with_coordinator(rt.alloc(), session, name(rt), coordinator);
     let want = SenderAttachError::Alloc(AllocLinkError::DuplicatedLinkName);
@@ -124,7 +124,7 @@ fn attaches_once<S: Session, R: Abort + AllocGlobal>(rt: &R, session: &mut S) {
 fn a_name_is_attached_once(rt: HostRuntime) {
     let mut session = session(&rt);
     attaches_once(&rt, &mut session);
-    drop(session);
+    leak(session);
 }
 
 /// The session refuses the attach, which it gave a handle.
@@ -142,7 +142,7 @@ fn a_refused_attach_frees_its_handle(rt: HostRuntime) {
     let mut session = PlainSession::new(rt.alloc(), channel, state, begin(0));
     refuses_attach(&rt, &mut session);
     refuses_attach(&rt, &mut session);
-    drop(session);
+    leak(session);
 }
 
 /// The stop of the session ends the attach.
@@ -157,7 +157,7 @@ fn is_stopped<S: Session, R: Abort + AllocGlobal>(rt: &R, session: &mut S) {
 fn a_stopped_session_ends_the_attach(rt: HostRuntime) {
     let mut session = session(&rt);
     is_stopped(&rt, &mut session);
-    drop(session);
+    leak(session);
 }
 
 /// The only message of the controller's link is the declare of 010203; it is answered.
@@ -175,7 +175,7 @@ fn answers_declare<R: Wait + Abort + AllocGlobal>(rt: &R, controller: &Controlle
 fn is_declared<S: Session, R: Wait + Abort + AllocGlobal>(rt: &R, session: &mut S) {
     let begun = OwnedTransaction::declare(rt.alloc(), session, name(rt), Some(id()));
     let (declaring, attach) = begun.expect(rt, "an Ok");
-    drop(attach);
+    leak(attach);
     assert!(rt; declaring.controller().is_none());
     peer_attaches(rt, session);
     let declaring = pending(rt, declaring.poll(rt, session));
@@ -190,14 +190,14 @@ fn is_declared<S: Session, R: Wait + Abort + AllocGlobal>(rt: &R, session: &mut 
 fn an_owned_transaction_is_declared_once_its_link_is_attached(rt: HostRuntime) {
     let mut session = session(&rt);
     is_declared(&rt, &mut session);
-    drop(session);
+    leak(session);
 }
 
 /// The calls of the link of an owned transaction: the declare, and one look, which fails.
 fn is_undeclared<S: Session, R: Wait + Abort + AllocGlobal>(rt: &R, session: &mut S) {
     let begun = OwnedTransaction::declare(rt.alloc(), session, name(rt), None);
     let (declaring, attach) = begun.expect(rt, "an Ok");
-    drop(attach);
+    leak(attach);
     peer_attaches(rt, session);
     let declaring = pending(rt, declaring.poll(rt, session));
     fails_at(rt, declaring.controller().expect(rt, "a controller"), 2);
@@ -205,12 +205,12 @@ fn is_undeclared<S: Session, R: Wait + Abort + AllocGlobal>(rt: &R, session: &mu
     assert!(rt; same(error, OwnedDeclareError::ControllerSendError(illegal())));
     let controller = controller.expect(rt, "a controller");
     assert_calls(rt, &controller, 1, 3);
-    drop(controller);
+    leak(controller);
 }
 
 #[test]
 fn a_declare_that_fails_hands_the_controller_back(rt: HostRuntime) {
     let mut session = session(&rt);
     is_undeclared(&rt, &mut session);
-    drop(session);
+    leak(session);
 }

@@ -14,6 +14,7 @@ use amqp_controller_calls::{Abandoned, ControllerSendError, TransactionBase};
 use amqp_controller_transactions::{
     Controller, DEFAULT_ROLLBACK_ON_DROP_TRIALS, Transaction, TransactionDischarge,
 };
+use amqp_test_values::leak;
 use amqp_txn_types::DeliveryState;
 use std::process::Abort;
 use std::sync::Wait;
@@ -34,9 +35,9 @@ pub fn begun<'t, R: Wait + Abort>(
 fn a_declare_is_put_once(rt: HostRuntime) {
     for (global_id, octets) in declares() {
         let controller = counting(&rt, &[]);
-        drop(Transaction::declare(&controller, &rt, global_id).expect(&rt, "an Ok"));
+        leak(Transaction::declare(&controller, &rt, global_id).expect(&rt, "an Ok"));
         put_once(&rt, &controller, octets);
-        drop(controller);
+        leak(controller);
     }
 }
 
@@ -49,7 +50,7 @@ fn each_poll_of_a_declare_looks_once(rt: HostRuntime) {
     assert!(rt; transaction.rollback_on_drop_trials() == DEFAULT_ROLLBACK_ON_DROP_TRIALS);
     gives_up(&rt, transaction, 0, Abandoned::Skipped);
     assert_counts(&rt, &controller, (1, 2, 0));
-    drop(controller);
+    leak(controller);
 }
 
 #[test]
@@ -57,14 +58,14 @@ fn a_discharged_value_puts_nothing_more(rt: HostRuntime) {
     let controller = counting(&rt, &[]);
     discharged_row(&rt, begun(&rt, &controller));
     assert_counts(&rt, &controller, (2, 4, 0));
-    drop(controller);
+    leak(controller);
 }
 
 fn accepted<R: Wait + Abort + AllocGlobal>(rt: &R, fail: bool) {
     let controller = counting(rt, &[]);
     accepted_row(rt, begun(rt, &controller), fail);
     assert_counts(rt, &controller, (2, 4, 0));
-    drop(controller);
+    leak(controller);
 }
 
 #[test]
@@ -77,14 +78,14 @@ fn a_discharge_is_polled_to_its_end(rt: HostRuntime) {
 fn a_commit_that_is_rejected_leaves_the_value(rt: HostRuntime) {
     let controller = counting(&rt, &[]);
     assert!(rt; same(rejected_row(&rt, begun(&rt, &controller)), rejection()));
-    drop(controller);
+    leak(controller);
 }
 
 #[test]
 fn a_discharge_that_is_rejected_leaves_the_value(rt: HostRuntime) {
     let controller = counting(&rt, &[]);
     assert!(rt; same(undischarged_row(&rt, begun(&rt, &controller)), rejection()));
-    drop(controller);
+    leak(controller);
 }
 
 /// Giving it up puts nothing.
@@ -93,7 +94,7 @@ fn a_value_that_was_rolled_back_is_given_up(rt: HostRuntime) {
     let controller = counting(&rt, &[]);
     rolled_back_row(&rt, begun(&rt, &controller));
     assert_counts(&rt, &controller, (2, 4, 0));
-    drop(controller);
+    leak(controller);
 }
 
 #[test]
@@ -101,7 +102,7 @@ fn a_value_that_was_rolled_back_is_committed_again(rt: HostRuntime) {
     let controller = counting(&rt, &[]);
     second_commit_row(&rt, begun(&rt, &controller));
     assert_counts(&rt, &controller, (3, 5, 0));
-    drop(controller);
+    leak(controller);
 }
 
 #[test]
@@ -110,7 +111,7 @@ fn a_refused_declare_is_no_transaction(rt: HostRuntime) {
     let error = refused(&rt, Transaction::declare(&controller, &rt, None));
     assert!(rt; same(error, illegal()));
     assert_counts(&rt, &controller, (0, 0, 0));
-    drop(controller);
+    leak(controller);
 }
 
 /// The calls of the link: a declare, two looks, and the commit, which fails.
@@ -119,7 +120,7 @@ fn a_refused_commit_hands_the_value_back(rt: HostRuntime) {
     let controller = counting(&rt, &[4]);
     let error = unsent_row(&rt, begun(&rt, &controller));
     assert!(rt; same(error, illegal()));
-    drop(controller);
+    leak(controller);
 }
 
 #[test]
@@ -130,8 +131,8 @@ fn a_refused_discharge_leaves_the_value(rt: HostRuntime) {
     assert!(rt; same(error, illegal()));
     assert!(rt; !transaction.is_discharged());
     assert_counts(&rt, &controller, (1, 2, 0));
-    drop(transaction.abandon(&rt));
-    drop(controller);
+    leak(transaction.abandon(&rt));
+    leak(controller);
 }
 
 #[test]
@@ -140,7 +141,7 @@ fn giving_up_looks_as_often_as_it_may(rt: HostRuntime) {
     gives_up(&rt, begun(&rt, &controller), 2, Abandoned::Unanswered);
     assert_last(&rt, &controller, &ROLLBACK);
     assert_counts(&rt, &controller, (2, 4, 0));
-    drop(controller);
+    leak(controller);
 }
 
 /// Over a late link, whose answer is a state that isn't Declared.
@@ -150,7 +151,7 @@ fn a_declare_that_is_accepted_is_no_transaction(rt: HostRuntime) {
     let declaring = Transaction::declare(&controller, &rt, None).expect(&rt, "an Ok");
     let error = refused(&rt, ready(&rt, declaring.poll(&rt)));
     assert!(rt; same(error, ControllerSendError::IllegalDeliveryState));
-    drop(controller);
+    leak(controller);
 }
 
 /// With three trials, over a link that is pending at two looks.
@@ -162,5 +163,5 @@ fn giving_up_is_answered_at_the_third_look(rt: HostRuntime) {
     transaction.set_rollback_on_drop_trials(3);
     let want = Abandoned::Answered(Some(DeliveryState::Accepted));
     assert!(rt; same(transaction.abandon(&rt), want));
-    drop(controller);
+    leak(controller);
 }

@@ -1,9 +1,10 @@
 //! Controllers that are closed.
 
 use crate::transaction_tests::links::{Lent, assert_counts, counting, late};
-use crate::transaction_tests::values::{passed, plain_error, refused, same};
+use crate::transaction_tests::values::{passed, refused, same};
 use amqp_controller_transactions::Controller;
 use amqp_links::{DetachError, SenderLink};
+use amqp_test_values::{leak, plain_error};
 use amqp_txn_types::{AmqpError, Error, ErrorCondition};
 use std::process::Abort;
 use std::sync::Wait;
@@ -29,7 +30,7 @@ fn refused_row<R: Wait + Abort + AllocGlobal>(rt: &R, error: Option<Error>) {
     let (controller, fault) = refused(rt, close(rt, counting(rt, &[1]), error));
     assert!(rt; same(fault, DetachError::IllegalState));
     assert_counts(rt, &controller, (0, 0, 1));
-    drop(controller);
+    leak(controller);
 }
 
 #[test]
@@ -46,8 +47,8 @@ fn close_row<R: Wait + Abort + AllocGlobal>(rt: &R, error: Option<Error>, want: 
     assert!(rt; link.wire.closes().len() == 1);
     let found = link.wire.closes().as_slice().last().expect(rt, "a close");
     assert!(rt; *found == want);
-    drop(want);
-    drop(link);
+    leak(want);
+    leak(link);
 }
 
 #[test]

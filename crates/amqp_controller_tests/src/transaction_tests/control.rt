@@ -4,13 +4,13 @@ ghost use Rattle.std.specs.Prelude.{◌≤◌};
 
 use crate::transaction_tests::links::{assert_put, illegal};
 use crate::transaction_tests::values::{
-    COMMIT, DECLARE, GLOBAL_DECLARE, ROLLBACK, declaration, id, pending, plain_error, same,
-    unknown_id, wire,
+    COMMIT, DECLARE, GLOBAL_DECLARE, ROLLBACK, declaration, id, pending, same, unknown_id, wire,
 };
 use amqp_controller_calls::{
     Abandoned, ControllerSendError, abandon_on_link, declare_on_link, discharge_on_link,
 };
 use amqp_links::{Progress, WireSender};
+use amqp_test_values::{leak, plain_error};
 use amqp_txn_types::{
     Accepted, Declared, DeliveryState, ErrorCondition, Rejected, Symbol, Token, TransactionId,
 };
@@ -25,9 +25,9 @@ fn assert_one_put<R: Abort + AllocGlobal>(rt: &R, wire: &WireSender, octets: &[u
 /// A declare puts those octets.
 fn declare_puts<R: Abort + AllocGlobal>(rt: &R, global_id: Option<TransactionId>, octets: &[u8]) {
     let mut wire = wire(rt, &[]);
-    drop(declare_on_link(rt.alloc(), &mut wire, global_id).expect(rt, "an Ok"));
+    leak(declare_on_link(rt.alloc(), &mut wire, global_id).expect(rt, "an Ok"));
     assert_one_put(rt, &wire, octets);
-    drop(wire);
+    leak(wire);
 }
 
 #[test]
@@ -39,9 +39,9 @@ fn a_declare_is_put(rt: HostRuntime) {
 /// A discharge puts those octets.
 fn discharge_puts<R: Abort + AllocGlobal>(rt: &R, fail: bool, octets: &[u8]) {
     let mut wire = wire(rt, &[]);
-    drop(discharge_on_link(rt.alloc(), &mut wire, &id(), Some(fail)).expect(rt, "an Ok"));
+    leak(discharge_on_link(rt.alloc(), &mut wire, &id(), Some(fail)).expect(rt, "an Ok"));
     assert_one_put(rt, &wire, octets);
-    drop(wire);
+    leak(wire);
 }
 
 #[test]
@@ -60,7 +60,7 @@ fn declare_row<R: Abort + AllocGlobal>(
     let declare = declare_on_link(rt.alloc(), &mut wire, None).expect(rt, "an Ok");
     assert!(rt; wire.answer(Token(0), Ok(answer)));
     assert!(rt; same(declare.poll(&mut wire), Progress::Ready(want)));
-    drop(wire);
+    leak(wire);
 }
 
 #[test]
@@ -95,7 +95,7 @@ fn a_custom_condition_is_no_rollback(rt: HostRuntime) {
     let error = Some(plain_error(ErrorCondition::Custom(symbol)));
     let found = ControllerSendError::Rejected(Rejected { error });
     let is_rollback = found.is_rollback();
-    drop(found);
+    leak(found);
     assert!(rt; !is_rollback);
 }
 
@@ -106,7 +106,7 @@ fn discharges<R: Abort + AllocGlobal>(rt: &R) {
     let discharge = pending(rt, discharge.expect(rt, "an Ok").poll(&mut wire));
     assert!(rt; wire.answer(Token(0), Ok(Some(DeliveryState::Accepted))));
     assert!(rt; same(discharge.poll(&mut wire), Progress::Ready(Ok(Accepted))));
-    drop(wire);
+    leak(wire);
 }
 
 #[test]
@@ -121,7 +121,7 @@ fn each_poll_of_a_declare_looks_once(rt: HostRuntime) {
     let declare = declare_on_link(rt.alloc(), &mut wire, None).expect(&rt, "an Ok");
     let declare = pending(&rt, declare.poll(&mut wire));
     assert!(rt; same(declare.poll(&mut wire), Progress::Ready(Err(illegal()))));
-    drop(wire);
+    leak(wire);
 }
 
 /// The link's third call fails at the second poll of a discharge: each poll looks once.
@@ -131,7 +131,7 @@ fn each_poll_of_a_discharge_looks_once(rt: HostRuntime) {
     let discharge = discharge_on_link(rt.alloc(), &mut wire, &id(), None).expect(&rt, "an Ok");
     let discharge = pending(&rt, discharge.poll(&mut wire));
     assert!(rt; same(discharge.poll(&mut wire), Progress::Ready(Err(illegal()))));
-    drop(wire);
+    leak(wire);
 }
 
 /// Giving up with that many trials, on a link whose fourth call fails, ends so.
@@ -141,7 +141,7 @@ fn gives_up<R: Abort + AllocGlobal>(rt: &R, trials: u32, want: Abandoned)
     let mut wire = wire(rt, &[4]);
     assert!(rt; same(abandon_on_link(rt.alloc(), &mut wire, &id(), trials), want));
     assert_one_put(rt, &wire, &ROLLBACK);
-    drop(wire);
+    leak(wire);
 }
 
 #[test]

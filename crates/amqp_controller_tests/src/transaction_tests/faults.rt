@@ -6,6 +6,7 @@ use crate::transaction_tests::values::{passed, ready, refused, same};
 use crate::transaction_tests::{borrowed, owned};
 use amqp_controller_calls::Abandoned;
 use amqp_controller_transactions::{OwnedDischargeError, OwnedTransaction, Transaction};
+use amqp_test_values::leak;
 use std::process::Abort;
 use std::sync::Wait;
 
@@ -15,7 +16,7 @@ fn undeclared<R: Wait + Abort + AllocGlobal>(rt: &R) {
     let declaring = Transaction::declare(&controller, rt, None).expect(rt, "an Ok");
     let error = refused(rt, ready(rt, declaring.poll(rt)));
     assert!(rt; same(error, illegal()));
-    drop(controller);
+    leak(controller);
 }
 
 /// An owned declare whose look fails: its controller is handed back.
@@ -25,7 +26,7 @@ fn undeclared_owned<R: Wait + Abort + AllocGlobal>(rt: &R) {
     let (controller, error) = refused(rt, ready(rt, declaring.poll(rt)));
     assert!(rt; same(error, illegal()));
     assert_counts(rt, &controller, (1, 1, 0));
-    drop(controller);
+    leak(controller);
 }
 
 #[test]
@@ -40,7 +41,7 @@ fn a_look_that_fails_leaves_the_value(rt: HostRuntime) {
     let controller = counting(&rt, &[5]);
     let error = unfound_row(&rt, borrowed::begun(&rt, &controller));
     assert!(rt; same(error, illegal()));
-    drop(controller);
+    leak(controller);
     let error = unfound_row(&rt, owned::begun(&rt, &[5]));
     assert!(rt; same(error, OwnedDischargeError::ControllerSendError(illegal())));
 }
@@ -51,7 +52,7 @@ fn given_up<R: Wait + Abort + AllocGlobal>(rt: &R, failing: u64) {
     let controller = counting(rt, &[failing]);
     let transaction = borrowed::begun(rt, &controller);
     gives_up(rt, transaction, 2, Abandoned::Failed(illegal()));
-    drop(controller);
+    leak(controller);
     let transaction = owned::begun(rt, &[failing]);
     gives_up(rt, transaction, 2, Abandoned::Failed(illegal()));
 }

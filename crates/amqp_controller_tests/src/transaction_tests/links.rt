@@ -6,6 +6,7 @@ use amqp_controller_transactions::Controller;
 use amqp_links::{
     DetachError, LinkStateError, Poll, SendError, Sendable, SenderLink, Sent, WireSender,
 };
+use amqp_test_values::leak;
 use amqp_txn_types::{Declared, DeliveryState, Error, Payload, Token};
 use std::process::Abort;
 use std::sync::Wait;
@@ -170,7 +171,7 @@ pub fn assert_put<R: Abort + AllocGlobal>(rt: &R, wire: &WireSender, octets: &[u
     let message = wire.put().as_slice().last().expect(rt, "a message");
     assert!(rt; message.sendable == want);
     assert!(rt; message.state.is_none() && !message.batchable && message.sent != Sent::Settled);
-    drop(want);
+    leak(want);
 }
 
 /// The last message that was put on a controller's link is that.

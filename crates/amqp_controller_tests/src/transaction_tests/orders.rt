@@ -5,6 +5,7 @@ use crate::transaction_tests::rows::gives_up;
 use crate::transaction_tests::values::{id, passed, pending, ready};
 use amqp_controller_calls::{Abandoned, TransactionBase};
 use amqp_controller_transactions::{Controller, Declaring, Transaction, TransactionDischarge};
+use amqp_test_values::leak;
 use amqp_txn_types::{Declared, DeliveryState, TransactionId};
 use std::process::Abort;
 use std::sync::Wait;
@@ -33,7 +34,7 @@ fn two_transactions_are_polled_in_any_order(rt: HostRuntime) {
     let first = pending(&rt, first.poll(&rt));
     answers(&rt, &controller, 0, first, id());
     assert_counts(&rt, &controller, (2, 3, 0));
-    drop(controller);
+    leak(controller);
 }
 
 /// A transaction of that id, whose declare is the message of that number.
@@ -66,5 +67,5 @@ fn two_discharges_are_polled_in_any_order(rt: HostRuntime) {
     fill(&rt, &controller, 2, DeliveryState::Accepted);
     passed(&rt, ready(&rt, first.poll(&rt)));
     assert_counts(&rt, &controller, (4, 5, 0));
-    drop(controller);
+    leak(controller);
 }

@@ -15,6 +15,7 @@ use amqp_controller_transactions::{
     Controller, OwnedDischargeError, OwnedTransaction, TransactionDischarge,
 };
 use amqp_links::DetachError;
+use amqp_test_values::leak;
 use amqp_txn_types::DeliveryState;
 use std::process::Abort;
 use std::sync::Wait;
@@ -43,7 +44,7 @@ fn a_declare_is_put_once(rt: HostRuntime) {
         let declare = OwnedTransaction::declare_with_controller(controller, &rt, global_id);
         let declaring = passed(&rt, declare);
         put_once(&rt, declaring.controller(), octets);
-        drop(declaring);
+        leak(declaring);
     }
 }
 
@@ -102,7 +103,7 @@ fn a_refused_declare_hands_the_controller_back(rt: HostRuntime) {
     let (controller, error) = refused(&rt, declare);
     assert!(rt; same(error, illegal()));
     assert_counts(&rt, &controller, (0, 0, 0));
-    drop(controller);
+    leak(controller);
 }
 
 /// The calls of the link: a declare, two looks, a commit, two looks, and the close, which fails.
@@ -116,7 +117,7 @@ fn a_failed_close_hands_the_value_back_discharged(rt: HostRuntime) {
     assert!(rt; same(error, want));
     assert_counts(&rt, transaction.controller(), (2, 4, 1));
     assert!(rt; transaction.is_discharged());
-    drop(transaction.discharge(&rt, true).expect(&rt, "an Ok"));
+    leak(transaction.discharge(&rt, true).expect(&rt, "an Ok"));
     assert_counts(&rt, transaction.controller(), (2, 4, 1));
     gives_up(&rt, transaction, 20, Abandoned::Discharged);
 }
@@ -151,7 +152,7 @@ fn begun_over<'l, R: Wait + Abort + AllocGlobal>(
 /// So many messages and closes were put on the link.
 fn assert_link<R: Abort>(rt: &R, link: LateLink, want: (usize, usize)) {
     let counts = (link.wire.put().len(), link.wire.closes().len());
-    drop(link);
+    leak(link);
     assert!(rt; counts == want);
 }
 

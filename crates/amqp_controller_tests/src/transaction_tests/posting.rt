@@ -10,6 +10,7 @@ use amqp_links::{
     DeliveryInfo, DetachError, DispositionError, IllegalLinkStateError, LinkStateError, Progress,
     SendError, Sendable, WireReceiver, WireSender,
 };
+use amqp_test_values::leak;
 use amqp_txn_types::{
     Binary, DeliveryState, Modified, Outcome, Payload, Role, SenderSettleMode, SessionStopReason,
     Token, TransactionId, TransactionalState,
@@ -57,16 +58,16 @@ fn posted<R: Abort>(rt: &R, sender: &mut WireSender, settled: Option<bool>) -> D
 fn messages_are_posted(rt: HostRuntime) {
     let mut sender = wire(&rt, &[]);
     let message = sendable(None);
-    drop(posted(&rt, &mut sender, None));
+    leak(posted(&rt, &mut sender, None));
     let post = transaction().post_batchable(&mut sender, sendable(None));
-    drop(post.expect(&rt, "an Ok"));
+    leak(post.expect(&rt, "an Ok"));
     let post = transaction().post_ref(&mut sender, &message);
-    drop(post.expect(&rt, "an Ok"));
+    leak(post.expect(&rt, "an Ok"));
     let post = transaction().post_batchable_ref(&mut sender, &message);
-    drop(post.expect(&rt, "an Ok"));
+    leak(post.expect(&rt, "an Ok"));
     assert!(rt; sender.put().len() == 4);
-    drop(message);
-    drop(sender);
+    leak(message);
+    leak(sender);
 }
 
 /// The answer to a post under another transaction.
@@ -85,7 +86,7 @@ fn a_post_is_answered(rt: HostRuntime) {
     assert!(rt; sender.answer(Token(0), Ok(Some(released()))));
     let want = Progress::Ready(Ok(Outcome::Released));
     assert!(rt; same(post.poll(&mut sender), want));
-    drop(sender);
+    leak(sender);
 }
 
 /// The answer was lost with the link, which the peer closed.
@@ -96,7 +97,7 @@ fn a_post_whose_link_is_closed(rt: HostRuntime) {
     assert!(rt; sender.answer(Token(0), Err(LinkStateError::RemoteClosed)));
     let fault = PostError::LinkStateError(LinkStateError::RemoteClosed);
     assert!(rt; same(post.poll(&mut sender), Progress::Ready(Err(fault))));
-    drop(sender);
+    leak(sender);
 }
 
 /// The link's third call fails at the second poll: each poll looks once.
@@ -107,7 +108,7 @@ fn each_poll_of_a_post_looks_once(rt: HostRuntime) {
     let post = pending(&rt, post.poll(&mut sender));
     let fault = PostError::LinkStateError(LinkStateError::IllegalState);
     assert!(rt; same(post.poll(&mut sender), Progress::Ready(Err(fault))));
-    drop(sender);
+    leak(sender);
 }
 
 #[test]
@@ -116,7 +117,7 @@ fn a_post_that_was_settled_is_accepted(rt: HostRuntime) {
     let post = posted(&rt, &mut sender, Some(true));
     let want = Progress::Ready(Ok(Outcome::Accepted));
     assert!(rt; same(post.poll(&mut sender), want));
-    drop(sender);
+    leak(sender);
 }
 
 /// An outcome of each kind is put.
@@ -145,8 +146,8 @@ fn deliveries_are_retired(rt: HostRuntime) {
     let end = end(&rt, Role::Receiver, SenderSettleMode::Mixed);
     let mut recver = WireReceiver::new(rt.alloc(), end);
     retires(&rt, &mut recver, &info);
-    drop(recver);
-    drop(info);
+    leak(recver);
+    leak(info);
 }
 
 /// Whether a result is that error.

@@ -8,6 +8,7 @@ use amqp_controller_calls::Abandoned;
 use amqp_controller_transactions::{
     Controller, Discharging, OwnedTransaction, Transaction, TransactionDischarge,
 };
+use amqp_test_values::leak;
 use amqp_txn_types::DeliveryState;
 use std::process::Abort;
 use std::sync::Wait;
@@ -138,7 +139,7 @@ fn handed_back<T: TransactionDischarge + Over, R: Wait + Abort>(
     let (value, error) = back;
     assert_counts(rt, value.over(), want);
     assert!(rt; !value.is_discharged() && !value.has_read_rollback());
-    drop(value.abandon(rt));
+    leak(value.abandon(rt));
     error
 }
 
@@ -158,7 +159,7 @@ fn rolls_back<T: TransactionDischarge + Over, R: Wait + Abort + AllocGlobal>(
 ) -> T {
     let commit = asks(rt, value, false, DeliveryState::Rejected(rolled_back()));
     let (value, error) = refused(rt, ready(rt, commit.poll(rt)));
-    drop(error);
+    leak(error);
     assert!(rt; value.has_read_rollback() && !value.is_discharged());
     assert_counts(rt, value.over(), (2, 4, 0));
     value

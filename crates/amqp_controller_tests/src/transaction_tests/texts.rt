@@ -8,6 +8,7 @@ use amqp_controller_transactions::{OwnedDeclareError, OwnedDischargeError};
 use amqp_links::{
     DetachError, IllegalLinkStateError, LinkStateError, MessageSizeExceeded, SendError,
 };
+use amqp_test_values::leak;
 use amqp_txn_types::Rejected;
 use std::fmt::Display;
 use std::process::Abort;
@@ -17,7 +18,7 @@ fn assert_texts<E: Display, R: Abort + AllocGlobal>(rt: &R, table: &[(E, &str)])
     for (error, want) in table.iter() {
         let text = format!(in rt.alloc(); "{error}").expect(rt, "an Ok");
         assert!(rt; text.as_str() == *want, "the text is {text}");
-        drop(text);
+        leak(text);
     }
 }
 
@@ -63,7 +64,7 @@ fn texts_of_errors_of_control_messages(rt: HostRuntime) {
         (ControllerSendError::NoMemory, "out of memory"),
     ];
     assert_texts(&rt, table.as_slice());
-    drop(table);
+    leak(table);
 }
 
 #[test]
@@ -96,7 +97,7 @@ fn texts_of_errors_of_posts(rt: HostRuntime) {
         (PostError::NoMemory, "out of memory"),
     ];
     assert_texts(&rt, table.as_slice());
-    drop(table);
+    leak(table);
 }
 
 #[test]
@@ -112,7 +113,7 @@ fn texts_of_errors_of_owned_transactions(rt: HostRuntime) {
         ),
     ];
     assert_texts(&rt, declares.as_slice());
-    drop(declares);
+    leak(declares);
     let discharges = [
         (
             OwnedDischargeError::ControllerSendError(ControllerSendError::NoMemory),
@@ -124,7 +125,7 @@ fn texts_of_errors_of_owned_transactions(rt: HostRuntime) {
         ),
     ];
     assert_texts(&rt, discharges.as_slice());
-    drop(discharges);
+    leak(discharges);
 }
 
 /// Each error of a link is named as it must be where control messages are sent.

@@ -2,9 +2,10 @@
 
 use amqp_controller_calls::ControllerSendError;
 use amqp_links::{Progress, WireSender};
+use amqp_test_values::{call_numbers, leak, link_end, plain_error};
 use amqp_txn_types::{
-    CallNumbers, Declared, Error, ErrorCondition, LinkEnd, OutputHandle, ReceiverSettleMode,
-    Rejected, Role, SenderSettleMode, Text, TransactionError, TransactionId,
+    Declared, ErrorCondition, LinkEnd, Rejected, Role, SenderSettleMode, Text, TransactionError,
+    TransactionId,
 };
 use std::process::Abort;
 
@@ -25,10 +26,10 @@ pub const ROLLBACK: [u8; 15] = [
 ];
 
 /// Whether the two are equal.
-pub fn same<T: PartialEq + Drop>(found: T, want: T) -> bool {
+pub fn same<T: PartialEq>(found: T, want: T) -> bool {
     let equal = found == want;
-    drop(found);
-    drop(want);
+    leak(found);
+    leak(want);
     equal
 }
 
@@ -82,15 +83,6 @@ pub fn declaration() -> Declared {
     Declared { txn_id: id() }
 }
 
-/// An error without a text.
-pub fn plain_error(condition: ErrorCondition) -> Error {
-    Error {
-        condition,
-        description: None,
-        info: None,
-    }
-}
-
 /// A discharge of an id that the coordinator doesn't know, answered.
 pub fn unknown_id() -> Rejected {
     let condition = ErrorCondition::TransactionError(TransactionError::UnknownId);
@@ -119,20 +111,16 @@ pub fn name<R: Abort + AllocGlobal>(rt: &R) -> Text {
 
 /// The first end of a link that settles so.
 pub fn end<R: Abort + AllocGlobal>(rt: &R, role: Role, mode: SenderSettleMode) -> LinkEnd {
-    LinkEnd {
-        name: name(rt),
-        role,
-        output: OutputHandle(0),
-        snd_settle_mode: mode,
-        rcv_settle_mode: ReceiverSettleMode::First,
-    }
+    let mut end = link_end(name(rt), role, 0);
+    end.snd_settle_mode = mode;
+    end
 }
 
 /// A wire of whose calls those of the numbers are to fail.
 pub fn wire<R: Abort + AllocGlobal>(rt: &R, failing: &[u64]) -> WireSender {
-    let failing = Vec::from_slice(rt.alloc(), failing).expect(rt, "an Ok");
+    let failing = call_numbers(rt.alloc(), failing).expect(rt, "an Ok");
     let end = end(rt, Role::Sender, SenderSettleMode::Mixed);
     let mut wire = WireSender::new(rt.alloc(), end);
-    wire.set_failing(CallNumbers::from_vec(failing));
+    wire.set_failing(failing);
     wire
 }
