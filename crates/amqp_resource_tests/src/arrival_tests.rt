@@ -5,6 +5,7 @@ ghost use Rattle.std.specs.Prelude.{◌≡◌, ◌<◌};
 
 use crate::arrival_values::{id, number_of, work};
 use amqp_resource_log::{ArrivalLog, Looks};
+use amqp_test_values::leak;
 use amqp_txn_types::{TransactionId, TxnWorkFrame};
 use std::marker::Brand;
 use std::process::Abort;
@@ -38,23 +39,23 @@ fn two_ids<R: Abort>(rt: &R, log: &mut ArrivalLog) {
 #[test]
 fn new_log_keeps_nothing(rt: HostRuntime) {
     let log = ArrivalLog::new(rt.alloc());
-    assert_eq!(rt; log.dead(), 0);
-    assert_eq!(rt; log.live(), 0);
-    assert_eq!(rt; log.first(&id(1)), None);
+    assert!(rt; log.dead() == 0);
+    assert!(rt; log.live() == 0);
+    assert!(rt; log.first(&id(1)) == None);
     assert!(rt; !log.is_live(&id(1)));
-    drop(log);
+    leak(log);
 }
 
 #[test]
 fn ids_interleave(rt: HostRuntime) {
     let mut log = ArrivalLog::new(rt.alloc());
     two_ids(&rt, &mut log);
-    assert_eq!(rt; log.live(), 5);
-    assert_eq!(rt; log.count(&id(1)), 3);
-    assert_eq!(rt; log.count(&id(2)), 2);
-    assert_eq!(rt; log.first(&id(1)), Some(0));
-    assert_eq!(rt; log.first(&id(2)), Some(1));
-    drop(log);
+    assert!(rt; log.live() == 5);
+    assert!(rt; log.count(&id(1)) == 3);
+    assert!(rt; log.count(&id(2)) == 2);
+    assert!(rt; log.first(&id(1)) == Some(0));
+    assert!(rt; log.first(&id(2)) == Some(1));
+    leak(log);
 }
 
 /// The first work of an id, taken out.
@@ -94,17 +95,17 @@ fn with_two_ids<R: Abort + AllocGlobal>(rt: &R, case: Case) {
     let mut log = ArrivalLog::new(rt.alloc());
     two_ids(rt, &mut log);
     run_case::<Brand, R>(rt, case, &mut log, Blank::new(1));
-    drop(log);
+    leak(log);
 }
 
 fn takes<L: Ledger, R: Abort>(rt: &R, log: &mut ArrivalLog, looks: &mut Looks<L>) {
-    assert_eq!(rt; number_of(take_first(log, &id(2), looks)), Some(2));
-    assert_eq!(rt; log.first(&id(2)), Some(3));
+    assert!(rt; number_of(take_first(log, &id(2), looks)) == Some(2));
+    assert!(rt; log.first(&id(2)) == Some(3));
     if let Some(place) = log.first(&id(1)) {
-        assert_eq!(rt; number_of(Some(log.take(place, looks))), Some(1));
+        assert!(rt; number_of(Some(log.take(place, looks))) == Some(1));
     }
-    assert_eq!(rt; log.dead(), 2);
-    assert_eq!(rt; log.first(&id(1)), Some(2));
+    assert!(rt; log.dead() == 2);
+    assert!(rt; log.first(&id(1)) == Some(2));
 }
 
 #[test]
@@ -113,14 +114,14 @@ fn work_is_taken_in_order(rt: HostRuntime) {
 }
 
 fn closes_up<L: Ledger, R: Abort>(rt: &R, log: &mut ArrivalLog, looks: &mut Looks<L>) {
-    assert_eq!(rt; number_of(take_first(log, &id(1), looks)), Some(1));
+    assert!(rt; number_of(take_first(log, &id(1), looks)) == Some(1));
     log.close_up(looks);
-    assert_eq!(rt; log.dead(), 0);
-    assert_eq!(rt; log.first(&id(2)), Some(0));
-    assert_eq!(rt; log.first(&id(1)), Some(1));
-    assert_eq!(rt; number_of(take_first(log, &id(2), looks)), Some(2));
-    assert_eq!(rt; number_of(take_first(log, &id(2), looks)), Some(4));
-    assert_eq!(rt; number_of(take_first(log, &id(2), looks)), None);
+    assert!(rt; log.dead() == 0);
+    assert!(rt; log.first(&id(2)) == Some(0));
+    assert!(rt; log.first(&id(1)) == Some(1));
+    assert!(rt; number_of(take_first(log, &id(2), looks)) == Some(2));
+    assert!(rt; number_of(take_first(log, &id(2), looks)) == Some(4));
+    assert!(rt; number_of(take_first(log, &id(2), looks)) == None);
 }
 
 #[test]
@@ -129,14 +130,14 @@ fn closed_up_log_keeps_its_order(rt: HostRuntime) {
 }
 
 fn compacts<L: Ledger, R: Abort>(rt: &R, log: &mut ArrivalLog, looks: &mut Looks<L>) {
-    drop(take_first(log, &id(1), looks));
-    drop(take_first(log, &id(1), looks));
+    leak(take_first(log, &id(1), looks));
+    leak(take_first(log, &id(1), looks));
     log.compact(looks);
-    assert_eq!(rt; log.dead(), 2);
-    drop(take_first(log, &id(1), looks));
+    assert!(rt; log.dead() == 2);
+    leak(take_first(log, &id(1), looks));
     log.compact(looks);
-    assert_eq!(rt; log.dead(), 0);
-    assert_eq!(rt; log.live(), 2);
+    assert!(rt; log.dead() == 0);
+    assert!(rt; log.live() == 2);
 }
 
 #[test]
@@ -146,14 +147,14 @@ fn log_is_closed_up_once_more_is_dead_than_live(rt: HostRuntime) {
 
 fn ends<L: Ledger, R: Abort>(rt: &R, log: &mut ArrivalLog, looks: &mut Looks<L>) {
     let txn_id = id(2);
-    drop(take_first(log, &txn_id, looks));
-    drop(take_first(log, &txn_id, looks));
+    leak(take_first(log, &txn_id, looks));
+    leak(take_first(log, &txn_id, looks));
     assert!(rt; log.is_live(&txn_id));
-    assert_eq!(rt; log.count(&txn_id), 0);
+    assert!(rt; log.count(&txn_id) == 0);
     log.end(&txn_id);
     assert!(rt; !log.is_live(&txn_id));
     assert!(rt; log.is_live(&id(1)));
-    assert_eq!(rt; log.live(), 3);
+    assert!(rt; log.live() == 3);
 }
 
 #[test]

@@ -1,5 +1,6 @@
 //! Values for the tests.
 
+use amqp_test_values::leak;
 use amqp_txn_types::{Disposition, Role, TransactionId, TxnWorkFrame};
 
 pub fn id(octet: u8) -> TransactionId {
@@ -22,6 +23,6 @@ pub fn number_of(work: Option<TxnWorkFrame>) -> Option<u32> {
         Some(TxnWorkFrame::Retire(disposition)) => Some(disposition.first),
         _ => None,
     };
-    drop(work);
+    leak(work);
     number
 }

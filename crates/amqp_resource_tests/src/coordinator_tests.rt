@@ -4,13 +4,14 @@ use amqp_below_ids::{Drawn, IdSource, ListIds};
 use amqp_below_layer::{Answers, Echoes, SessionInnerError, Tells};
 use amqp_below_sessions::{AllocTxnIdError, CommitFault, HandleDeclare, HandleDischarge};
 use amqp_resource_coordinator::*;
-use amqp_test_values::{other_text, same, transfer};
+use amqp_test_values::{leak, other_text, same, transfer};
 use amqp_txn_codec::{ControlMessageBody, Declare, Discharge};
 use amqp_txn_types::{
     Accepted, Declared, DeliveryState, Disposition, Frames, NoMemory, Payload, TransactionError,
     TransactionId, Transfer,
 };
 use std::alloc::Global;
+use std::process::Abort;
 
 /// A session that allocates whatever is drawn first, and accepts each discharge: a commit with one
 /// answer, so that it shows which of the two was asked; or it rolls each commit back instead.
@@ -83,7 +84,7 @@ impl HandleDischarge for Willing {
         match echoes.push(answers) {
             Ok(()) => Ok(Ok(echoes)),
             Err(unkept) => {
-                drop(unkept);
+                leak(unkept);
                 self.refusals = self.refusals.saturating_add(1);
                 Err(CommitFault::NoMemory)
             }
@@ -100,11 +101,13 @@ impl HandleDischarge for Willing {
 
 /// How many ids were drawn, or how many echoes there are; 100 for an error.
 fn size(answer: Result<CoordinatorReply, CoordinatorError>) -> usize {
-    match answer {
+    let count = match &answer {
         Ok(CoordinatorReply::Declared(drawn)) => drawn.len(),
         Ok(CoordinatorReply::Discharged(echoes)) => echoes.len(),
         Err(_) => 100,
-    }
+    };
+    leak(answer);
+    count
 }
 
 fn discharge(txn_id: TransactionId, fail: Option<bool>) -> ControlMessageBody {
@@ -123,16 +126,19 @@ fn a_coordinator_holds_what_it_declared(rt: HostRuntime) {
     let mut session = accepting_all(alloc);
     let mut coordinator = TxnCoordinator::new(alloc);
     let unheld = size(coordinator.on_delivery(&discharge(id, None), &mut session, &mut ids));
-    assert_eq!(rt; unheld, 100);
+    assert!(rt; unheld == 100);
     let global = size(coordinator.on_delivery(&declare(Some(id)), &mut session, &mut ids));
-    assert_eq!(rt; global, 100);
+    assert!(rt; global == 100);
     assert!(rt; !coordinator.holds(&id));
     let declared = size(coordinator.on_delivery(&declare(None), &mut session, &mut ids));
-    assert_eq!(rt; declared, 1);
+    assert!(rt; declared == 1);
     assert!(rt; coordinator.holds(&id));
     let committed = size(coordinator.on_delivery(&discharge(id, None), &mut session, &mut ids));
-    assert_eq!(rt; committed, 1);
+    assert!(rt; committed == 1);
     assert!(rt; !coordinator.holds(&id));
+    leak(coordinator);
+    leak(session);
+    leak(ids);
 }
 
 #[test]
@@ -143,10 +149,13 @@ fn a_vetoed_id_is_held_no_more(rt: HostRuntime) {
     let mut session = accepting_none(alloc);
     let mut coordinator = TxnCoordinator::new(alloc);
     let declared = size(coordinator.on_delivery(&declare(None), &mut session, &mut ids));
-    assert_eq!(rt; declared, 1);
+    assert!(rt; declared == 1);
     let committed = size(coordinator.on_delivery(&discharge(id, None), &mut session, &mut ids));
-    assert_eq!(rt; committed, 100);
+    assert!(rt; committed == 100);
     assert!(rt; !coordinator.holds(&id));
+    leak(coordinator);
+    leak(session);
+    leak(ids);
 }
 
 #[test]
@@ -157,10 +166,13 @@ fn a_rollback_has_no_echoes(rt: HostRuntime) {
     let mut session = accepting_all(alloc);
     let mut coordinator = TxnCoordinator::new(alloc);
     let declared = size(coordinator.on_delivery(&declare(None), &mut session, &mut ids));
-    assert_eq!(rt; declared, 1);
+    assert!(rt; declared == 1);
     let rollback = discharge(id, Some(true));
     let rolled_back = size(coordinator.on_delivery(&rollback, &mut session, &mut ids));
-    assert_eq!(rt; rolled_back, 0);
+    assert!(rt; rolled_back == 0);
+    leak(coordinator);
+    leak(session);
+    leak(ids);
 }
 
 fn post(delivery_id: Option<u32>, settled: Option<bool>) -> Transfer {
@@ -172,39 +184,57 @@ fn post(delivery_id: Option<u32>, settled: Option<bool>) -> Transfer {
 
 /// The delivery id of the disposition that answers a post; 100 for none, 101 where memory runs out.
 fn answered(answer: Result<Option<Disposition>, NoMemory>) -> u32 {
-    match answer {
+    let first = match &answer {
         Ok(Some(disposition)) => disposition.first,
         Ok(None) => 100,
         Err(_) => 101,
-    }
+    };
+    leak(answer);
+    first
 }
 
 /// What the post with that delivery id is answered under the id, which is held.
 fn answer_of(
+    rt: &impl Abort,
     manager: &mut TransactionManager,
     alloc: Global,
     id: TransactionId,
     delivery_id: Option<u32>,
     settled: Option<bool>,
-) -> Result<u32, NoMemory> {
-    let payload = Payload::from_slice(alloc, b"m")?;
-    let Some(work) = manager.get_mut(&id) else {
-        return Ok(102);
-    };
-    Ok(answered(work.on_incoming_post(id, post(delivery_id, settled), payload)))
+) -> u32 {
+    let payload = Payload::from_slice(alloc, b"m").expect(rt, "an Ok");
+    let post = post(delivery_id, settled);
+    match manager.get_mut(&id) {
+        Some(work) => answered(work.on_incoming_post(id, post, payload)),
+        None => panic!(rt; "the id is held"),
+    }
 }
 
 /// How much work a transaction has.
 fn count_work(transaction: Option<ResourceTransaction>) -> usize {
-    let Some(mut transaction) = transaction else {
-        return 100;
-    };
+    match transaction {
+        Some(transaction) => count_taken(transaction),
+        None => 100,
+    }
+}
+
+/// How much work can be taken out of it, 10 at most.
+fn count_taken(mut transaction: ResourceTransaction) -> usize {
     for count in 0..10usize {
-        if transaction.take_first().is_none() {
+        if !is_some(transaction.take_first()) {
+            leak(transaction);
             return count;
         }
     }
+    leak(transaction);
     10
+}
+
+/// Whether there is one.
+fn is_some<T>(value: Option<T>) -> bool {
+    let some = value.is_some();
+    leak(value);
+    some
 }
 
 #[test]
@@ -213,16 +243,11 @@ fn a_manager_keeps_work(rt: HostRuntime) {
     let id = TransactionId::new(b"\x01").expect(&rt, "an Ok");
     let mut manager = TransactionManager::new(alloc);
     manager.insert(id).expect(&rt, "an Ok");
-    assert_eq!(rt;
-        answer_of(&mut manager, alloc, id, Some(7), None).expect(&rt, "an Ok"),
-        7
-    );
-    assert_eq!(rt;
-        answer_of(&mut manager, alloc, id, None, None).expect(&rt, "an Ok"),
-        100
-    );
-    assert_eq!(rt; count_work(manager.remove(&id)), 2);
-    assert_eq!(rt; count_work(manager.remove(&id)), 100);
+    assert!(rt; answer_of(&rt, &mut manager, alloc, id, Some(7), None) == 7);
+    assert!(rt; answer_of(&rt, &mut manager, alloc, id, None, None) == 100);
+    assert!(rt; count_work(manager.remove(&id)) == 2);
+    assert!(rt; count_work(manager.remove(&id)) == 100);
+    leak(manager);
 }
 
 fn refused_frame() -> CommitFault {
@@ -257,7 +282,9 @@ fn each_error_has_its_text(rt: HostRuntime) {
         ),
         (CoordinatorError::NoMemory, "out of memory"),
     ];
-    assert_eq!(rt; other_text(rt.alloc(), &rows).expect(&rt, "an Ok"), None);
+    let other = other_text(rt.alloc(), &rows);
+    leak(rows);
+    assert!(rt; other == Ok(None));
 }
 
 #[test]
@@ -277,13 +304,16 @@ fn a_second_id_is_held_beside_the_first(rt: HostRuntime) {
     let mut coordinator = TxnCoordinator::new(alloc);
     let one = size(coordinator.on_delivery(&declare(None), &mut session, &mut ids));
     let two = size(coordinator.on_delivery(&declare(None), &mut session, &mut ids));
-    assert_eq!(rt; one, 1);
-    assert_eq!(rt; two, 1);
+    assert!(rt; one == 1);
+    assert!(rt; two == 1);
     assert!(rt; coordinator.holds(&first));
     let committed = size(coordinator.on_delivery(&discharge(first, None), &mut session, &mut ids));
-    assert_eq!(rt; committed, 1);
+    assert!(rt; committed == 1);
     assert!(rt; !coordinator.holds(&first));
     assert!(rt; coordinator.holds(&second));
+    leak(coordinator);
+    leak(session);
+    leak(ids);
 }
 
 /// Adds a transaction, where there is none under the id.
@@ -302,12 +332,10 @@ fn a_manager_keeps_the_work_of_each_id(rt: HostRuntime) {
     let mut manager = TransactionManager::new(alloc);
     add(&mut manager, first).expect(&rt, "an Ok");
     add(&mut manager, second).expect(&rt, "an Ok");
-    assert_eq!(rt;
-        answer_of(&mut manager, alloc, second, Some(8), None).expect(&rt, "an Ok"),
-        8
-    );
-    assert_eq!(rt; count_work(manager.remove(&first)), 0);
-    assert_eq!(rt; count_work(manager.remove(&second)), 1);
+    assert!(rt; answer_of(&rt, &mut manager, alloc, second, Some(8), None) == 8);
+    assert!(rt; count_work(manager.remove(&first)) == 0);
+    assert!(rt; count_work(manager.remove(&second)) == 1);
+    leak(manager);
 }
 
 #[test]
@@ -316,8 +344,7 @@ fn a_post_is_answered_by_whether_it_is_settled(rt: HostRuntime) {
     let id = TransactionId::new(b"\x01").expect(&rt, "an Ok");
     let mut manager = TransactionManager::new(alloc);
     manager.insert(id).expect(&rt, "an Ok");
-    let unsettled = answer_of(&mut manager, alloc, id, Some(7), Some(false)).expect(&rt, "an Ok");
-    assert_eq!(rt; unsettled, 7);
-    let settled = answer_of(&mut manager, alloc, id, Some(7), Some(true)).expect(&rt, "an Ok");
-    assert_eq!(rt; settled, 100);
+    assert!(rt; answer_of(&rt, &mut manager, alloc, id, Some(7), Some(false)) == 7);
+    assert!(rt; answer_of(&rt, &mut manager, alloc, id, Some(7), Some(true)) == 100);
+    leak(manager);
 }

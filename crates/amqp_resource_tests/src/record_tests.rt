@@ -4,12 +4,11 @@
 use amqp_below_ids::Drawn;
 use amqp_below_layer::{Answers, SessionInnerError};
 use amqp_resource_record::*;
-use amqp_test_values::{control_attach, detach};
+use amqp_test_values::{control_attach, detach, is_done, leak, other_text};
 use amqp_txn_types::{
     AmqpError, Frame, Frames, NoMemory, Payload, SessionStopReason, Text, TransactionId, TryClone,
 };
 use std::alloc::Global;
-use std::process::Abort;
 
 /// The attach of a control link.
 fn control_frame(alloc: Global) -> Result<Frame, NoMemory> {
@@ -81,28 +80,28 @@ fn facts_of(entries: &[Entry]) -> [bool; 4] {
 fn work_count(alloc: Global, entries: &[Entry]) -> Result<usize, NoMemory> {
     let frames = work(alloc, entries)?;
     let count = frames.len();
-    drop(frames);
+    leak(frames);
     Ok(count)
 }
 
 fn hands_count(alloc: Global, step: &Step) -> Result<usize, NoMemory> {
     let frames = hands(alloc, &[], step)?;
     let count = frames.len();
-    drop(frames);
+    leak(frames);
     Ok(count)
 }
 
 fn is_step_copied(step: &Step) -> Result<bool, NoMemory> {
     let copy = step.try_clone()?;
     let same = copy == *step;
-    drop(copy);
+    leak(copy);
     Ok(same)
 }
 
 fn is_reply_copied(reply: &Reply) -> Result<bool, NoMemory> {
     let copy = reply.try_clone()?;
     let same = copy == *reply;
-    drop(copy);
+    leak(copy);
     Ok(same)
 }
 
@@ -111,7 +110,7 @@ fn a_link_that_is_closed_is_not_opened_again(rt: HostRuntime) {
     let mut entries = Entries::new(rt.alloc());
     let added = add_all(rt.alloc(), &mut entries);
     let facts = facts_of(entries.as_slice());
-    drop(entries);
+    leak(entries);
     assert!(rt; facts == [true, false, true, false]);
     added.expect(&rt, "an Ok")
 }
@@ -121,7 +120,7 @@ fn the_first_link_has_the_number_0(rt: HostRuntime) {
     let mut entries = Entries::new(rt.alloc());
     let added = add_attached(rt.alloc(), &mut entries, 1);
     let legal = is_legal(entries.as_slice());
-    drop(entries);
+    leak(entries);
     assert!(rt; !legal);
     added.expect(&rt, "an Ok")
 }
@@ -130,8 +129,8 @@ fn the_first_link_has_the_number_0(rt: HostRuntime) {
 fn a_plain_frame_is_handed(rt: HostRuntime) {
     let entry = plain(rt.alloc());
     let count = hands_count(rt.alloc(), &entry.step);
-    drop(entry);
-    assert_eq!(rt; count.expect(&rt, "an Ok"), 1);
+    leak(entry);
+    assert!(rt; count.expect(&rt, "an Ok") == 1);
 }
 
 #[test]
@@ -139,23 +138,17 @@ fn the_work_of_a_record_is_its_plain_frame(rt: HostRuntime) {
     let mut entries = Entries::new(rt.alloc());
     let added = add_all(rt.alloc(), &mut entries);
     let count = work_count(rt.alloc(), entries.as_slice());
-    drop(entries);
+    leak(entries);
     added.expect(&rt, "an Ok");
-    assert_eq!(rt; count.expect(&rt, "an Ok"), 1);
+    assert!(rt; count.expect(&rt, "an Ok") == 1);
 }
 
 #[test]
 fn a_rejection_has_its_text(rt: HostRuntime) {
-    assert_eq!(rt; RejectText::Absent.as_text(), None);
-    assert_eq!(rt;
-        RejectText::GlobalId.as_text(),
-        Some("Global transaction ID is not implemented")
-    );
-    assert_eq!(rt;
-        RejectText::IdsRepeat.as_text(),
-        Some("No unused transaction ID was drawn")
-    );
-    assert_eq!(rt; Stop::NoMemory.code(), StopCode::NoMemory);
+    assert!(rt; RejectText::Absent.as_text() == None);
+    assert!(rt; RejectText::GlobalId.as_text() == Some("Global transaction ID is not implemented"));
+    assert!(rt; RejectText::IdsRepeat.as_text() == Some("No unused transaction ID was drawn"));
+    assert!(rt; Stop::NoMemory.code() == StopCode::NoMemory);
 }
 
 #[test]
@@ -163,7 +156,7 @@ fn steps_and_replies_are_copied(rt: HostRuntime) {
     let entry = closed(rt.alloc(), 0).expect(&rt, "an Ok");
     let step = is_step_copied(&entry.step);
     let reply = is_reply_copied(&entry.reply);
-    drop(entry);
+    leak(entry);
     assert!(rt; step.expect(&rt, "an Ok"));
     assert!(rt; reply.expect(&rt, "an Ok"));
 }
@@ -179,7 +172,7 @@ fn two_ends(alloc: Global) -> Result<Steps, NoMemory> {
 fn are_steps_copied(steps: &Steps) -> Result<bool, NoMemory> {
     let copy = steps.try_clone()?;
     let same = copy == *steps;
-    drop(copy);
+    leak(copy);
     Ok(same)
 }
 
@@ -189,7 +182,8 @@ fn a_list_of_steps_is_copied(rt: HostRuntime) {
     let copied = are_steps_copied(&steps);
     let count = steps.len();
     let entries = steps.into_entries();
-    assert_eq!(rt; entries.len(), count);
+    assert!(rt; entries.len() == count);
+    leak(entries);
     assert!(rt; copied.expect(&rt, "an Ok"));
 }
 
@@ -197,8 +191,9 @@ fn a_list_of_steps_is_copied(rt: HostRuntime) {
 fn a_step_is_pushed(rt: HostRuntime) {
     let mut steps = Steps::new(rt.alloc());
     assert!(rt; steps.is_empty());
-    assert!(rt; steps.push(Step::LinkEnd { link: 7 }).is_ok());
+    assert!(rt; is_done(steps.push(Step::LinkEnd { link: 7 })));
     assert!(rt; matches!(steps.get(0), Some(Step::LinkEnd { link: 7 })));
+    leak(steps);
 }
 
 #[test]
@@ -206,19 +201,9 @@ fn a_control_attach_is_not_plain(rt: HostRuntime) {
     let frame = control_frame(rt.alloc()).expect(&rt, "an Ok");
     let plain = is_plain(&frame);
     let under = is_under(&frame, &TransactionId::from([1; 16]));
-    drop(frame);
+    leak(frame);
     assert!(rt; !plain);
     assert!(rt; !under);
-}
-
-fn is_text(rt: &impl Abort, alloc: Global, error: &StepError, text: &str) -> bool {
-    let shown = format!(in alloc; "{error}").expect(rt, "an Ok");
-    shown.as_str() == text
-}
-
-fn is_text_of_stop(rt: &impl Abort, alloc: Global, stop: &Stop, text: &str) -> bool {
-    let shown = format!(in alloc; "{stop}").expect(rt, "an Ok");
-    shown.as_str() == text
 }
 
 #[test]
@@ -239,9 +224,9 @@ fn each_error_of_a_step_has_its_text(rt: HostRuntime) {
         ),
         (StepError::NoMemory, "out of memory"),
     ];
-    for (error, text) in rows {
-        assert!(rt; is_text(&rt, rt.alloc(), &error, text));
-    }
+    let other = other_text(rt.alloc(), &rows);
+    leak(rows);
+    assert!(rt; other == Ok(None));
 }
 
 #[test]
@@ -258,7 +243,7 @@ fn each_stop_has_its_text(rt: HostRuntime) {
         ),
         (Stop::NoMemory, "out of memory"),
     ];
-    for (stop, text) in rows {
-        assert!(rt; is_text_of_stop(&rt, rt.alloc(), &stop, text));
-    }
+    let other = other_text(rt.alloc(), &rows);
+    leak(rows);
+    assert!(rt; other == Ok(None));
 }

@@ -10,7 +10,7 @@ use amqp_below_layer::{LayerBelow, OpenSession, SessionInnerError, Tells, Verdic
 use amqp_below_recorder::Recorder;
 use amqp_below_sessions::{HandleDeclare, HandleDischarge};
 use amqp_resource_session::*;
-use amqp_test_values::{control_attach, disposition, transfer as transfer_on, under};
+use amqp_test_values::{control_attach, disposition, leak, transfer as transfer_on, under};
 use amqp_txn_codec::{ControlMessageBody, Declare, Discharge};
 use amqp_txn_types::{
     Attach, CallNumbers, DeliveryState, Detach, Disposition, Flow, Frame, Frames, NoMemory,
@@ -31,36 +31,38 @@ struct Unsettling {
     second: Frames,
 }
 
-/// Such a layer, which gives no frame back.
-fn echoing_none(alloc: Global) -> Unsettling {
+/// Such a layer, which gives these back.
+fn echoing(alloc: Global, first: Frames, second: Frames) -> Unsettling {
     Unsettling {
         alloc,
         open: OpenSession::new(alloc),
         refusals: 0,
-        first: Frames::new(alloc),
-        second: Frames::new(alloc),
+        first,
+        second,
     }
 }
 
+/// Such a layer, which gives no frame back.
+fn echoing_none(alloc: Global) -> Unsettling {
+    echoing(alloc, Frames::new(alloc), Frames::new(alloc))
+}
+
 /// The disposition that it gives back.
-fn echo(alloc: Global) -> Result<Frames, NoMemory> {
+fn echo(rt: &impl Abort, alloc: Global) -> Frames {
     let mut given = Frames::new(alloc);
-    given.append(Frame::Disposition(disposition(7)))?;
-    Ok(given)
+    let echoed = Frame::Disposition(disposition(7));
+    given.append(echoed).expect(rt, "an Ok");
+    given
 }
 
 /// Such a layer, which gives a disposition back for its first transfer.
-fn echoing_first(alloc: Global) -> Result<Unsettling, NoMemory> {
-    let mut layer = echoing_none(alloc);
-    layer.first = echo(alloc)?;
-    Ok(layer)
+fn echoing_first(rt: &impl Abort, alloc: Global) -> Unsettling {
+    echoing(alloc, echo(rt, alloc), Frames::new(alloc))
 }
 
 /// Such a layer, which gives a disposition back for its second transfer.
-fn echoing_second(alloc: Global) -> Result<Unsettling, NoMemory> {
-    let mut layer = echoing_none(alloc);
-    layer.second = echo(alloc)?;
-    Ok(layer)
+fn echoing_second(rt: &impl Abort, alloc: Global) -> Unsettling {
+    echoing(alloc, Frames::new(alloc), echo(rt, alloc))
 }
 
 impl Tells for Unsettling {
@@ -96,8 +98,8 @@ impl LayerBelow for Unsettling {
     fn on_incoming_frame(&mut self, frame: Frame) -> Result<Frames, SessionInnerError> {
         match frame {
             Frame::Transfer { transfer, payload } => {
-                drop(transfer);
-                drop(payload);
+                leak(transfer);
+                leak(payload);
                 let next = replace(&mut self.second, Frames::new(self.alloc));
                 Ok(replace(&mut self.first, next))
             }
@@ -131,23 +133,23 @@ impl LayerBelow for Unsettling {
 }
 
 /// The attach of a control link.
-fn control_link(alloc: Global) -> Result<Step, NoMemory> {
-    let name = Text::from_str(alloc, "c")?;
-    Ok(Step::Frame(Frame::Attach(control_attach(name, 0))))
+fn control_link(rt: &impl Abort, alloc: Global) -> Step {
+    let name = Text::from_str(alloc, "c").expect(rt, "an Ok");
+    Step::Frame(Frame::Attach(control_attach(name, 0)))
 }
 
 /// A declare on link 0.
-fn declare(alloc: Global) -> Result<Step, NoMemory> {
+fn declare(rt: &impl Abort, alloc: Global) -> Step {
     let message = ControlMessageBody::Declare(Declare { global_id: None });
-    let payload = message.encode(alloc)?;
-    Ok(Step::Control { link: 0, payload })
+    let payload = message.encode(alloc).expect(rt, "an Ok");
+    Step::Control { link: 0, payload }
 }
 
 /// A control message on link 0 that commits the id.
-pub(crate) fn discharge(alloc: Global, txn_id: TransactionId) -> Result<Step, NoMemory> {
+pub(crate) fn discharge(rt: &impl Abort, alloc: Global, txn_id: TransactionId) -> Step {
     let message = ControlMessageBody::Discharge(Discharge { txn_id, fail: None });
-    let payload = message.encode(alloc)?;
-    Ok(Step::Control { link: 0, payload })
+    let payload = message.encode(alloc).expect(rt, "an Ok");
+    Step::Control { link: 0, payload }
 }
 
 /// The transfer of a delivery with an id.
@@ -155,7 +157,7 @@ pub(crate) fn transfer(settled: bool, state: Option<DeliveryState>) -> Frame {
     let mut transfer = transfer_on(1);
     transfer.delivery_id = Some(7);
     transfer.settled = Some(settled);
-    transfer.state = state;
+    leak(replace(&mut transfer.state, state));
     Frame::Transfer {
         transfer,
         payload: Payload::new(),
@@ -213,13 +215,13 @@ pub(crate) fn answer_of<S: LayerBelow>(
     ids: &mut CountIds,
 ) -> &'static str {
     if session.links_opened() == u64::MAX {
-        drop(step);
+        leak(step);
         return "too many links";
     }
     let answer = session.step(&step, ids);
-    drop(step);
+    leak(step);
     let found = word(&answer);
-    drop(answer);
+    leak(answer);
     found
 }
 
@@ -230,7 +232,7 @@ fn allocates_first<S: LayerBelow>(session: &mut TxnSession<S>, ids: &mut CountId
         Ok(drawn) => drawn.get(0) == Some(&numbered_id(1)),
         Err(_) => false,
     };
-    drop(allocated);
+    leak(allocated);
     is_first
 }
 
@@ -245,46 +247,46 @@ fn a_refused_presumptive_disposition_stops_the_session(rt: HostRuntime) {
     let unsettled = answer_of(&mut session, post(false, id), &mut ids);
     let code = session.stop_code();
     let refusals = session.below().refusals;
-    drop(session);
+    leak(session);
     assert!(rt; allocated);
-    assert_eq!(rt; settled, "no frames");
-    assert_eq!(rt; unsettled, "no memory below, none handed");
-    assert_eq!(rt; code, Some(StopCode::BelowNoMemory));
-    assert_eq!(rt; refusals, 1);
+    assert!(rt; settled == "no frames");
+    assert!(rt; unsettled == "no memory below, none handed");
+    assert!(rt; code == Some(StopCode::BelowNoMemory));
+    assert!(rt; refusals == 1);
 }
 
 /// A session over a layer that tells what it took.
 pub(crate) type Recorded = TxnSession<Recorder<OpenSession>>;
 
 /// Attaches control link 0: what that was answered.
-fn attaches(alloc: Global, session: &mut Recorded, ids: &mut CountIds) -> &'static str {
-    match control_link(alloc) {
-        Ok(step) => answer_of(session, step, ids),
-        Err(_) => "no memory",
-    }
+fn attaches<S: LayerBelow>(
+    rt: &impl Abort,
+    alloc: Global,
+    session: &mut TxnSession<S>,
+    ids: &mut CountIds,
+) -> &'static str {
+    answer_of(session, control_link(rt, alloc), ids)
 }
 
 /// Discharges the id on link 0: what that was answered.
-fn discharges(
+fn discharges<S: LayerBelow>(
+    rt: &impl Abort,
     alloc: Global,
-    session: &mut Recorded,
+    session: &mut TxnSession<S>,
     id: TransactionId,
     ids: &mut CountIds,
 ) -> &'static str {
-    match discharge(alloc, id) {
-        Ok(step) => answer_of(session, step, ids),
-        Err(_) => "no memory",
-    }
+    answer_of(session, discharge(rt, alloc, id), ids)
 }
 
 /// How many frames a commit of the id was answered for; 100 for an error.
-fn commits(session: &mut Recorded, id: TransactionId) -> usize {
+fn commits<S: LayerBelow>(session: &mut TxnSession<S>, id: TransactionId) -> usize {
     let committed = session.commit_transaction(&id);
     let count = match &committed {
         Ok(Ok(echoes)) => echoes.len(),
         _ => 100,
     };
-    drop(committed);
+    leak(committed);
     count
 }
 
@@ -296,7 +298,7 @@ fn took_stripped(session: &Recorded) -> bool {
     }
     let wanted = transfer(true, None);
     let same = taken[0].0 == wanted;
-    drop(wanted);
+    leak(wanted);
     same
 }
 
@@ -306,23 +308,23 @@ fn an_id_of_no_link_is_left_to_its_own_calls(rt: HostRuntime) {
     let id = numbered_id(1);
     let mut ids = CountIds::new();
     let mut session = TxnSession::new(alloc, Recorder::new(alloc, OpenSession::new(alloc)));
-    let attached = attaches(alloc, &mut session, &mut ids);
+    let attached = attaches(&rt, alloc, &mut session, &mut ids);
     let allocated = allocates_first(&mut session, &mut ids);
     let posted = answer_of(&mut session, post(true, id), &mut ids);
-    let discharged = discharges(alloc, &mut session, id, &mut ids);
+    let discharged = discharges(&rt, alloc, &mut session, id, &mut ids);
     let ended = answer_of(&mut session, Step::LinkEnd { link: 0 }, &mut ids);
     let live = session.is_live(&id);
     let committed = commits(&mut session, id);
     let still_live = session.is_live(&id);
     let stripped = took_stripped(&session);
-    drop(session);
-    assert_eq!(rt; attached, "attached 0");
+    leak(session);
+    assert!(rt; attached == "attached 0");
     assert!(rt; allocated);
-    assert_eq!(rt; posted, "no frames");
-    assert_eq!(rt; discharged, "rejected, unknown id");
-    assert_eq!(rt; ended, "link ended");
+    assert!(rt; posted == "no frames");
+    assert!(rt; discharged == "rejected, unknown id");
+    assert!(rt; ended == "link ended");
     assert!(rt; live);
-    assert_eq!(rt; committed, 1);
+    assert!(rt; committed == 1);
     assert!(rt; !still_live);
     assert!(rt; stripped);
 }
@@ -335,11 +337,11 @@ fn is_refused<S: LayerBelow>(
     count: usize,
 ) -> bool {
     if session.links_opened() == u64::MAX {
-        drop(step);
+        leak(step);
         return false;
     }
     let answer = session.step(&step, ids);
-    drop(step);
+    leak(step);
     let refused = match &answer {
         Err(
             StepError::Fault {
@@ -349,52 +351,50 @@ fn is_refused<S: LayerBelow>(
         ) => *handed == count,
         _ => false,
     };
-    drop(answer);
+    leak(answer);
     refused
 }
 
 /// Whether a plain transfer is refused when it has been taken.
-fn plain_is_refused<S: LayerBelow + Drop>(mut session: TxnSession<S>) -> bool {
+fn plain_is_refused<S: LayerBelow>(mut session: TxnSession<S>) -> bool {
     let mut ids = CountIds::new();
     let refused = is_refused(&mut session, Step::Frame(transfer(true, None)), &mut ids, 1);
-    drop(session);
+    leak(session);
     refused
 }
 
 /// Attaches control link 0 and declares the first id on it.
 pub(crate) fn begin_transaction<S: LayerBelow>(
+    rt: &impl Abort,
     alloc: Global,
     session: &mut TxnSession<S>,
     ids: &mut CountIds,
-) -> Result<(), NoMemory> {
-    let attached = control_link(alloc)?;
-    let _word = answer_of(session, attached, ids);
-    let declared = declare(alloc)?;
-    let _word = answer_of(session, declared, ids);
-    Ok(())
+) {
+    let _word = answer_of(session, control_link(rt, alloc), ids);
+    let _word = answer_of(session, declare(rt, alloc), ids);
 }
 
 /// Whether a commit of two posts is refused when both have been taken.
-fn commit_is_refused<S: LayerBelow + Drop>(
+fn commit_is_refused<S: LayerBelow>(
     rt: &impl Abort,
     alloc: Global,
     mut session: TxnSession<S>,
 ) -> bool {
     let mut ids = CountIds::new();
     let id = numbered_id(1);
-    begin_transaction(alloc, &mut session, &mut ids).expect(rt, "an Ok");
+    begin_transaction(rt, alloc, &mut session, &mut ids);
     let _word = answer_of(&mut session, post(true, id), &mut ids);
     let _word = answer_of(&mut session, post(true, id), &mut ids);
-    let commit = discharge(alloc, id).expect(rt, "an Ok");
+    let commit = discharge(rt, alloc, id);
     let refused = is_refused(&mut session, commit, &mut ids, 2);
-    drop(session);
+    leak(session);
     refused
 }
 
 #[test]
 fn a_frame_whose_answer_is_refused_was_taken(rt: HostRuntime) {
     let alloc = rt.alloc();
-    let below = echoing_first(alloc).expect(&rt, "an Ok");
+    let below = echoing_first(&rt, alloc);
     let refused = plain_is_refused(TxnSession::new(alloc, below));
     assert!(rt; refused);
 }
@@ -402,7 +402,7 @@ fn a_frame_whose_answer_is_refused_was_taken(rt: HostRuntime) {
 #[test]
 fn a_frame_whose_answer_is_refused_was_taken_by_a_recorder(rt: HostRuntime) {
     let alloc = rt.alloc();
-    let below = Recorder::new(alloc, echoing_first(alloc).expect(&rt, "an Ok"));
+    let below = Recorder::new(alloc, echoing_first(&rt, alloc));
     let refused = plain_is_refused(TxnSession::new(alloc, below));
     assert!(rt; refused);
 }
@@ -410,7 +410,7 @@ fn a_frame_whose_answer_is_refused_was_taken_by_a_recorder(rt: HostRuntime) {
 #[test]
 fn a_refused_answer_within_a_commit_counts_its_frame(rt: HostRuntime) {
     let alloc = rt.alloc();
-    let below = echoing_second(alloc).expect(&rt, "an Ok");
+    let below = echoing_second(&rt, alloc);
     let refused = commit_is_refused(&rt, alloc, TxnSession::new(alloc, below));
     assert!(rt; refused);
 }
@@ -418,7 +418,7 @@ fn a_refused_answer_within_a_commit_counts_its_frame(rt: HostRuntime) {
 #[test]
 fn a_recorder_passes_on_a_refused_answer_within_a_commit(rt: HostRuntime) {
     let alloc = rt.alloc();
-    let below = Recorder::new(alloc, echoing_second(alloc).expect(&rt, "an Ok"));
+    let below = Recorder::new(alloc, echoing_second(&rt, alloc));
     let refused = commit_is_refused(&rt, alloc, TxnSession::new(alloc, below));
     assert!(rt; refused);
 }
@@ -446,19 +446,19 @@ fn a_vetoed_commit_hands_nothing_and_ends_its_id(rt: HostRuntime) {
     let id = numbered_id(1);
     let mut ids = CountIds::new();
     let mut session = planned(alloc, 2).expect(&rt, "an Ok");
-    begin_transaction(alloc, &mut session, &mut ids).expect(&rt, "an Ok");
+    begin_transaction(&rt, alloc, &mut session, &mut ids);
     let _word = answer_of(&mut session, post(true, id), &mut ids);
     let _word = answer_of(&mut session, post(true, id), &mut ids);
-    let vetoed = discharges(alloc, &mut session, id, &mut ids);
-    let again = discharges(alloc, &mut session, id, &mut ids);
+    let vetoed = discharges(&rt, alloc, &mut session, id, &mut ids);
+    let again = discharges(&rt, alloc, &mut session, id, &mut ids);
     let plain = answer_of(&mut session, Step::Frame(transfer(true, None)), &mut ids);
     let counts = counts_of(&session);
     let live = session.is_live(&id);
-    drop(session);
-    assert_eq!(rt; vetoed, "rejected, rolled back");
-    assert_eq!(rt; again, "rejected, unknown id");
-    assert_eq!(rt; plain, "no frames");
-    assert_eq!(rt; counts, [1, 1]);
+    leak(session);
+    assert!(rt; vetoed == "rejected, rolled back");
+    assert!(rt; again == "rejected, unknown id");
+    assert!(rt; plain == "no frames");
+    assert!(rt; counts == [1, 1]);
     assert!(rt; !live);
 }
 
@@ -468,19 +468,19 @@ fn a_commit_without_frames_is_accepted_unasked(rt: HostRuntime) {
     let id = numbered_id(1);
     let mut ids = CountIds::new();
     let mut session = planned(alloc, 1).expect(&rt, "an Ok");
-    begin_transaction(alloc, &mut session, &mut ids).expect(&rt, "an Ok");
-    let committed = discharges(alloc, &mut session, id, &mut ids);
+    begin_transaction(&rt, alloc, &mut session, &mut ids);
+    let committed = discharges(&rt, alloc, &mut session, id, &mut ids);
     let counts = counts_of(&session);
-    drop(session);
-    assert_eq!(rt; committed, "accepted");
-    assert_eq!(rt; counts, [0, 0]);
+    leak(session);
+    assert!(rt; committed == "accepted");
+    assert!(rt; counts == [0, 0]);
 }
 
 /// Whether a commit of the id by a call was rolled back instead.
-fn is_rolled_back(session: &mut Recorded, id: TransactionId) -> bool {
+fn is_rolled_back<S: LayerBelow>(session: &mut TxnSession<S>, id: TransactionId) -> bool {
     let committed = session.commit_transaction(&id);
     let rolled_back = matches!(committed, Ok(Err(TransactionError::Rollback)));
-    drop(committed);
+    leak(committed);
     rolled_back
 }
 
@@ -496,10 +496,10 @@ fn a_vetoed_call_ends_its_id(rt: HostRuntime) {
     let counts = counts_of(&session);
     let live = session.is_live(&id);
     let code = session.stop_code();
-    drop(session);
+    leak(session);
     assert!(rt; allocated);
     assert!(rt; rolled_back);
-    assert_eq!(rt; counts, [0, 1]);
+    assert!(rt; counts == [0, 1]);
     assert!(rt; !live);
-    assert_eq!(rt; code, None);
+    assert!(rt; code == None);
 }

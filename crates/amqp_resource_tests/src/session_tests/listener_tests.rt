@@ -7,7 +7,7 @@ use amqp_accept_listener::ListenerSession;
 use amqp_below_recorder::Recorder;
 use amqp_below_sessions::PlainSession;
 use amqp_resource_session::*;
-use amqp_test_values::{flow, plain_session, sender_attach};
+use amqp_test_values::{flow, leak, plain_session, sender_attach};
 use amqp_txn_types::{Frame, Handle, NoMemory, SessionState, Text};
 use std::alloc::Global;
 
@@ -34,16 +34,16 @@ fn steps(alloc: Global) -> Result<Steps, NoMemory> {
 /// Makes the steps on the session: how many were answered, where all were; 100 otherwise.
 fn count_answered(session: &mut Listening, steps: Steps) -> usize {
     if !session.is_fresh() {
-        drop(steps);
+        leak(steps);
         return 100;
     }
     let driven = drive(session, steps, &mut CountIds::new());
-    let count = if driven.stop == Stop::Done {
+    let count = if matches!(driven.stop, Stop::Done) {
         driven.entries.len()
     } else {
         100
     };
-    drop(driven);
+    leak(driven);
     count
 }
 
@@ -72,7 +72,7 @@ fn what_a_listener_lets_pass_is_taken(rt: HostRuntime) {
     let mut session = listening(alloc);
     let count = count_answered(&mut session, steps);
     let took = took_all(&session);
-    drop(session);
-    assert_eq!(rt; count, 3);
+    leak(session);
+    assert!(rt; count == 3);
     assert!(rt; took);
 }

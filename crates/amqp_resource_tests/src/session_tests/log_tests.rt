@@ -4,6 +4,7 @@ use crate::session_tests::{answer_of, begin_transaction, post};
 use amqp_below_layer::{LayerBelow, OpenSession};
 use amqp_below_sessions::{HandleDeclare, HandleDischarge};
 use amqp_resource_session::*;
+use amqp_test_values::leak;
 use amqp_txn_types::TransactionId;
 
 /// Makes so many posts under the id.
@@ -23,17 +24,17 @@ fn what_is_owed_is_never_more_than_what_is_kept(rt: HostRuntime) {
     let alloc = rt.alloc();
     let mut ids = CountIds::new();
     let mut session = TxnSession::new(alloc, OpenSession::new(alloc));
-    begin_transaction(alloc, &mut session, &mut ids).expect(&rt, "an Ok");
-    drop(session.allocate_transaction_id(&mut ids));
+    begin_transaction(&rt, alloc, &mut session, &mut ids);
+    leak(session.allocate_transaction_id(&mut ids));
     make_posts(&mut session, numbered_id(1), 2, &mut ids);
     make_posts(&mut session, numbered_id(2), 3, &mut ids);
     let before = session.owed();
     let _word = answer_of(&mut session, Step::LinkEnd { link: 0 }, &mut ids);
     let two_taken = session.owed();
-    drop(session.rollback_transaction(&numbered_id(2)));
+    leak(session.rollback_transaction(&numbered_id(2)));
     let all_taken = session.owed();
-    drop(session);
-    assert_eq!(rt; before, 0);
-    assert_eq!(rt; two_taken, 2);
-    assert_eq!(rt; all_taken, 0);
+    leak(session);
+    assert!(rt; before == 0);
+    assert!(rt; two_taken == 2);
+    assert!(rt; all_taken == 0);
 }

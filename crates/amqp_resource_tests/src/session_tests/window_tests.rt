@@ -5,7 +5,7 @@ use amqp_below_layer::{Answers, LayerBelow};
 use amqp_below_recorder::Recorder;
 use amqp_below_sessions::{PlainSession, Session};
 use amqp_resource_session::*;
-use amqp_test_values::{plain_session, relay, sender_attach};
+use amqp_test_values::{leak, plain_session, relay, sender_attach};
 use amqp_txn_types::{Frame, Role, SessionState, Text};
 use std::alloc::Global;
 use std::process::Abort;
@@ -15,7 +15,7 @@ fn one_link(rt: &impl Abort, alloc: Global) -> PlainSession {
     let mut below = plain_session(alloc, SessionState::Mapped, 9);
     let name = Text::from_str(alloc, "a").expect(rt, "an Ok");
     let allocated = below.allocate_link(name, relay(alloc, Role::Receiver));
-    drop(allocated);
+    leak(allocated);
     below
 }
 
@@ -66,13 +66,13 @@ fn count_windows<S: LayerBelow>(
     ids: &mut CountIds,
 ) -> usize {
     if session.links_opened() == u64::MAX {
-        drop(step);
+        leak(step);
         return 100;
     }
     let answer = session.step(&step, ids);
-    drop(step);
+    leak(step);
     let count = windows_of(&answer);
-    drop(answer);
+    leak(answer);
     count
 }
 
@@ -81,8 +81,8 @@ fn a_plain_transfer_tells_the_window(rt: HostRuntime) {
     let mut ids = CountIds::new();
     let mut session = windowed(&rt, rt.alloc(), &mut ids);
     let count = count_windows(&mut session, Step::Frame(transfer(true, None)), &mut ids);
-    drop(session);
-    assert_eq!(rt; count, 1);
+    leak(session);
+    assert!(rt; count == 1);
 }
 
 #[test]
@@ -91,11 +91,11 @@ fn a_commit_tells_the_window_after_each_transfer(rt: HostRuntime) {
     let id = numbered_id(1);
     let mut ids = CountIds::new();
     let mut session = windowed(&rt, alloc, &mut ids);
-    begin_transaction(alloc, &mut session, &mut ids).expect(&rt, "an Ok");
+    begin_transaction(&rt, alloc, &mut session, &mut ids);
     let _word = answer_of(&mut session, post(true, id), &mut ids);
     let _word = answer_of(&mut session, post(true, id), &mut ids);
-    let commit = discharge(alloc, id).expect(&rt, "an Ok");
+    let commit = discharge(&rt, alloc, id);
     let count = count_windows(&mut session, commit, &mut ids);
-    drop(session);
-    assert_eq!(rt; count, 2);
+    leak(session);
+    assert!(rt; count == 2);
 }

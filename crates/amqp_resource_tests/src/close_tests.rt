@@ -8,6 +8,7 @@ use amqp_below_layer::OpenSession;
 use amqp_resource_record::Step;
 use amqp_resource_session::TxnSession;
 use amqp_resource_shared::{CloseWhy, Receipt, Share, SharedTxnSession};
+use amqp_test_values::leak;
 use std::alloc::Global;
 use std::marker::Brand;
 use std::process::Abort;
@@ -49,12 +50,14 @@ fn closes_whole<L: Ledger, R: Wait + Abort>(rt: &R, alloc: Global, blank: Blank)
     let mut second = first.split(1);
     let one = end_link(rt, &shared, &mut first, 0);
     let two = end_link(rt, &shared, &mut second, 1);
-    assert_eq!(rt; shared.lock(rt).len(), 2);
+    let count = shared.lock(rt).len();
+    assert!(rt; count == 2);
     let shares = vec![in alloc; second, first].expect(rt, "memory");
     let receipts = vec![in alloc; two, one].expect(rt, "memory");
     let closed = shared.close(shares, receipts);
-    assert!(rt; closed.is_ok());
-    drop(closed);
+    let is_closed = closed.is_ok();
+    leak(closed);
+    assert!(rt; is_closed);
 }
 
 #[test]
@@ -69,9 +72,9 @@ fn leaves_a_share_out<L: Ledger, R: Wait + Abort>(rt: &R, alloc: Global, blank: 
 {
     let (shared, mut first) = opened::<L>(alloc, blank);
     let mut second = first.split(1);
-    drop(end_link(rt, &shared, &mut first, 0));
-    drop(end_link(rt, &shared, &mut second, 0));
-    drop(second);
+    leak(end_link(rt, &shared, &mut first, 0));
+    leak(end_link(rt, &shared, &mut second, 0));
+    leak(second);
     let shares = vec![in alloc; first].expect(rt, "memory");
     let closed = shared.close(shares, Vec::new(alloc));
     let missing = match &closed {
@@ -79,7 +82,7 @@ fn leaves_a_share_out<L: Ledger, R: Wait + Abort>(rt: &R, alloc: Global, blank: 
         _ => false,
     };
     assert!(rt; missing);
-    drop(closed);
+    leak(closed);
 }
 
 #[test]
@@ -99,8 +102,8 @@ fn told_elsewhere<L: Ledger, R: Wait + Abort>(
 {
     let (shared, mut share) = opened::<L>(alloc, blank);
     let receipt = end_link(rt, &shared, &mut share, link);
-    drop(share);
-    drop(shared);
+    leak(share);
+    leak(shared);
     receipt
 }
 
@@ -123,17 +126,25 @@ fn why_with<L: Ledger, R: Wait + Abort>(
     if with_own {
         receipts.push(own).expect(rt, "memory");
     } else {
-        drop(own);
+        leak(own);
     }
     match shared.close(shares, receipts) {
         Ok(closed) => {
-            drop(closed);
+            leak(closed);
             None
         }
         Err((closed, why)) => {
-            drop(closed);
+            leak(closed);
             Some(why)
         }
+    }
+}
+
+/// Whether the step is the end of that link.
+fn is_end_of(step: &Step, number: u64) -> bool {
+    match step {
+        Step::LinkEnd { link } => *link == number,
+        _ => false,
     }
 }
 
@@ -144,12 +155,12 @@ fn two_receipts_of_one_number_are_repeated(rt: HostRuntime) {
     let why = why_with::<Brand, HostRuntime>(&rt, alloc, Blank::new(1), others, true);
     let repeated = match &why {
         Some(CloseWhy::Repeated { told, again }) => {
-            *told.step() == Step::LinkEnd { link: 1 } && *again.step() == Step::LinkEnd { link: 0 }
+            is_end_of(told.step(), 1) && is_end_of(again.step(), 0)
         }
         _ => false,
     };
     assert!(rt; repeated);
-    drop(why);
+    leak(why);
 }
 
 #[test]
@@ -158,11 +169,9 @@ fn a_receipt_of_another_step_differs(rt: HostRuntime) {
     let others = told_elsewhere::<Brand, HostRuntime>(&rt, alloc, Blank::new(1), 1);
     let why = why_with::<Brand, HostRuntime>(&rt, alloc, Blank::new(1), others, false);
     let differs = match &why {
-        Some(CloseWhy::Differs { number, told }) => {
-            *number == 0 && *told.step() == Step::LinkEnd { link: 1 }
-        }
+        Some(CloseWhy::Differs { number, told }) => { *number == 0 && is_end_of(told.step(), 1) }
         _ => false,
     };
     assert!(rt; differs);
-    drop(why);
+    leak(why);
 }

@@ -1,4 +1,4 @@
-use Rattle.amqp_resource_shared_tests.proofs.close_tests.a_receipt_of_another_step_differs.Given as goal
+use Rattle.amqp_resource_tests.proofs.close_tests.two_receipts_of_one_number_are_repeated.Given as goal
 
 abbrev pub ghosts-told_elsewhere : goal.ghosts-told_elsewhere
 ghosts-told_elsewhere g a = record { name = a.blank.name; parts = a.blank.parts }
