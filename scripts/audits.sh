@@ -1,9 +1,10 @@
 #!/usr/bin/env bash
 # Shows that the reports of this repository fit: each example of run and listen, the rows of a plan,
-# and made runs of growing size, each by an audit of its steps, its ids and its report; and that
-# changed reports don't. With the word --cost it prints instead what audits of a run cost, beside the
-# run: instructions (callgrind), instructions an octet, and the greatest memory. Needs built programs:
-# ./txn_program --prove. The cost needs valgrind and time.
+# and made runs of growing size, up to the 4 MiB that an audit reads, each by an audit of its steps,
+# its ids and its report; that changed reports don't; and that a made report is the one that a run
+# writes, where a run reads its steps. With the word --cost it prints instead what audits of a run cost,
+# beside the run: instructions (callgrind), instructions an octet, and the greatest memory. Needs built
+# programs: ./txn_program --prove. The cost needs valgrind and time.
 top=$(cd "$(dirname "$(readlink -f "$0")")/.." && pwd) || exit 1
 run=$("$top/txn_program" --which run) || exit 1
 audit=$("$top/txn_program" --which audit) || exit 1
@@ -68,34 +69,68 @@ rows() {
   judge "no report" "no 1" "$steps" /dev/null "$one"
 }
 
-# Step lines of that many octets at most: transactions of three frames under one id, each committed,
-# but each fourth rolled back.
-made_steps() {
-  awk -v most="$1" -v id="$one" 'BEGIN {
-    print "attach c 0"; size = 11
-    declare = "control 0 00537700533145"
+# Steps and the report of their run, both made here, which with the line between them have that many
+# octets at most: transactions of three frames under one id, each committed, but each fourth rolled
+# back.
+make_input() {
+  awk -v most="$1" -v id="$one" -v steps="$work/steps" -v report="$work/report" \
+    -v taken="$work/taken" 'BEGIN {
+    print "attach c 0" >steps
+    print "attached 0" >report
+    printf "" >taken
+    ending = "stop done\nhanded 0\n"
+    size = length("attach c 0\nreport\nattached 0\n" ending)
+    declare = "control 0 00537700533145\n"
     front = "control 0 005377005332"
     for (turn = 0; ; turn++) {
       n = 2 * turn
-      lines = declare "\n"
+      lines = declare
       lines = lines "post " id " 1 " n " - - 6869\n"
       lines = lines "post " id " 1 " n + 1 " true accepted 00\n"
       lines = lines "retire " id " sender " n " - true accepted\n"
       # a discharge: a list of the id, and of fail where it is true
       if (turn % 4 == 3) lines = lines front "c01402a010" id "41\n"
       else lines = lines front "c01301a010" id "\n"
-      if (size + length(lines) > most) exit
-      printf "%s", lines; size += length(lines)
+      replies = "declared " id "\nok\n"
+      replies = replies "out disposition receiver " n " - true txn:" id ":accepted\n"
+      replies = replies "ok\nok\naccepted\n"
+      frames = ""
+      if (turn % 4 != 3) {
+        frames = "taken transfer 1 " n " - - 6869\n"
+        frames = frames "taken transfer 1 " n + 1 " true accepted 00\n"
+        frames = frames "taken disposition sender " n " - true accepted\n"
+      }
+      size += length(lines replies frames)
+      if (size > most) break
+      printf "%s", lines >steps
+      printf "%s", replies >report
+      printf "%s", frames >taken
     }
+    printf "%s", ending >report
   }'
+  cat "$work/taken" >>"$work/report"
 }
 
+# The octets of an input of these steps and this report.
+input_octets() {
+  echo $(($(cat "$work/steps" "$work/report" | wc -c) + 7))
+}
+
+# The made report is the one that a run of the steps writes, where a run reads so many.
+is_of_run() {
+  [ "$(wc -c <"$work/steps")" -le 1048576 ] || return 0
+  "$run" run "$one" <"$work/steps" | cmp -s - "$work/report" && return
+  failed=$((failed + 1))
+  echo "WRONG: a run writes another report than was made of $1 octets"
+}
+
+# Made inputs, up to the most octets that an audit reads: 4 MiB.
 made() {
   local most
-  for most in 1000 30000 262144 1048576; do
-    made_steps "$most" >"$work/steps"
-    "$run" run "$one" <"$work/steps" >"$work/report"
-    judge "made of $most octets, $(wc -c <"$work/report") of report" "yes 0" "$work/steps" \
+  for most in 1000 30000 262144 1048576 1927000 3145728 4194304; do
+    make_input "$most"
+    is_of_run "$most"
+    judge "made of $(input_octets) octets, $(wc -l <"$work/steps") steps" "yes 0" "$work/steps" \
       "$work/report" "$one"
   done
   # The last line taken is another.
@@ -116,16 +151,17 @@ row() {
   echo "| $name | $octets | $instructions | $((instructions / octets)) | $memory |"
 }
 
-# The costs: runs of growing size, and the audit of each.
+# The costs: audits of growing size, and beside each the run of its steps, where a run reads so many.
 costs() {
   local most
   echo "| call | octets | instructions | an octet | KiB |"
   echo "|---|---|---|---|---|"
-  for most in 262144 524288 1048576; do
-    made_steps "$most" >"$work/steps"
-    "$run" run "$one" <"$work/steps" >"$work/report"
+  for most in 262144 1048576 1927000 4194304; do
+    make_input "$most"
     { cat "$work/steps"; echo report; cat "$work/report"; } >"$work/input"
-    row run "$run" "$work/steps" run "$one"
+    if [ "$(wc -c <"$work/steps")" -le 1048576 ]; then
+      row run "$run" "$work/steps" run "$one"
+    fi
     row audit "$audit" "$work/input" audit "$one"
   done
 }

@@ -1,11 +1,13 @@
 //! The top call: an audit over a source and a sink.
 
-ghost use Rattle.std.specs.Prelude.{◌≡◌, ◌<◌, ◌+◌, Some, Ok, length, IfOk};
+ghost use Rattle.std.specs.Prelude.{◌≡◌, ◌<◌, ◌+◌, None, Some, Ok, length, IfOk, IfSome, string_bytes};
 ghost use Rattle.txn_program_edges.specs.declared.input.Reading.TheVariants as readings;
 ghost use Rattle.txn_program_edges.specs.Reading.{source_of};
 ghost use Rattle.txn_program_edges.specs.Writing.{EndsWith, Wrote, sink_of};
+ghost use Rattle.txn_program_lines.specs.Cutting.{lines_of};
+ghost use Rattle.txn_audit_fits.specs.Telling.{difference_text};
 ghost use Rattle.txn_audit.specs.AuditInput.{audit_words};
-ghost use Rattle.txn_audit.specs.Auditing.{AnswersParts, Audits, Ends, IsAnswer, answer_status, answer_text};
+ghost use Rattle.txn_audit.specs.Auditing.{Audits, Ends, IsAnswer, IsAnswerTo, answer_status, answer_text, answer_why, line_told};
 ghost use Rattle.txn_audit.specs.Parting.{lines_left};
 
 use crate::audit_input::{AuditInput, audit_words, read_parts};
@@ -13,7 +15,7 @@ use amqp_below_ids::ListIds;
 use amqp_below_streams::{ByteSink, ByteSource};
 use amqp_txn_types::{NoMemory, Text};
 use std::alloc::Global;
-use txn_audit_fits::{Difference, audit_telling};
+use txn_audit_fits::{Difference, first_difference};
 use txn_program_edges::{
     Reading, TransactionIds, Unserved, end_unserved, read_up_to, status, write_and_end,
 };
@@ -47,7 +49,8 @@ pub fn run_audit<I: ByteSource, O: ByteSink>(
 ) -> AuditRan
     ensures { Audits (audit_words words.now) (source_of I.rest I.faults input.old)
         (source_of I.rest I.faults input.new) (sink_of O.written O.faults O.spare output.old)
-        (sink_of O.written O.faults O.spare output.new) result.status }
+        (sink_of O.written O.faults O.spare output.new) result.status
+        (line_told result.why) }
 {
     match audit_words(alloc, words) {
         Ok(Some(ids)) => audit_input(alloc, &ids, input, output),
@@ -58,7 +61,8 @@ pub fn run_audit<I: ByteSource, O: ByteSink>(
 
 /// Ends without a difference that could be told.
 pub(crate) fn end(status: u8) -> AuditRan
-    ensures { result.status ≡ status }
+    ensures status { result.status ≡ status }
+    ensures told { line_told result.why ≡ None }
 {
     AuditRan { status, why: None }
 }
@@ -73,7 +77,8 @@ fn audit_input<I: ByteSource, O: ByteSink>(
     requires { 0 < length ids.now }
     ensures { Audits (Some ids.now) (source_of I.rest I.faults input.old)
         (source_of I.rest I.faults input.new) (sink_of O.written O.faults O.spare output.old)
-        (sink_of O.written O.faults O.spare output.new) result.status }
+        (sink_of O.written O.faults O.spare output.new) result.status
+        (line_told result.why) }
 {
     match read_up_to(alloc, input, INPUT_LIMIT) {
         Ok(reading) => audit_reading(alloc, ids, reading, output),
@@ -90,7 +95,8 @@ fn audit_reading<O: ByteSink>(
 ) -> AuditRan
     requires { 0 < length ids.now }
     ensures { Ends ids.now reading (sink_of O.written O.faults O.spare output.old)
-        (sink_of O.written O.faults O.spare output.new) result.status }
+        (sink_of O.written O.faults O.spare output.new) result.status
+        (line_told result.why) }
 {
     match reading {
         Reading::Fault => end(end_unserved(alloc, Unserved::ReadFault, output)),
@@ -109,7 +115,8 @@ fn audit_octets<O: ByteSink>(
     requires { 0 < length ids.now }
     ensures { Ends ids.now (readings.Whole octets.now)
         (sink_of O.written O.faults O.spare output.old)
-        (sink_of O.written O.faults O.spare output.new) result.status }
+        (sink_of O.written O.faults O.spare output.new) result.status
+        (line_told result.why) }
 {
     match answer_of(alloc, ids, octets) {
         Ok(answer) => end_answered(alloc, answer, output),
@@ -134,6 +141,7 @@ fn end_answered<O: ByteSink>(alloc: Global, answer: Answer, output: &mut O) -> A
         result.status }
     ensures written { Wrote (O.written output.old) (O.written output.new) result.status
         (answer_text answer) }
+    ensures told { line_told result.why ≡ answer_why answer }
 {
     match answer {
         Answer::Yes => end(write_and_end(status::EVERY_STEP, b"yes\n", output)),
@@ -165,17 +173,26 @@ fn answer_of_parts(
 ) -> Result<Answer, NoMemory>
     requires some { 0 < length ids.now }
     requires next { parts.now.next ≡ length parts.now.steps + 1 }
-    ensures { IfOk result (λ answer. AnswersParts ids.now
-        (Ok (parts.now.steps, lines_left parts.now.report)) (answer_status answer)
-        (answer_text answer)) }
+    ensures { IfOk result (IsAnswerTo ids.now
+        (Ok (parts.now.steps, lines_left parts.now.report))) }
 {
     let Some(lines) = parts.report else {
         return Ok(Answer::Unread(parts.next));
     };
     let mut source = ListIds::new(alloc, ids.as_slice())?;
-    let mut told = Difference::new();
-    if audit_telling(alloc, &parts.steps, &mut source, lines, &mut told)? {
-        return Ok(Answer::Yes);
+    match first_difference(alloc, &parts.steps, &mut source, lines)? {
+        None => Ok(Answer::Yes),
+        Some(difference) => Ok(Answer::No(line_that_tells(alloc, &difference, lines))),
     }
-    Ok(Answer::No(told.line_in(alloc, lines).ok()))
+}
+
+/// The line that tells where the report departs; `None` where memory runs out for it.
+fn line_that_tells(alloc: Global, difference: &Difference, lines: &[u8]) -> Option<String>
+    ensures { IfSome result (λ line. string_bytes line
+        ≡ difference_text difference.now (lines_of lines.now)) }
+{
+    match difference.line_in(alloc, lines) {
+        Ok(line) => Some(line),
+        Err(_) => None,
+    }
 }

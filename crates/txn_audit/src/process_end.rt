@@ -2,6 +2,7 @@
 
 ghost use Rattle.txn_program_edges.specs.Reading.{source_of};
 ghost use Rattle.txn_program_edges.specs.Writing.{sink_of};
+ghost use Rattle.txn_audit.specs.Auditing.{line_told};
 ghost use Rattle.txn_audit.specs.Process.{EndsAudit};
 
 use crate::audit_runs::{AuditRan, end, run_audit};
@@ -20,7 +21,8 @@ pub fn end_audit<I: ByteSource, O: ByteSink>(
 ) -> AuditRan
     ensures { EndsAudit arguments (source_of I.rest I.faults input.old)
         (source_of I.rest I.faults input.new) (sink_of O.written O.faults O.spare output.old)
-        (sink_of O.written O.faults O.spare output.new) result.status }
+        (sink_of O.written O.faults O.spare output.new) result.status
+        (line_told result.why) }
 {
     match arguments {
         Ok(arguments) => run_audit(alloc, arguments.as_slice(), input, output),

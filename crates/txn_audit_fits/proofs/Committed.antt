@@ -1,5 +1,5 @@
 -- Lines of replies to a commit, and moves of what is kept.
-use Rattle.std.proofs.Common.{◌≡◌, ℕ, ◌≤◌, Bool, true, false, cond, not, Option, Some, None, Result, Ok, Err, IfOk, OnOk, List, [], ◌∷◌, ◌++◌, length, map, refl, sym, ◌∙◌, ap, subst, arith}
+use Rattle.std.proofs.Common.{◌≡◌, ℕ, ◌≤◌, Bool, true, false, cond, Option, Some, None, Result, Ok, Err, IfOk, OnOk, List, [], ◌∷◌, ◌++◌, length, map, refl, sym, ◌∙◌, ap, subst, arith}
 use Rattle.std.specs.Prelude.{◌==◌, codes}
 use Rattle.std.specs.Str.{bytes_eq}
 use Rattle.std.specs.Option.{option_map}
@@ -9,7 +9,6 @@ use Rattle.amqp_txn_types.specs.declared.id.TransactionId.{TransactionId}
 use Rattle.amqp_txn_types.specs.declared.performatives.Frame.{Frame}
 use Rattle.amqp_txn_types.specs.Frames.{stripped}
 use Rattle.amqp_txn_types.specs.declared.small.TransactionError.TheVariants as transaction_errors
-use Rattle.amqp_txn_codec.specs.declared.message.ControlMessageBody.{ControlMessageBody}
 use Rattle.amqp_txn_codec.specs.declared.message.ControlMessageBody.TheVariants as messages
 use Rattle.amqp_txn_codec.specs.declared.message.Discharge.{Discharge}
 use Rattle.amqp_txn_codec.specs.Discharges.{is_rollback}
@@ -26,20 +25,18 @@ use Rattle.amqp_resource_record.specs.declared.entry.Entry.{Entry}
 use Rattle.amqp_resource_record.specs.Answers.{Answer, AnswerDischarge, Echoed}
 use Rattle.amqp_resource_record.specs.Entries.{message_discharges}
 use Rattle.amqp_resource_record.specs.Hands.{frames_of}
-use Rattle.amqp_resource_record.specs.Links.{is_open}
-use Rattle.amqp_resource_record.specs.Live.{home, is_held_on, is_link, is_live}
-use Rattle.amqp_resource_record.proofs.Whole.{commits-discharge, hands-commit, length-AllWindowsFit}
+use Rattle.amqp_resource_record.specs.Live.{home, is_link, is_live}
+use Rattle.amqp_resource_record.proofs.Whole.{commits-discharge, hands-commit}
 use Rattle.amqp_resource_log.specs.Live.{frames_kept, home_of, kept, Kept}
 use Rattle.amqp_resource_held.specs.declared.held.Held.{Held}
 use Rattle.amqp_resource_held.specs.Changes.{Ended}
 use Rattle.amqp_resource_held.specs.Held.{SameHeld, Stands, is_in, is_kept_on}
-use Rattle.amqp_resource_held.proofs.Standing.{LeavesLinks, stands-moved}
+use Rattle.amqp_resource_held.proofs.Standing.{stands-moved}
 use Rattle.amqp_resource_held.proofs.Views.{frames-record}
-use Rattle.txn_program_report.specs.Report.{reply_frames, reply_text}
-use Rattle.txn_audit_fits.specs.Fits.{gives_back}
+use Rattle.txn_program_report.specs.Report.{reply_text}
 use Rattle.txn_audit_fits.specs.declared.outs.Outs.{Outs}
 use Rattle.txn_audit_fits.specs.declared.outs.Outs.TheVariants as outs
-use Rattle.txn_audit_fits.specs.Judging.{Accepts, Follows, Judges, JudgesWork, OutsAre, Tells, entry_of, nothing_after, outs_of_count}
+use Rattle.txn_audit_fits.specs.Judging.{Follows, Judges, JudgesWork, OutsAre, entry_of, nothing_after, outs_of_count}
 use Rattle.txn_audit_fits.proofs.Judged.{control_from, control_to, ended, held_by, none_drew, none_handed, nothing_drawn, open_by, other_text, same_text, text_accepted, text_veto}
 
 -- the frames that are kept for an id that a link holds are those of the record

@@ -1,9 +1,11 @@
 -- The lines that end a report.
-use Rattle.std.proofs.Common.{◌≡◌, ℕ, zero, suc, ◌+◌, ◌<◌, ◌≤◌, Bool, true, false, cond, not, ◌&&◌, Option, Some, None, List, [], ◌∷◌, ◌++◌, length, map, take, drop, get_or, refl, sym, ◌∙◌, ap, subst, arith, IsTrue, append_assoc, append-nil}
-use Rattle.std.specs.Prelude.{◌↔◌, codes, is_some}
+use Rattle.std.proofs.Common.{◌≡◌, ℕ, zero, suc, ◌+◌, ◌<◌, ◌≤◌, Bool, true, false, cond, Option, Some, None, List, [], ◌∷◌, ◌++◌, length, map, take, drop, get_or, refl, sym, ◌∙◌, ap, subst, arith, IsTrue, append_assoc, append-nil, inl, inr}
+use Rattle.std.specs.Prelude.{◌↔◌, ◌-◌, ◌^◌, codes, decimal, is_some}
+use Rattle.std.specs.Str.Parse.{digits_value}
 use Rattle.std.specs.Str.{bytes_eq}
 use Rattle.std.proofs.lemmas.Slice.Eq.{bytes_eq-Decides}
-use Rattle.std.proofs.lemmas.List.{length-append, map-append, take_more}
+use Rattle.std.proofs.lemmas.Fmt.{decimal_is_IsNumeral}
+use Rattle.std.proofs.lemmas.List.{length-append, map-append, take-append-drop, take_more}
 use Rattle.amqp_txn_types.specs.declared.id.TransactionId.{TransactionId}
 use Rattle.amqp_txn_types.specs.declared.delivery.ConnectionStopReason.{ConnectionStopReason}
 use Rattle.amqp_txn_types.specs.declared.performatives.Disposition.{Disposition}
@@ -16,21 +18,22 @@ use Rattle.amqp_resource_record.specs.declared.step.Step.TheVariants as steps
 use Rattle.amqp_resource_record.specs.declared.entry.Entry.{Entry}
 use Rattle.amqp_resource_record.specs.declared.stop.StopCode.{StopCode}
 use Rattle.amqp_resource_record.specs.declared.stop.StopCode.TheVariants as stop_codes
-use Rattle.amqp_resource_record.specs.Hands.{commits, frames_of, hands}
-use Rattle.amqp_resource_record.specs.Live.{is_live}
+use Rattle.amqp_resource_record.specs.Hands.{hands}
 use Rattle.amqp_resource_record.specs.Work.{work}
 use Rattle.amqp_resource_record.proofs.Whole.{hands-commit, hands-no_commit}
 use Rattle.amqp_resource_log.specs.Live.{frames_kept, kept}
 use Rattle.amqp_resource_held.specs.declared.held.Held.{Held}
-use Rattle.amqp_resource_held.specs.Held.{Stands, is_kept_on}
+use Rattle.amqp_resource_held.specs.Held.{Stands}
 use Rattle.amqp_resource_held.proofs.Views.{live-record}
 use Rattle.txn_audit_report.specs.Stopping.{is_refusal, refusal_of_stop}
 use Rattle.txn_audit_report.proofs.RefusalCodes.{stop-found, stop-told}
-use Rattle.txn_audit_fits.specs.Fits.{StopFits, Stops, StopsFrame, StopsUnder, ending_lines, handed_text, stop_text, stopping_hands, taken_text}
+use Rattle.txn_audit_fits.specs.Fits.{Stops, StopsFrame, StopsUnder, ending_lines, handed_text, stop_text, stopping_hands, taken_text}
+use Rattle.txn_program_lines.specs.Cutting.{lines_of}
+use Rattle.txn_audit_fits.specs.declared.judged_lines.Judged.{Judged}
+use Rattle.txn_audit_fits.specs.declared.judged_lines.Judged.TheVariants as judged
 use Rattle.txn_audit_fits.specs.Ending.{CommitOf, Ends, ShowsStop, StopJudged, TellsHands, TellsStop, TellsTaken}
-use Rattle.txn_audit_fits.specs.declared.outs.Outs.{Outs}
-use Rattle.txn_audit_fits.specs.declared.outs.Outs.TheVariants as outs
-use Rattle.txn_audit_fits.specs.Judging.{OutsTell}
+use Rattle.txn_audit_fits.specs.Explaining.{DepartsAt, EndsHere, JudgesCounts, JudgesEnd, JudgesTaken}
+use Rattle.txn_audit_fits.proofs.Departing.{departs-behind, departs-here}
 use Rattle.txn_audit_fits.proofs.Judged.{same_text, other_text}
 use Rattle.txn_audit_fits.proofs.Committed.{frames_by}
 
@@ -136,32 +139,55 @@ judged-done before line now w = by_case (bytes_eq line (codes "stop done")) refl
 
 -- ---- what was taken
 
--- a line that shows another frame than the next
-pub counts-bad : (frames : List Frame) (i : ℕ) (frame : Frame) (line : List ℕ) (rest lines : List (List ℕ)) → i < length frames → frame ≡ get_or frames i frame → lines ≡ map taken_text (take i frames) ++ (line ∷ rest) → (line ≡ taken_text frame → ⊥) → (n : ℕ) → lines ≡ map taken_text (take n frames) → ⊥
-counts-bad [] i frame line rest lines l at e other n f = absurd (omega arith)
-counts-bad (x ∷ frames) zero frame line rest lines l at e other zero f = cc (e, f)
-counts-bad (x ∷ frames) zero frame line rest lines l at e other (suc n) f = let h : line ∷ rest ≡ taken_text x ∷ map taken_text (take n frames) = sym e ∙ f in other (let g : line ≡ taken_text x = cc h in g ∙ ap taken_text (sym at))
-counts-bad (x ∷ frames) (suc i) frame line rest lines l at e other zero f = cc (e, f)
-counts-bad (x ∷ frames) (suc i) frame line rest lines l at e other (suc n) f =
-    let h : taken_text x ∷ (map taken_text (take i frames) ++ (line ∷ rest)) ≡ taken_text x ∷ map taken_text (take n frames) = sym e ∙ f in
-    counts-bad frames i frame line rest (map taken_text (take n frames)) (omega arith) at (let g : map taken_text (take i frames) ++ (line ∷ rest) ≡ map taken_text (take n frames) = cc h in sym g) other n refl
+-- one line more of one frame more
+pub taken-next : (frames : List Frame) (i : ℕ) (frame : Frame) (lines rest after : List (List ℕ)) → i < length frames → frame ≡ get_or frames i frame → lines ≡ map taken_text (take i frames) ++ rest → rest ≡ taken_text frame ∷ after → lines ≡ map taken_text (take (i + 1) frames) ++ after
+taken-next frames i frame lines rest after l at e r =
+    e ∙ ap (λ ls. map taken_text (take i frames) ++ ls) r
+    ∙ sym (append_assoc (map taken_text (take i frames)) (taken_text frame ∷ []) after)
+    ∙ ap (λ ls. ls ++ after) (sym (ap (map taken_text) (take_more frames i frame l ∙ ap (λ f. take i frames ++ f ∷ []) (sym at)) ∙ map-append taken_text (take i frames) (frame ∷ [])))
 
--- lines of more frames than there are
-pub counts-more : (frames : List Frame) (line : List ℕ) (rest lines : List (List ℕ)) → lines ≡ map taken_text frames ++ (line ∷ rest) → (n : ℕ) → lines ≡ map taken_text (take n frames) → ⊥
-counts-more [] line rest lines e zero f = cc (e, f)
-counts-more [] line rest lines e (suc n) f = cc (e, f)
-counts-more (x ∷ frames) line rest lines e zero f = cc (e, f)
-counts-more (x ∷ frames) line rest lines e (suc n) f =
-    let h : taken_text x ∷ (map taken_text frames ++ (line ∷ rest)) ≡ taken_text x ∷ map taken_text (take n frames) = sym e ∙ f in
-    counts-more frames line rest (map taken_text (take n frames)) (let g : map taken_text frames ++ (line ∷ rest) ≡ map taken_text (take n frames) = cc h in sym g) n refl
+-- the lines of the first frames and of those after them
+taken_parts : (frames : List Frame) (i : ℕ) → map taken_text (take i frames) ++ map taken_text (drop i frames) ≡ map taken_text frames
+taken_parts frames i = sym (map-append taken_text (take i frames) (drop i frames)) ∙ ap (map taken_text) (take-append-drop i frames)
 
--- as many lines are of as many frames
-pub counts-one : (frames : List Frame) (n m : ℕ) → n ≤ length frames → m ≤ length frames → map taken_text (take n frames) ≡ map taken_text (take m frames) → n ≡ m
-counts-one [] n m a b e = omega arith
-counts-one (x ∷ frames) zero zero a b e = refl
-counts-one (x ∷ frames) zero (suc m) a b e = cc e
-counts-one (x ∷ frames) (suc n) zero a b e = cc e
-counts-one (x ∷ frames) (suc n) (suc m) a b e = let f : map taken_text (take n frames) ≡ map taken_text (take m frames) = cc e in ap suc (counts-one frames n m (omega arith) (omega arith) f)
+-- a line at the place of a frame is that of the frame
+taken_at : (frames : List Frame) (i : ℕ) (frame : Frame) (line : List ℕ) (more : List (List ℕ)) → i < length frames → frame ≡ get_or frames i frame → map taken_text (take i frames) ++ (line ∷ more) ≡ map taken_text frames → line ≡ taken_text frame
+taken_at [] i frame line more l at e = absurd (omega arith)
+taken_at (x ∷ frames) zero frame line more l at e = let g : line ≡ taken_text x = cc e in g ∙ ap taken_text (sym at)
+taken_at (x ∷ frames) (suc i) frame line more l at e = taken_at frames i frame line more (omega arith) at (let g : map taken_text (take i frames) ++ (line ∷ more) ≡ map taken_text frames = cc e in g)
+
+-- fewer lines than frames
+taken_short : (frames : List Frame) (i : ℕ) → i < length frames → map taken_text (take i frames) ++ [] ≡ map taken_text frames → ⊥
+taken_short [] i l e = absurd (omega arith)
+taken_short (x ∷ frames) zero l e = cc e
+taken_short (x ∷ frames) (suc i) l e = taken_short frames i (omega arith) (let g : map taken_text (take i frames) ++ [] ≡ map taken_text frames = cc e in g)
+
+-- after the lines of the first frames that of the next isn't first
+pub taken-other : (frames : List Frame) (i : ℕ) (frame : Frame) (lines rest : List (List ℕ)) → i < length frames → frame ≡ get_or frames i frame → lines ≡ map taken_text (take i frames) ++ rest → ((after : List (List ℕ)) → rest ≡ taken_text frame ∷ after → ⊥) → DepartsAt (λ all said. said ≡ map taken_text frames) lines rest
+taken-other frames i frame lines rest l at e other = record {
+  passed = map taken_text (take i frames);
+  parts = e;
+  begins = (map taken_text (drop i frames), taken_parts frames i);
+  first = λ line others more f g. other others (f ∙ ap (λ (t : List ℕ). t ∷ others) (taken_at frames i frame line more l at g));
+  none = λ g. by_rest rest refl (sym e ∙ g);
+}
+  where
+    by_rest : (r : List (List ℕ)) → rest ≡ r → map taken_text (take i frames) ++ rest ≡ map taken_text frames → ⊥
+    by_rest [] f g = taken_short frames i l (sym (ap (λ ls. map taken_text (take i frames) ++ ls) f) ∙ g)
+    by_rest (line ∷ others) f g = other others (f ∙ ap (λ (t : List ℕ). t ∷ others) (taken_at frames i frame line others l at (sym (ap (λ ls. map taken_text (take i frames) ++ ls) f) ∙ g)))
+
+-- lines are left after those of all the frames
+pub taken-more : (frames : List Frame) (lines rest : List (List ℕ)) (line : List ℕ) (others : List (List ℕ)) → lines ≡ map taken_text frames ++ rest → rest ≡ line ∷ others → DepartsAt (λ all said. said ≡ map taken_text frames) lines rest
+taken-more frames lines rest line others e r = record {
+  passed = map taken_text frames;
+  parts = e;
+  begins = ([], append-nil (map taken_text frames));
+  first = λ l o more f g. too_long l more g;
+  none = λ g. too_long line others (sym (ap (λ ls. map taken_text frames ++ ls) r) ∙ sym e ∙ g);
+}
+  where
+    too_long : (l : List ℕ) (more : List (List ℕ)) → map taken_text frames ++ (l ∷ more) ≡ map taken_text frames → ⊥
+    too_long l more g = let n = sym (length-append (map taken_text frames) (l ∷ more)) ∙ ap length g in absurd (omega (arith, n))
 
 -- the first frames of two lists joined
 pub take-joined : (xs ys : List Frame) (n : ℕ) → take (length xs + n) (xs ++ ys) ≡ xs ++ take n ys
@@ -170,12 +196,45 @@ take-joined (x ∷ xs) ys n =
     let e : length (x ∷ xs) + n ≡ suc (length xs + n) = omega arith in
     ap (λ k. take k (x ∷ (xs ++ ys))) e ∙ ap (λ fs. x ∷ fs) (take-joined xs ys n)
 
+-- ---- how many were taken
+
+-- the lines of two numbers differ
+pub handed-one : (n m : ℕ) → n < 2 ^ 64 → m < 2 ^ 64 → handed_text n ≡ handed_text m → n ≡ m
+handed-one n m a b e =
+    let d : decimal n ≡ decimal m = cc e in
+    sym (decimal_is_IsNumeral n a).1 ∙ ap (digits_value 10) d ∙ (decimal_is_IsNumeral m b).1
+
+-- no line, or that of no number
+pub counts-here : (frames : List Frame) (count : ℕ) (lines rest : List (List ℕ)) → lines ≡ rest → ((more : ℕ) (others : List (List ℕ)) → count + more ≤ length frames → rest ≡ handed_text more ∷ others → ⊥) → count ≤ length frames → DepartsAt (λ all said. TellsTaken frames count said) lines rest
+counts-here frames count lines rest e none few =
+    departs-here (λ all said. TellsTaken frames count said) lines rest (handed_text 0 ∷ map taken_text (take (count + 0) frames)) e (0, omega (arith, few), refl)
+    (λ line others more f t. none t.0 others t.1 (f ∙ ap (λ (l : List ℕ). l ∷ others) (let g : line ≡ handed_text t.0 = let h = t.2 in cc h in g)))
+    (λ t. none t.0 (map taken_text (take (count + t.0) frames)) t.1 (sym e ∙ t.2))
+
+-- what was taken, behind the line of their number
+counts-behind : (frames : List Frame) (count handed : ℕ) (line : List ℕ) (lines after rest : List (List ℕ)) → length frames - count < 2 ^ 64 → line ≡ handed_text handed → lines ≡ line ∷ after → count + handed ≤ length frames → DepartsAt (λ all said. said ≡ map taken_text (take (count + handed) frames)) after rest → DepartsAt (λ all said. TellsTaken frames count said) lines rest
+counts-behind frames count handed line lines after rest short h e few d =
+    subst (λ (ls : List (List ℕ)). DepartsAt (λ all said. TellsTaken frames count said) ls rest) (sym e)
+    (departs-behind (λ before. Unit {0}) (λ before all said. said ≡ map taken_text (take (count + handed) frames)) (λ all said. TellsTaken frames count said) (line ∷ []) after rest (λ before u. d) [] tt
+    (λ said p. (handed, few, ap (λ l. l ∷ said) h ∙ ap (λ ls. handed_text handed ∷ ls) p))
+    (λ all said same t.
+    let w : line ∷ said ≡ handed_text t.0 ∷ map taken_text (take (count + t.0) frames) = t.2 in
+    let l : handed_text handed ≡ handed_text t.0 = let g : line ≡ handed_text t.0 = cc w in sym h ∙ g in
+    let n : handed ≡ t.0 = handed-one handed t.0 (omega (arith, few, short)) (omega (arith, t.1, short)) l in
+    let g : said ≡ map taken_text (take (count + t.0) frames) = cc w in
+    ([], tt, g ∙ ap (λ k. map taken_text (take (count + k) frames)) (sym n))))
+
+pub counts-judged : (frames : List Frame) (count handed : ℕ) (line : List ℕ) (lines after : List (List ℕ)) → length frames - count < 2 ^ 64 → line ≡ handed_text handed → lines ≡ line ∷ after → handed ≤ length frames - count → (o : Judged) → JudgesTaken (take (count + handed) frames) after o → JudgesCounts frames count lines o
+counts-judged frames count handed line lines after short h e few (judged.Explained rest) t = λ less. (handed, omega (arith, few, less), e ∙ ap (λ l. l ∷ after) h ∙ ap (λ ls. handed_text handed ∷ ls) t)
+counts-judged frames count handed line lines after short h e few (judged.Departs rest) t = λ less. counts-behind frames count handed line lines after (lines_of rest.now) short h e (omega (arith, few, less)) t
+
 -- ---- the end
 
-pub ends-true : (before : List Entry) (left : List Step) (now : List Frame) (count : ℕ) (stop handed : List ℕ) (taken lines : List (List ℕ)) → lines ≡ stop ∷ handed ∷ taken → count ≡ length (work before) → StopJudged before left stop now true → (TellsTaken now count handed taken ↔ Ends before left lines)
-ends-true before left now count stop handed taken lines e c j = (there, back)
+-- the lines after that of the stop
+ends-tell : (before : List Entry) (left : List Step) (now : List Frame) (count : ℕ) (stop : List ℕ) (after : List (List ℕ)) → count ≡ length (work before) → StopJudged before left stop now true → (TellsTaken now count after ↔ Ends before left (stop ∷ after))
+ends-tell before left now count stop after c j = (there, back)
   where
-    there : TellsTaken now count handed taken → Ends before left lines
+    there : TellsTaken now count after → Ends before left (stop ∷ after)
     there t =
         let code = j.0.0 in
         let g : now ≡ work before ++ stopping_hands before left code = j.1 code j.0.2 in
@@ -186,47 +245,61 @@ ends-true before left now count stop handed taken lines e c j = (there, back)
           handed = t.0;
           stop = j.0.1;
           taken = omega (arith, t.1, n, c);
-          lines = e ∙ ap (λ l. l ∷ handed ∷ taken) (sym j.0.2) ∙ ap (λ l. stop_text code ∷ l ∷ taken) t.2 ∙ ap (λ ls. stop_text code ∷ handed_text t.0 ∷ ls) (t.3 ∙ ap (map taken_text) same);
+          lines = ap (λ l. l ∷ after) (sym j.0.2) ∙ ap (λ ls. stop_text code ∷ ls) (t.2 ∙ ap (λ fs. handed_text t.0 ∷ map taken_text fs) same);
         }
 
-    back : Ends before left lines → TellsTaken now count handed taken
+    back : Ends before left (stop ∷ after) → TellsTaken now count after
     back x =
-        let h : stop ∷ handed ∷ taken ≡ ending_lines before left x.code x.handed = sym e ∙ x.lines in
+        let h : stop ∷ after ≡ ending_lines before left x.code x.handed = x.lines in
         let s : stop ≡ stop_text x.code = cc h in
-        let d : handed ≡ handed_text x.handed = cc h in
-        let t : taken ≡ map taken_text (work before ++ take x.handed (stopping_hands before left x.code)) = cc h in
+        let t : after ≡ handed_text x.handed ∷ map taken_text (work before ++ take x.handed (stopping_hands before left x.code)) = cc h in
         let g : now ≡ work before ++ stopping_hands before left x.code = j.1 x.code (sym s) in
         let n : length now ≡ length (work before) + length (stopping_hands before left x.code) = ap length g ∙ length-append (work before) (stopping_hands before left x.code) in
         let m = x.taken in
         let same : take (count + x.handed) now ≡ work before ++ take x.handed (stopping_hands before left x.code) = ap (λ k. take (k + x.handed) now) c ∙ ap (take (length (work before) + x.handed)) g ∙ take-joined (work before) (stopping_hands before left x.code) x.handed in
-        (x.handed, omega (arith, n, c, m), d, t ∙ ap (map taken_text) (sym same))
+        (x.handed, omega (arith, n, c, m), t ∙ ap (λ fs. handed_text x.handed ∷ map taken_text fs) (sym same))
 
-pub ends-false : (before : List Entry) (left : List Step) (now : List Frame) (stop : List ℕ) (after lines : List (List ℕ)) → lines ≡ stop ∷ after → StopJudged before left stop now false → (IsTrue false ↔ Ends before left lines)
-ends-false before left now stop after lines e j = (
-  (λ z. absurd (cc z)),
-  (λ x.
-      let h : stop ∷ after ≡ ending_lines before left x.code x.handed = sym e ∙ x.lines in
-      let s : stop ≡ stop_text x.code = cc h in
-      absurd (j x.code x.stop (sym s))),
-)
+-- what was handed is no less
+ends-less : (before : List Entry) (left : List Step) (now : List Frame) (count : ℕ) (stop : List ℕ) → count ≡ length (work before) → StopJudged before left stop now true → count ≤ length now
+ends-less before left now count stop c j =
+    let code = j.0.0 in
+    let n = ap length (j.1 code j.0.2) ∙ length-append (work before) (stopping_hands before left code) in
+    omega (arith, n, c)
 
--- no stop, or nothing after it
-pub ends-empty : (before : List Entry) (left : List Step) (lines : List (List ℕ)) → lines ≡ [] → (IsTrue false ↔ Ends before left lines)
-ends-empty before left lines e = ((λ z. absurd (cc z)), (λ x. let f = x.lines in absurd (cc (e, f))))
+pub ends-judged : (before : List Entry) (left : List Step) (now : List Frame) (count : ℕ) (stop : List ℕ) (lines after : List (List ℕ)) → lines ≡ stop ∷ after → count ≡ length (work before) → StopJudged before left stop now true → (o : Judged) → JudgesCounts now count after o → JudgesEnd before left lines o
+ends-judged before left now count stop lines after e c j (judged.Explained rest) t = subst (λ (ls : List (List ℕ)). Ends before left ls) (sym e) ((ends-tell before left now count stop after c j).0 (t (ends-less before left now count stop c j)))
+ends-judged before left now count stop lines after e c j (judged.Departs rest) t =
+    subst (λ (ls : List (List ℕ)). DepartsAt (λ all said. EndsHere all before left said) ls (lines_of rest.now)) (sym e)
+    (departs-behind (λ es. Unit {0}) (λ es all said. TellsTaken now count said) (λ all said. EndsHere all before left said) (stop ∷ []) after (lines_of rest.now) (λ es u. t (ends-less before left now count stop c j)) [] tt
+    (λ said p. inr ((ends-tell before left now count stop said c j).0 p))
+    (λ all said same q. ([], tt, back all said q)))
+  where
+    back : (all : Bool) (said : List (List ℕ)) → EndsHere all before left (stop ∷ said) → TellsTaken now count said
+    back true said x = (ends-tell before left now count stop said c j).1 x
+    back false said (inl x) = absurd (cc x)
+    back false said (inr x) = (ends-tell before left now count stop said c j).1 x
 
-pub ends-short : (before : List Entry) (left : List Step) (lines : List (List ℕ)) (stop : List ℕ) → lines ≡ stop ∷ [] → (IsTrue false ↔ Ends before left lines)
-ends-short before left lines stop e = ((λ z. absurd (cc z)), (λ x. let f = x.lines in absurd (cc (e, f))))
+-- the line of no stop that is allowed
+pub ends-false : (before : List Entry) (left : List Step) (now : List Frame) (stop : List ℕ) (after lines : List (List ℕ)) → lines ≡ stop ∷ after → StopJudged before left stop now false → DepartsAt (λ all said. EndsHere all before left said) lines lines
+ends-false before left now stop after lines e j =
+    departs-here (λ all said. EndsHere all before left said) lines lines [] refl (inl refl)
+    (λ line others more g x. let h : line ∷ others ≡ stop ∷ after = sym g ∙ e in none false line more (let k : line ≡ stop = cc h in k) x)
+    (λ x. none true stop after refl (subst (λ (ls : List (List ℕ)). Ends before left ls) e x))
+  where
+    other : (line : List ℕ) (more : List (List ℕ)) → line ≡ stop → Ends before left (line ∷ more) → ⊥
+    other line more s x = let l = x.lines in let h : line ≡ stop_text x.code = cc l in j x.code x.stop (sym h ∙ s)
 
--- one line more of one frame more
-pub counts-next : (frames : List Frame) (i : ℕ) (frame : Frame) (line : List ℕ) (lines rest after : List (List ℕ)) → i < length frames → frame ≡ get_or frames i frame → lines ≡ map taken_text (take i frames) ++ rest → rest ≡ line ∷ after → line ≡ taken_text frame → lines ≡ map taken_text (take (i + 1) frames) ++ after
-counts-next frames i frame line lines rest after l at e r same =
-    e ∙ ap (λ ls. map taken_text (take i frames) ++ ls) (r ∙ ap (λ x. x ∷ after) same)
-    ∙ sym (append_assoc (map taken_text (take i frames)) (taken_text frame ∷ []) after)
-    ∙ ap (λ ls. ls ++ after) (sym (ap (map taken_text) (take_more frames i frame l ∙ ap (λ f. take i frames ++ f ∷ []) (sym at)) ∙ map-append taken_text (take i frames) (frame ∷ [])))
+    none : (all : Bool) (line : List ℕ) (more : List (List ℕ)) → line ≡ stop → EndsHere all before left (line ∷ more) → ⊥
+    none true line more s x = other line more s x
+    none false line more s (inl x) = cc x
+    none false line more s (inr x) = other line more s x
 
--- no line is left
-pub counts-here : (frames : List Frame) (n : ℕ) (lines rest : List (List ℕ)) → lines ≡ map taken_text (take n frames) ++ rest → rest ≡ [] → lines ≡ map taken_text (take n frames)
-counts-here frames n lines rest e r = e ∙ ap (λ ls. map taken_text (take n frames) ++ ls) r ∙ append-nil (map taken_text (take n frames))
+-- no stop
+pub ends-empty : (before : List Entry) (left : List Step) (lines : List (List ℕ)) → lines ≡ [] → DepartsAt (λ all said. EndsHere all before left said) lines lines
+ends-empty before left lines e =
+    departs-here (λ all said. EndsHere all before left said) lines lines [] refl (inl refl)
+    (λ line others more g x. let h : [] ≡ line ∷ others = sym e ∙ g in cc h)
+    (λ x. let l = x.lines in cc (e, l))
 
 -- a link's end stops no run, and a connection's stop stops it with its word
 pub no-link_stop : {link : ℕ} (before : List Entry) (step : Step) (line : List ℕ) → step ≡ steps.LinkEnd link → IsTrue false ↔ ShowsStop before step line

@@ -1,5 +1,5 @@
 -- Lines of replies to frames.
-use Rattle.std.proofs.Common.{◌≡◌, ℕ, ◌+◌, Bool, true, false, cond, not, Option, Some, None, List, [], ◌∷◌, ◌++◌, map, refl, sym, ◌∙◌, ap, subst, arith}
+use Rattle.std.proofs.Common.{◌≡◌, ℕ, ◌+◌, true, false, cond, not, Option, Some, None, List, [], ◌∷◌, ◌++◌, refl, sym, ◌∙◌, ap, subst, arith}
 use Rattle.std.specs.Prelude.{◌==◌, codes, decimal, is_some, slice_index}
 use Rattle.amqp_txn_types.specs.declared.id.TransactionId.{TransactionId}
 use Rattle.amqp_txn_types.specs.declared.performatives.Frame.{Frame}
@@ -21,9 +21,8 @@ use Rattle.amqp_resource_record.specs.declared.stop.StopCode.{StopCode}
 use Rattle.amqp_resource_record.proofs.Whole.{IsLegal-snoc, hands-other_frame, hands-plain}
 use Rattle.amqp_resource_log.specs.Live.{kept, with_frame}
 use Rattle.amqp_resource_held.specs.declared.held.Held.{Held}
-use Rattle.amqp_resource_held.specs.Held.{Stands, Tied, ids_on, is_among, is_in, is_kept_on}
-use Rattle.amqp_resource_held.specs.Views.{view_of_held, view_of_record}
-use Rattle.amqp_resource_held.specs.Changes.{Fits}
+use Rattle.amqp_resource_held.specs.Held.{ids_on, is_in}
+use Rattle.amqp_resource_held.specs.Views.{view_of_held}
 use Rattle.amqp_resource_held.proofs.Fitting.{fits-attached, fits-posted, fits-stands}
 use Rattle.amqp_resource_held.proofs.Kept.{in_updated}
 use Rattle.amqp_resource_held.proofs.Standing.{view-attached, view-post}
@@ -31,10 +30,9 @@ use Rattle.amqp_resource_held.proofs.Views.{live-record, stands-view}
 use Rattle.txn_program_report.specs.Report.{reply_frames, reply_text, stop_word}
 use Rattle.txn_audit_report.specs.Stopping.{refusal_of_attach}
 use Rattle.txn_audit_report.proofs.RefusalCodes.{attach-found, attach-told}
-use Rattle.txn_audit_fits.specs.Fits.{gives_back}
 use Rattle.txn_audit_fits.specs.declared.outs.Outs.{Outs}
 use Rattle.txn_audit_fits.specs.declared.outs.Outs.TheVariants as outs
-use Rattle.txn_audit_fits.specs.Judging.{Accepts, Follows, JudgesHere, JudgesWork, Opens, OutsAre, OutsTell, Tells, entry_of}
+use Rattle.txn_audit_fits.specs.Judging.{Accepts, Follows, JudgesHere, JudgesWork, Opens, OutsAre, OutsTell, entry_of}
 use Rattle.txn_audit_fits.proofs.Judged.{none_drew, none_handed, nothing_drawn, stays, text_attached, text_frames, text_refused}
 
 -- an answer to a frame, by the id that it is under

@@ -1,13 +1,12 @@
 -- Lines of replies that are judged by what is kept, and what is kept after them.
-use Rattle.std.proofs.Common.{◌≡◌, ℕ, ◌+◌, ◌≤◌, Bool, true, false, cond, Option, Some, None, List, [], ◌∷◌, ◌++◌, length, map, refl, sym, ◌∙◌, ap, subst, arith, append-nil}
-use Rattle.std.specs.Prelude.{◌==◌, codes, decimal, is_some}
+use Rattle.std.proofs.Common.{◌≡◌, ℕ, Bool, true, false, cond, Option, Some, None, List, [], ◌∷◌, ◌++◌, refl, sym, ◌∙◌, ap, subst, append-nil}
+use Rattle.std.specs.Prelude.{◌==◌, codes, decimal}
 use Rattle.hex.specs.Hex.{encode_lower}
 use Rattle.amqp_below_layer.specs.declared.answers.Answers.{Answers}
 use Rattle.amqp_below_layer.specs.declared.inner_error.SessionInnerError.{SessionInnerError}
 use Rattle.amqp_resource_record.specs.Stops.{fault_code}
 use Rattle.std.specs.Str.{bytes_eq}
 use Rattle.std.proofs.lemmas.Slice.Eq.{bytes_eq-Decides}
-use Rattle.std.proofs.lemmas.Bool.{and_parts}
 use Rattle.amqp_txn_types.specs.declared.id.TransactionId.{TransactionId}
 use Rattle.amqp_txn_types.specs.declared.performatives.Frame.{Frame}
 use Rattle.amqp_txn_types.specs.declared.small.AmqpError.TheVariants as amqp_errors
@@ -29,22 +28,21 @@ use Rattle.amqp_resource_record.specs.declared.reply.RejectText.TheVariants as t
 use Rattle.amqp_resource_record.specs.declared.entry.Entry.{Entry}
 use Rattle.amqp_resource_record.specs.Answers.{Answer, AnswerControl, AnswerDischarge, AnswerLinkEnd, Echoed}
 use Rattle.amqp_resource_record.specs.Entries.{attaches, closes, declares, discharges, is_attached, is_under, message_discharges}
-use Rattle.amqp_resource_record.specs.Hands.{commits, frames_of, hands}
+use Rattle.amqp_resource_record.specs.Hands.{commits, hands}
 use Rattle.amqp_resource_record.specs.Links.{is_open}
-use Rattle.amqp_resource_record.specs.Live.{home, is_held_on, is_link, is_live}
+use Rattle.amqp_resource_record.specs.Live.{is_held_on}
 use Rattle.amqp_resource_record.specs.Work.{handed_by, is_rejected}
 use Rattle.amqp_resource_record.proofs.Whole.{IsLegal-snoc, commits-at, commits-rollback, hands-no_commit}
-use Rattle.amqp_resource_log.specs.Live.{frames_kept, kept}
+use Rattle.amqp_resource_log.specs.Live.{kept}
 use Rattle.amqp_resource_held.specs.declared.held.Held.{Held}
 use Rattle.amqp_resource_held.specs.Changes.{Ended}
-use Rattle.amqp_resource_held.specs.Held.{Stands, Tied, is_in, is_kept_on, kept_by, unless_on}
-use Rattle.amqp_resource_held.specs.Views.{view_of_held, view_of_record}
+use Rattle.amqp_resource_held.specs.Held.{Stands, Tied, is_in, is_kept_on, unless_on}
+use Rattle.amqp_resource_held.specs.Views.{view_of_held}
 use Rattle.amqp_resource_held.proofs.Standing.{LeavesLinks, view-closed, view-ended, view-quiet}
-use Rattle.amqp_resource_held.proofs.Views.{frames-record, held-record, stands-view}
+use Rattle.amqp_resource_held.proofs.Views.{held-record, stands-view}
 use Rattle.txn_program_report.specs.Report.{reply_text, stop_word}
-use Rattle.txn_audit_fits.specs.declared.outs.Outs.{Outs}
 use Rattle.txn_audit_fits.specs.declared.outs.Outs.TheVariants as outs
-use Rattle.txn_audit_fits.specs.Judging.{Follows, Judges, JudgesHere, OutsAre, Tells, entry_of, nothing_after}
+use Rattle.txn_audit_fits.specs.Judging.{Judges, JudgesHere, OutsAre, entry_of, nothing_after}
 
 -- ---- texts
 

@@ -1,4 +1,5 @@
 pub mod Walking
+pub mod Departing
 pub mod Ended
 pub mod Going
 pub mod Judged

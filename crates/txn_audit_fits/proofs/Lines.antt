@@ -1,5 +1,5 @@
 -- No octets have no lines; lines that show frames, one after another.
-use Rattle.std.proofs.Common.{◌≡◌, ℕ, ◌<◌, ◌==◌, Bool, true, false, cond, ◌&&◌, List, [], ◌∷◌, ◌++◌, length, refl, sym, ◌∙◌, ap, arith, append_assoc}
+use Rattle.std.proofs.Common.{◌≡◌, ℕ, zero, suc, ◌+◌, ◌<◌, ◌≤◌, drop, ◌==◌, Bool, true, false, cond, ◌&&◌, List, [], ◌∷◌, ◌++◌, length, refl, sym, ◌∙◌, ap, arith, append_assoc}
 use Rattle.std.specs.List.{list_all, onto_first, slice_split}
 use Rattle.std.proofs.lemmas.Bool.Decides.{nat_tests}
 use Rattle.std.proofs.lemmas.List.Folds.{list_all-append}
@@ -33,11 +33,6 @@ front-more lines rest after line f e o = record {
   all = list_all-append is_out_line f.passed (line ∷ []) ∙ ap (λ b. b && (is_out_line line && true)) f.all ∙ ap (λ b. b && true) o;
 }
 
--- no line, and one
-pub empty-one : (x : List ℕ) (passed others : List (List ℕ)) → [] ≡ passed ++ others → passed ≡ x ∷ [] → ⊥
-empty-one x [] others e p = cc p
-empty-one x (y ∷ passed) others e p = cc e
-
 -- the first line, and one
 pub first-one : (line x : List ℕ) (lines after passed others : List (List ℕ)) → lines ≡ line ∷ after → lines ≡ passed ++ others → passed ≡ x ∷ [] → line ≡ x
 first-one line x lines after passed others l e p = let f : line ∷ after ≡ x ∷ others = sym l ∙ e ∙ ap (λ t. t ++ others) p in cc f
@@ -54,3 +49,18 @@ some_line (octet ∷ octets) e = by_case (octet == 10)
     by_case : (b : Bool) → (line : List ℕ) × (after : List (List ℕ)) × (without_last_empty (cond b ([] ∷ slice_split (λ x. x == 10) octets) (onto_first octet (slice_split (λ x. x == 10) octets))) ≡ line ∷ after)
     by_case true = ([], without_last_empty (slice_split (λ x. x == 10) octets), without_last_empty-before (λ x. x == 10) [] octets)
     by_case false = first_kept octet (slice_split (λ x. x == 10) octets)
+
+-- one line more is passed
+pub drop-after : (lines after : List (List ℕ)) (line : List ℕ) (n : ℕ) → drop n lines ≡ line ∷ after → drop (n + 1) lines ≡ after
+drop-after [] after line zero e = absurd (cc e)
+drop-after [] after line (suc n) e = absurd (cc e)
+drop-after (x ∷ lines) after line zero e = let f : lines ≡ after = cc e in f
+drop-after (x ∷ lines) after line (suc n) e = let g : suc n + 1 ≡ suc (n + 1) = omega arith in ap (λ k. drop k (x ∷ lines)) g ∙ drop-after lines after line n e
+
+-- where none are left, none are left after more
+pub drop-past : (lines : List (List ℕ)) (n m : ℕ) → drop n lines ≡ [] → n ≤ m → drop m lines ≡ []
+drop-past [] n zero e l = refl
+drop-past [] n (suc m) e l = refl
+drop-past (x ∷ lines) zero m e l = absurd (cc e)
+drop-past (x ∷ lines) (suc n) zero e l = absurd (omega arith)
+drop-past (x ∷ lines) (suc n) (suc m) e l = drop-past lines n m e (omega arith)

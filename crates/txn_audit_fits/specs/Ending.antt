@@ -1,5 +1,5 @@
 -- What the parts of an audit say of the lines that end a report.
-use Rattle.std.specs.Prelude.{ℕ, ◌≡◌, ◌≤◌, ◌++◌, ◌∷◌, ◌↔◌, ◌+◌, Bool, true, false, Option, Some, None, List, [], length, map, take, drop, IsTrue}
+use Rattle.std.specs.Prelude.{ℕ, ◌≡◌, ◌≤◌, ◌++◌, ◌∷◌, ◌↔◌, ◌+◌, Bool, true, false, Option, Some, None, List, length, map, take, IsTrue}
 use Rattle.amqp_txn_types.specs.declared.performatives.Frame.{Frame}
 use Rattle.amqp_resource_record.specs.declared.step.Step.{Step}
 use Rattle.amqp_resource_record.specs.declared.entry.Entry.{Entry}
@@ -47,18 +47,17 @@ abbrev pub AddsHands : Held → List Frame → List Frame → Step → Type 0
 AddsHands held was now step =
     (before : List Entry) → Stands held before → now ≡ was ++ hands before step
 
--- the lines are those of the first of the frames, so many of them, or of no first ones
-abbrev pub CountsTaken : List Frame → List (List ℕ) → Option ℕ → Type 0
-CountsTaken frames lines (Some count) =
-    (count ≤ length frames) × (lines ≡ map taken_text (take count frames))
-CountsTaken frames lines None =
-    (count : ℕ) → count ≤ length frames → lines ≡ map taken_text (take count frames) → ⊥
+-- the line says how many frames of the stopping step were taken, or says no number up to the most
+abbrev pub TellsHanded : ℕ → List ℕ → Option ℕ → Type 0
+TellsHanded most line (Some handed) = (handed ≤ most) × (line ≡ handed_text handed)
+TellsHanded most line None = (handed : ℕ) → handed ≤ most → line ≡ handed_text handed → ⊥
 
--- the line tells how many more than so many of the frames the lines show, from the first frame on
-abbrev pub TellsTaken : List Frame → ℕ → List ℕ → List (List ℕ) → Type 0
-TellsTaken frames count handed lines =
-    (more : ℕ) × (count + more ≤ length frames) × (handed ≡ handed_text more)
-    × (lines ≡ map taken_text (take (count + more) frames))
+-- the lines tell how many more than so many of the frames were taken, and show them from the first
+-- frame on
+abbrev pub TellsTaken : List Frame → ℕ → List (List ℕ) → Type 0
+TellsTaken frames count lines =
+    (more : ℕ) × (count + more ≤ length frames)
+    × (lines ≡ handed_text more ∷ map taken_text (take (count + more) frames))
 
 -- by the record that is stood for, the commit is that of the message, of an id that the link holds
 abbrev pub CommitOf : Held → ℕ → List ℕ → Option TransactionId → Type 0

@@ -19,7 +19,6 @@ use Rattle.amqp_resource_record.specs.Hands.{hands}
 use Rattle.amqp_resource_record.specs.Legal.{IsLegal}
 use Rattle.amqp_resource_record.specs.Live.{is_live}
 use Rattle.amqp_resource_record.specs.Work.{work}
-use Rattle.txn_program_lines.specs.Cutting.{lines_of}
 use Rattle.txn_program_report.specs.Report.{frame_text, reply_frames, reply_text, stop_word}
 use Rattle.txn_audit_report.specs.OutLines.{is_out_line}
 use Rattle.txn_audit_report.specs.Stopping.{is_refusal}

@@ -1,5 +1,5 @@
 -- What the parts of an audit say of one line, or of some.
-use Rattle.std.specs.Prelude.{ℕ, ◌≡◌, ◌==◌, ◌+◌, ◌++◌, ◌∷◌, Bool, true, false, cond, Option, Some, None, List, [], map, if◌then◌else◌}
+use Rattle.std.specs.Prelude.{ℕ, ◌≡◌, ◌==◌, ◌+◌, ◌++◌, ◌∷◌, true, false, cond, Option, Some, None, List, [], map, if◌then◌else◌}
 use Rattle.std.specs.Str.{bytes_eq}
 use Rattle.amqp_txn_types.specs.declared.id.TransactionId.{TransactionId}
 use Rattle.amqp_txn_types.specs.declared.performatives.Frame.{Frame}

@@ -3,10 +3,12 @@
 ghost use Rattle.std.specs.Prelude.{◌≡◌, ◌↔◌, ◌<◌, ◌&&◌, true, false, nat_lt, length, IfOk, IsTrue};
 ghost use Rattle.txn_program_lines.specs.Cutting.{lines_of};
 ghost use Rattle.txn_audit_fits.specs.Fits.{Fits};
-ghost use Rattle.txn_audit_fits.specs.Walking.{JudgesStep, goes_on};
+ghost use Rattle.txn_audit_fits.specs.Departing.{Differs};
+ghost use Rattle.txn_audit_fits.specs.Walking.{JudgesAll, JudgesStep, goes_on};
 
-use crate::difference::Difference;
+use crate::difference::{Difference, Wanted};
 use crate::endings::judge_end;
+use crate::judged_lines::{Judged, count_lines};
 use crate::outs::lines_after;
 use crate::replies::judge_reply;
 use amqp_below_ids::IdSource;
@@ -41,46 +43,50 @@ pub fn audit<G: IdSource>(
         (lines_of lines.now)) }
     ensures start { G.start ids.new ≡ G.start ids.old }
 {
-    let mut told = Difference::new();
-    audit_telling(alloc, steps, ids, lines, &mut told)
+    Ok(first_difference(alloc, steps, ids, lines)?.is_none())
 }
 
-/// As [`audit`], and where they aren't, tells the first line that isn't explained and what was wanted
-/// in its place.
+/// Where the lines stop being explained by a legal run, as by [`audit`]; `None` where they are the
+/// report of one. The lines before are the first of those of a legal run, and with the line that
+/// stands there they aren't; where none stands there, one is missing.
 ///
 /// # Errors
 ///
 /// - `NoMemory` where memory runs out.
 ///
-/// What is told of lines that fit isn't promised.
-pub fn audit_telling<G: IdSource>(
+/// What is wanted there isn't promised.
+pub fn first_difference<G: IdSource>(
     alloc: Global,
     steps: &Steps,
     ids: &mut G,
     lines: &[u8],
-    told: &mut Difference,
-) -> Result<bool, NoMemory>
-    ensures fits { IfOk result (λ fits. IsTrue fits ↔ Fits steps.now (G.next ids.old)
-        (lines_of lines.now)) }
+) -> Result<Option<Difference>, NoMemory>
+    ensures differs { IfOk result (Differs steps.now (G.next ids.old) (lines_of lines.now)) }
     ensures start { G.start ids.new ≡ G.start ids.old }
 {
-    audit_counting::<G, Brand>(alloc, steps, ids, lines, Blank::new(1), told)
+    let mut wanted = Wanted::Words("a report");
+    match judge_lines::<G, Brand>(alloc, steps, ids, lines, Blank::new(1), &mut wanted)? {
+        Judged::Explained(_) => Ok(None),
+        Judged::Departs(rest) => Ok(Some(Difference {
+            before: count_lines(lines) - count_lines(rest),
+            wanted,
+        })),
+    }
 }
 
-/// The audit, with looks counted in a blank ledger.
-fn audit_counting<G: IdSource, L: Ledger>(
+/// Judges all the lines, with looks counted in a blank ledger.
+fn judge_lines<'a, G: IdSource, L: Ledger>(
     alloc: Global,
     steps: &Steps,
     ids: &mut G,
-    lines: &[u8],
+    lines: &'a [u8],
     blank: Blank,
-    told: &mut Difference,
-) -> Result<bool, NoMemory>
+    told: &mut Wanted,
+) -> Result<Judged<'a>, NoMemory>
     requires name { blank.name ≡ L.name }
     requires parts { blank.parts ≡ L.parts }
     requires some { 0 < blank.parts }
-    ensures fits { IfOk result (λ fits. IsTrue fits ↔ Fits steps.now (G.next ids.old)
-        (lines_of lines.now)) }
+    ensures judged { IfOk result (JudgesAll steps.now (G.next ids.old) (lines_of lines.now)) }
     ensures start { G.start ids.new ≡ G.start ids.old }
 {
     let mut looks = Looks::<L>::new(blank);
@@ -93,13 +99,12 @@ fn audit_counting<G: IdSource, L: Ledger>(
         let Some(step) = steps.get(answered) else {
             unreachable!()
         };
-        let judged = judge_step(
+        match judge_step(
             &mut held, &mut work, alloc, step, ids, rest, &mut looks, told,
-        )?;
-        let Some(others) = judged else {
-            return Ok(false);
-        };
-        rest = others;
+        )? {
+            Judged::Explained(others) => rest = others,
+            Judged::Departs(others) => return Ok(Judged::Departs(others)),
+        }
         answered += 1;
     }
     judge_end(
@@ -125,7 +130,7 @@ fn goes_on(lines: &[u8]) -> bool
     !is_stop_line(line)
 }
 
-/// The lines after those of the step; `None` where they are no lines of it.
+/// Judges the lines of the step.
 fn judge_step<'a, G: IdSource, L: Ledger>(
     held: &mut Held,
     work: &mut Frames,
@@ -134,17 +139,16 @@ fn judge_step<'a, G: IdSource, L: Ledger>(
     ids: &mut G,
     lines: &'a [u8],
     looks: &mut Looks<L>,
-    told: &mut Difference,
-) -> Result<Option<&'a [u8]>, NoMemory>
+    told: &mut Wanted,
+) -> Result<Judged<'a>, NoMemory>
     requires { goes_on (lines_of lines.now) ≡ true }
     ensures judged { IfOk result (JudgesStep held.old held.new work.old work.new (G.next ids.old)
         (G.next ids.new) step.now (lines_of lines.now)) }
     ensures start { G.start ids.new ≡ G.start ids.old }
 {
-    told.left = lines.len();
     let (line, after) = first_line(lines);
     let Some(outs) = judge_reply(held, work, alloc, step, ids, line, looks, told)? else {
-        return Ok(None);
+        return Ok(Judged::Departs(lines));
     };
     lines_after(alloc, &outs, after, told)
 }

@@ -1,5 +1,10 @@
 //! The first line of a report that isn't explained, and what was wanted in its place.
 
+ghost use Rattle.std.specs.Prelude.{◌≡◌, ◌++◌, ◌∷◌, [], OnOk, IfOk, string_bytes, map};
+ghost use Rattle.txn_program_lines.specs.Cutting.{lines_of};
+ghost use Rattle.txn_audit_fits.specs.Telling.{difference_text, found_text, shown, wanted_text};
+
+use crate::judged_lines::{front_of, lines_from};
 use amqp_txn_types::NoMemory;
 use std::alloc::Global;
 use txn_program_lines::first_line;
@@ -8,10 +13,9 @@ use txn_program_report::{put, put_number};
 /// Where the lines of a report stop being explained.
 #[derive(Drop)]
 pub struct Difference {
-    /// How many octets are left from the first line that isn't explained; 0 where a line is missing
-    /// at the end.
-    pub left: usize,
-    /// What was wanted there.
+    /// How many lines stand before the first that isn't explained, or before a missing one.
+    pub before: usize,
+    /// What was wanted after them.
     pub wanted: Wanted,
 }
 
@@ -25,14 +29,6 @@ pub enum Wanted {
 }
 
 impl Difference {
-    /// Of no line so far.
-    pub fn new() -> Difference {
-        Difference {
-            left: 0,
-            wanted: Wanted::Words("a report"),
-        }
-    }
-
     /// The difference in one line, without a line feed: the number of the line in this report,
     /// counted from 1, what was wanted, and the first 64 octets of what stands there, of which those
     /// outside printable ASCII are shown as `?`.
@@ -40,48 +36,63 @@ impl Difference {
     /// # Errors
     ///
     /// - `NoMemory` where memory runs out.
-    pub fn line_in(&self, alloc: Global, report: &[u8]) -> Result<String, NoMemory> {
-        let before = report.len().saturating_sub(self.left);
+    pub fn line_in(&self, alloc: Global, report: &[u8]) -> Result<String, NoMemory>
+        ensures { IfOk result (λ text. string_bytes text
+            ≡ difference_text self.now (lines_of report.now)) }
+    {
+        // No report has so many lines that the next has no number.
+        let Some(number) = (self.before as u64).checked_add(1) else {
+            return Err(NoMemory);
+        };
         let mut text = String::new(alloc);
         put(&mut text, "line ")?;
-        put_number(&mut text, number_of_line(&report[..before]))?;
+        put_number(&mut text, number)?;
         put(&mut text, " of the report: wanted ")?;
-        match &self.wanted {
-            Wanted::Words(words) => put(&mut text, words)?,
-            Wanted::Text(line) => put(&mut text, line.as_str())?,
-        }
+        put_wanted(&mut text, &self.wanted)?;
         put(&mut text, ", found ")?;
-        put_found(&mut text, &report[before..])?;
+        put_found(&mut text, lines_from(report, self.before))?;
         Ok(text)
     }
 }
 
-/// The number of the line that follows these octets.
-fn number_of_line(octets: &[u8]) -> u64 {
-    let mut number = 1u64;
-    for octet in octets {
-        if *octet == b'\n' {
-            number = number.saturating_add(1);
-        }
+/// Appends what was wanted.
+fn put_wanted(text: &mut String, wanted: &Wanted) -> Result<(), NoMemory>
+    ensures { OnOk result (string_bytes text.new
+        ≡ string_bytes text.old ++ wanted_text wanted.now) }
+{
+    match wanted {
+        Wanted::Words(words) => put(text, words),
+        Wanted::Text(line) => put(text, line.as_str()),
     }
-    number
 }
 
 /// Appends what stands there.
-fn put_found(text: &mut String, lines: &[u8]) -> Result<(), NoMemory> {
+fn put_found(text: &mut String, lines: &[u8]) -> Result<(), NoMemory>
+    ensures { OnOk result (string_bytes text.new
+        ≡ string_bytes text.old ++ found_text (lines_of lines.now)) }
+{
     if lines.is_empty() {
         return put(text, "no further line");
     }
     let (line, _others) = first_line(lines);
-    for octet in &line[..line.len().min(64)] {
+    put_shown(text, front_of(line, 64))
+}
+
+/// Appends octets, each as it is shown.
+fn put_shown(text: &mut String, octets: &[u8]) -> Result<(), NoMemory>
+    ensures { OnOk result (string_bytes text.new ≡ string_bytes text.old ++ map shown octets.now) }
+{
+    for octet in octets {
         put_octet(text, *octet)?;
     }
     Ok(())
 }
 
 /// Appends a printable octet of ASCII, or `?`.
-fn put_octet(text: &mut String, octet: u8) -> Result<(), NoMemory> {
-    let shown = if octet.is_ascii_graphic() || octet == b' ' {
+fn put_octet(text: &mut String, octet: u8) -> Result<(), NoMemory>
+    ensures { OnOk result (string_bytes text.new ≡ string_bytes text.old ++ shown octet ∷ []) }
+{
+    let shown = if octet >= b' ' && octet <= b'~' {
         octet
     } else {
         b'?'

@@ -9,7 +9,7 @@ ghost use Rattle.amqp_resource_log.specs.Live.{kept};
 ghost use Rattle.amqp_resource_held.specs.Held.{is_in, is_kept_on};
 ghost use Rattle.txn_audit_fits.specs.Judging.{JudgesHere, JudgesWork, Takes, outs_of_count};
 
-use crate::difference::{Difference, Wanted};
+use crate::difference::Wanted;
 use crate::links::nothing_after;
 use crate::outs::Outs;
 use amqp_resource_held::{Held, drop_work, is_declared_on, take_work};
@@ -30,7 +30,7 @@ pub fn judge_discharge<L: Ledger>(
     discharge: Discharge,
     line: &[u8],
     looks: &mut Looks<L>,
-    told: &mut Difference,
+    told: &mut Wanted,
 ) -> Result<Option<Outs>, NoMemory>
     requires message { message_of payload.now ≡ Some (messages.Discharge discharge) }
     requires opened { is_in held.old.links.entries link ≡ true }
@@ -55,7 +55,7 @@ fn judge_unknown(
     payload: &Payload,
     discharge: Discharge,
     line: &[u8],
-    told: &mut Difference,
+    told: &mut Wanted,
 ) -> Option<Outs>
     requires message { message_of payload.now ≡ Some (messages.Discharge discharge) }
     requires opened { is_in held.now.links.entries link ≡ true }
@@ -73,7 +73,7 @@ fn judge_rollback<L: Ledger>(
     discharge: Discharge,
     line: &[u8],
     looks: &mut Looks<L>,
-    told: &mut Difference,
+    told: &mut Wanted,
 ) -> Option<Outs>
     requires message { message_of payload.now ≡ Some (messages.Discharge discharge) }
     requires opened { is_in held.old.links.entries link ≡ true }
@@ -96,7 +96,7 @@ fn judge_commit<L: Ledger>(
     discharge: Discharge,
     line: &[u8],
     looks: &mut Looks<L>,
-    told: &mut Difference,
+    told: &mut Wanted,
 ) -> Result<Option<Outs>, NoMemory>
     requires message { message_of payload.now ≡ Some (messages.Discharge discharge) }
     requires opened { is_in held.old.links.entries link ≡ true }
@@ -111,7 +111,7 @@ fn judge_commit<L: Ledger>(
         return Ok(Some(outs_of_count(count)));
     }
     if count == 0 {
-        told.wanted = Wanted::Words("accepted");
+        *told = Wanted::Words("accepted");
         return Ok(None);
     }
     let outs = nothing_after(line, "rejected rollback", told);

@@ -14,13 +14,15 @@ ghost use Rattle.amqp_resource_log.specs.Live.{frames_kept, kept};
 ghost use Rattle.amqp_resource_held.specs.Held.{is_in};
 ghost use Rattle.txn_program_lines.specs.Cutting.{lines_of};
 ghost use Rattle.txn_audit_fits.specs.Fits.{local_end, remote_end, stop_text};
-ghost use Rattle.txn_audit_fits.specs.Ending.{AddsHands, CommitOf, CountsTaken, Ends, StopJudged, TellsHands, TellsStop, TellsTaken};
+ghost use Rattle.txn_audit_fits.specs.Ending.{AddsHands, CommitOf, StopJudged, TellsHanded, TellsHands, TellsStop};
+ghost use Rattle.txn_audit_fits.specs.Explaining.{JudgesCounts, JudgesEnd, JudgesTaken};
 ghost use Rattle.txn_audit_fits.specs.Walking.{StandsWith};
 
-use crate::difference::{Difference, Wanted};
+use crate::difference::Wanted;
 use crate::discharges::hand_work;
 use crate::frames::{is_control_attach, presumed_under};
-use crate::texts::{is_frame_line, is_number_line};
+use crate::judged_lines::{Judged, front_of};
+use crate::texts::{is_number_line, lines_after_frame};
 use amqp_resource_held::{Held, has_link, is_declared_on};
 use amqp_resource_log::Looks;
 use amqp_resource_record::{Step, Steps};
@@ -31,38 +33,53 @@ use std::sync::ledger::Ledger;
 use txn_audit_report::refusal_of_stop;
 use txn_program_lines::{first_line, is_text};
 
-/// Whether the lines end a report of a run that answered so many of the steps.
-pub fn judge_end<L: Ledger>(
+/// Judges the lines that end a report of a run that answered so many of the steps.
+pub fn judge_end<'a, L: Ledger>(
     held: &mut Held,
     work: &mut Frames,
     alloc: Global,
     steps: &Steps,
     answered: usize,
-    lines: &[u8],
+    lines: &'a [u8],
     looks: &mut Looks<L>,
-    told: &mut Difference,
-) -> Result<bool, NoMemory>
+    told: &mut Wanted,
+) -> Result<Judged<'a>, NoMemory>
     ensures { (before : List Entry) → StandsWith held.old work.old before →
-        IfOk result (λ ends. IsTrue ends ↔ Ends before (drop answered steps.now)
-        (lines_of lines.now)) }
+        IfOk result (JudgesEnd before (drop answered steps.now) (lines_of lines.now)) }
 {
-    told.left = lines.len();
     if lines.is_empty() {
-        told.wanted = Wanted::Words("a stop");
-        return Ok(false);
+        *told = Wanted::Words("a stop");
+        return Ok(Judged::Departs(lines));
     }
-    let (stop, lines) = first_line(lines);
+    let (stop, others) = first_line(lines);
     let count = work.len();
     if !judge_stop(held, work, alloc, steps, answered, stop, looks, told)? {
-        return Ok(false);
+        return Ok(Judged::Departs(lines));
     }
-    told.left = lines.len();
+    judge_counts(alloc, work.as_slice(), count, others, told)
+}
+
+/// Judges the lines after that of the stop: how many frames of the stopping step were taken, at most
+/// those after so many of the frames, and the frames that were taken.
+fn judge_counts<'a>(
+    alloc: Global,
+    frames: &[Frame],
+    count: usize,
+    lines: &'a [u8],
+    told: &mut Wanted,
+) -> Result<Judged<'a>, NoMemory>
+    ensures { IfOk result (JudgesCounts frames.now count (lines_of lines.now)) }
+{
     if lines.is_empty() {
-        told.wanted = Wanted::Words("handed N");
-        return Ok(false);
+        *told = Wanted::Words("handed N");
+        return Ok(Judged::Departs(lines));
     }
     let (handed, taken) = first_line(lines);
-    judge_taken(alloc, work.as_slice(), count, handed, taken, told)
+    let most = frames.len().saturating_sub(count);
+    let Some(more) = handed_of(alloc, most, handed, told)? else {
+        return Ok(Judged::Departs(lines));
+    };
+    judge_taken(alloc, front_of(frames, count + more), taken, told)
 }
 
 /// Whether the line is that of a stop of a run that answered so many of the steps. If so, what may
@@ -75,7 +92,7 @@ fn judge_stop<L: Ledger>(
     answered: usize,
     line: &[u8],
     looks: &mut Looks<L>,
-    told: &mut Difference,
+    told: &mut Wanted,
 ) -> Result<bool, NoMemory>
     ensures { (before : List Entry) → StandsWith held.old work.old before →
         IfOk result (StopJudged before (drop answered steps.now) line.now work.new) }
@@ -87,10 +104,10 @@ fn judge_stop<L: Ledger>(
 }
 
 /// Whether the line is that of a stop after every step.
-fn shows_done(line: &[u8], told: &mut Difference) -> bool
+fn shows_done(line: &[u8], told: &mut Wanted) -> bool
     ensures { result ≡ bytes_eq line.now (codes "stop done") }
 {
-    told.wanted = Wanted::Words("stop done");
+    *told = Wanted::Words("stop done");
     is_text(line, "stop done")
 }
 
@@ -102,13 +119,13 @@ fn judge_stop_at<L: Ledger>(
     step: &Step,
     line: &[u8],
     looks: &mut Looks<L>,
-    told: &mut Difference,
+    told: &mut Wanted,
 ) -> Result<bool, NoMemory>
     ensures { (before : List Entry) → StandsWith held.old work.old before → (left : List Step) →
         IfOk result (StopJudged before (step.now ∷ left) line.now work.new) }
 {
     if !shows_stop(held, step, line) {
-        told.wanted = Wanted::Words("a line of a reply to the step, or of a stop that it allows");
+        *told = Wanted::Words("a line of a reply to the step, or of a stop that it allows");
         return Ok(false);
     }
     let refused = refusal_of_stop(line).is_some();
@@ -119,62 +136,48 @@ fn judge_stop_at<L: Ledger>(
     Ok(true)
 }
 
-/// Whether the lines show the first of the frames, that many and some of those after them, and the
-/// line how many these are.
-fn judge_taken(
+/// How many frames of the stopping step the line says were taken; `None` where it is the line of no
+/// number up to the most.
+fn handed_of(
     alloc: Global,
-    frames: &[Frame],
-    count: usize,
-    handed: &[u8],
-    taken: &[u8],
-    told: &mut Difference,
-) -> Result<bool, NoMemory>
-    ensures { IfOk result (λ tells. IsTrue tells ↔ TellsTaken frames.now count handed.now
-        (lines_of taken.now)) }
+    most: usize,
+    line: &[u8],
+    told: &mut Wanted,
+) -> Result<Option<usize>, NoMemory>
+    ensures { IfOk result (TellsHanded most line.now) }
 {
-    let stood = told.left;
-    let Some(all) = count_taken(alloc, frames, taken, told)? else {
-        return Ok(false);
-    };
-    if all < count {
-        told.left = 0;
-        told.wanted = Wanted::Words("taken FRAME");
-        return Ok(false);
+    for handed in 0..=most {
+        if is_number_line(alloc, "handed ", handed as u64, line, told)? {
+            return Ok(Some(handed));
+        }
     }
-    told.left = stood;
-    is_number_line(alloc, "handed ", (all - count) as u64, handed, told)
+    if most > 0 {
+        *told = Wanted::Words("handed N, N at most what the step hands");
+    }
+    Ok(None)
 }
 
-/// How many of the frames the lines show, from the first on; `None` where a line shows another, or
-/// they are more.
-fn count_taken(
+/// Judges the lines of frames that were taken: of these, one after another.
+fn judge_taken<'a>(
     alloc: Global,
     frames: &[Frame],
-    lines: &[u8],
-    told: &mut Difference,
-) -> Result<Option<usize>, NoMemory>
-    ensures { IfOk result (CountsTaken frames.now (lines_of lines.now)) }
+    lines: &'a [u8],
+    told: &mut Wanted,
+) -> Result<Judged<'a>, NoMemory>
+    ensures { IfOk result (JudgesTaken frames.now (lines_of lines.now)) }
 {
     let mut rest = lines;
-    let mut count = 0;
     for frame in frames {
-        if rest.is_empty() {
-            return Ok(Some(count));
-        }
-        let (line, after) = first_line(rest);
-        told.left = rest.len();
-        if !is_frame_line(alloc, "taken ", frame, line, told)? {
-            return Ok(None);
-        }
+        let Some(after) = lines_after_frame(alloc, "taken ", frame, rest, told)? else {
+            return Ok(Judged::Departs(rest));
+        };
         rest = after;
-        count += 1;
     }
     if rest.is_empty() {
-        return Ok(Some(count));
+        return Ok(Judged::Explained(rest));
     }
-    told.left = rest.len();
-    told.wanted = Wanted::Words("no further line");
-    Ok(None)
+    *told = Wanted::Words("no further line");
+    Ok(Judged::Departs(rest))
 }
 
 /// Whether the line is that of a stop at the step.

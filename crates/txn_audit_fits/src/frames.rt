@@ -7,7 +7,7 @@ ghost use Rattle.amqp_txn_types.specs.Works.{frame_of_work};
 ghost use Rattle.amqp_resource_record.specs.declared.step.Step.TheVariants as steps;
 ghost use Rattle.txn_audit_fits.specs.Judging.{JudgesHere, JudgesWork, Opens, OutsTell};
 
-use crate::difference::{Difference, Wanted};
+use crate::difference::Wanted;
 use crate::outs::Outs;
 use crate::texts::is_number_line;
 use amqp_resource_held::{Held, open_link};
@@ -27,7 +27,7 @@ pub fn judge_frame(
     alloc: Global,
     frame: &Frame,
     line: &[u8],
-    told: &mut Difference,
+    told: &mut Wanted,
 ) -> Result<Option<Outs>, NoMemory>
     ensures { IfOk result (JudgesWork held.old held.new work.old work.new (steps.Frame frame.now)
         line.now) }
@@ -59,7 +59,7 @@ fn judge_plain(
     work: &mut Frames,
     frame: &Frame,
     line: &[u8],
-    told: &mut Difference,
+    told: &mut Wanted,
 ) -> Result<Option<Outs>, NoMemory>
     requires under { txn frame.now ≡ None }
     requires attach { is_coordinator_attach frame.now ≡ false }
@@ -67,7 +67,7 @@ fn judge_plain(
         line.now) }
 {
     if !is_text(line, "ok") {
-        told.wanted = Wanted::Words("ok");
+        *told = Wanted::Words("ok");
         return Ok(None);
     }
     work.append(frame.try_clone()?)?;
@@ -80,7 +80,7 @@ fn judge_attach(
     alloc: Global,
     frame: &Frame,
     line: &[u8],
-    told: &mut Difference,
+    told: &mut Wanted,
 ) -> Result<Option<Outs>, NoMemory>
     requires under { txn frame.now ≡ None }
     requires attach { is_coordinator_attach frame.now ≡ true }
@@ -117,20 +117,20 @@ fn judge_work(
     frame: &Frame,
     id: TransactionId,
     line: &[u8],
-    told: &mut Difference,
+    told: &mut Wanted,
 ) -> Result<Option<Outs>, NoMemory>
     requires { txn frame.now ≡ Some id }
     ensures { IfOk result (JudgesHere held.old held.new (steps.Frame frame.now) line.now) }
 {
     if !is_text(line, "ok") {
-        told.wanted = Wanted::Words("ok");
+        *told = Wanted::Words("ok");
         return Ok(None);
     }
     let copy = copy_work(frame)?;
     if held.work.keep(&id, copy)? {
         Ok(Some(outs_under(frame, id)))
     } else {
-        told.wanted = Wanted::Words("stop unknown-txn-id");
+        *told = Wanted::Words("stop unknown-txn-id");
         Ok(None)
     }
 }

@@ -20,11 +20,12 @@ mod difference;
 mod discharges;
 mod endings;
 mod frames;
+mod judged_lines;
 mod links;
 mod outs;
 mod replies;
 mod texts;
 
-pub use audits::{audit, audit_telling};
+pub use audits::{audit, first_difference};
 pub use difference::{Difference, Wanted};
 pub use outs::Outs;

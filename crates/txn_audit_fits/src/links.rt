@@ -9,7 +9,7 @@ ghost use Rattle.amqp_resource_held.specs.Held.{is_in};
 ghost use Rattle.txn_audit_fits.specs.declared.outs.Outs.TheVariants as outs;
 ghost use Rattle.txn_audit_fits.specs.Judging.{Judges, JudgesHere, nothing_after};
 
-use crate::difference::{Difference, Wanted};
+use crate::difference::Wanted;
 use crate::outs::Outs;
 use crate::texts::is_declared_line;
 use amqp_below_ids::{Drawn, IdSource};
@@ -21,13 +21,13 @@ use std::sync::ledger::Ledger;
 use txn_program_lines::is_text;
 
 /// No lines, where the line is this one.
-pub fn nothing_after(line: &[u8], wanted: &'static str, told: &mut Difference) -> Option<Outs>
+pub fn nothing_after(line: &[u8], wanted: &'static str, told: &mut Wanted) -> Option<Outs>
     ensures { result ≡ nothing_after line.now wanted.now }
 {
     if is_text(line, wanted) {
         Some(Outs::Nothing)
     } else {
-        told.wanted = Wanted::Words(wanted);
+        *told = Wanted::Words(wanted);
         None
     }
 }
@@ -45,7 +45,7 @@ pub fn judge_link_end<L: Ledger>(
     link: u64,
     line: &[u8],
     looks: &mut Looks<L>,
-    told: &mut Difference,
+    told: &mut Wanted,
 ) -> Option<Outs>
     ensures { JudgesHere held.old held.new (steps.LinkEnd link) line.now result }
 {
@@ -63,7 +63,7 @@ pub fn judge_no_link(
     link: u64,
     payload: &Payload,
     line: &[u8],
-    told: &mut Difference,
+    told: &mut Wanted,
 ) -> Option<Outs>
     requires { is_in held.now.links.entries link ≡ false }
     ensures { JudgesHere held.now held.now (steps.Control link payload.now) line.now result }
@@ -78,7 +78,7 @@ pub fn judge_close<L: Ledger>(
     payload: &Payload,
     line: &[u8],
     looks: &mut Looks<L>,
-    told: &mut Difference,
+    told: &mut Wanted,
 ) -> Option<Outs>
     requires message { message_of payload.now ≡ None }
     requires opened { is_in held.old.links.entries link ≡ true }
@@ -96,7 +96,7 @@ pub fn judge_global(
     payload: &Payload,
     global: TransactionId,
     line: &[u8],
-    told: &mut Difference,
+    told: &mut Wanted,
 ) -> Option<Outs>
     requires message { message_of payload.now ≡ Some (messages.Declare
         (record { global_id = Some global })) }
@@ -115,7 +115,7 @@ pub fn judge_declare<G: IdSource>(
     payload: &Payload,
     ids: &mut G,
     line: &[u8],
-    told: &mut Difference,
+    told: &mut Wanted,
 ) -> Result<Option<Outs>, NoMemory>
     requires message { message_of payload.now ≡ Some (messages.Declare
         (record { global_id = None })) }

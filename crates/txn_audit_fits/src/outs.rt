@@ -5,8 +5,9 @@ ghost use Rattle.txn_program_lines.specs.Cutting.{lines_of};
 ghost use Rattle.txn_audit_fits.specs.declared.outs.Outs.TheVariants as outs;
 ghost use Rattle.txn_audit_fits.specs.Passing.{Passes};
 
-use crate::difference::{Difference, Wanted};
-use crate::texts::is_frame_line;
+use crate::difference::Wanted;
+use crate::judged_lines::Judged;
+use crate::texts::lines_after_frame;
 use amqp_txn_types::{Frame, NoMemory};
 use std::alloc::Global;
 use txn_audit_report::is_out_line;
@@ -23,36 +24,35 @@ pub enum Outs {
     One(Frame),
 }
 
-/// The lines after those that may stand after a reply; `None` where a line is none of them. The
-/// only error is out of memory.
+/// Judges the lines that may stand after a reply. The only error is out of memory.
 pub fn lines_after<'a>(
     alloc: Global,
     outs: &Outs,
     lines: &'a [u8],
-    told: &mut Difference,
-) -> Result<Option<&'a [u8]>, NoMemory>
+    told: &mut Wanted,
+) -> Result<Judged<'a>, NoMemory>
     ensures { IfOk result (Passes outs.now (lines_of lines.now)) }
 {
     match outs {
         Outs::Any => lines_after_any(lines),
-        Outs::Nothing => Ok(Some(lines)),
+        Outs::Nothing => Ok(Judged::Explained(lines)),
         Outs::One(frame) => lines_after_one(alloc, frame, lines, told),
     }
 }
 
 /// The lines after those that show a frame.
-fn lines_after_any(lines: &[u8]) -> Result<Option<&[u8]>, NoMemory>
+fn lines_after_any(lines: &[u8]) -> Result<Judged<'_>, NoMemory>
     ensures { IfOk result (Passes outs.Any (lines_of lines.now)) }
 {
     let mut rest = lines;
     while !rest.is_empty() {
         let (line, after) = first_line(rest);
         if !is_out_line(line)? {
-            return Ok(Some(rest));
+            return Ok(Judged::Explained(rest));
         }
         rest = after;
     }
-    Ok(Some(rest))
+    Ok(Judged::Explained(rest))
 }
 
 /// The lines after that of this frame.
@@ -60,19 +60,12 @@ fn lines_after_one<'a>(
     alloc: Global,
     frame: &Frame,
     lines: &'a [u8],
-    told: &mut Difference,
-) -> Result<Option<&'a [u8]>, NoMemory>
+    told: &mut Wanted,
+) -> Result<Judged<'a>, NoMemory>
     ensures { IfOk result (Passes (outs.One frame.now) (lines_of lines.now)) }
 {
-    told.left = lines.len();
-    if lines.is_empty() {
-        told.wanted = Wanted::Words("a line of the disposition");
-        return Ok(None);
-    }
-    let (line, after) = first_line(lines);
-    if is_frame_line(alloc, "out ", frame, line, told)? {
-        Ok(Some(after))
-    } else {
-        Ok(None)
+    match lines_after_frame(alloc, "out ", frame, lines, told)? {
+        Some(after) => Ok(Judged::Explained(after)),
+        None => Ok(Judged::Departs(lines)),
     }
 }

@@ -4,7 +4,7 @@ ghost use Rattle.std.specs.Prelude.{◌≡◌, None, IfOk};
 ghost use Rattle.amqp_resource_record.specs.declared.step.Step.TheVariants as steps;
 ghost use Rattle.txn_audit_fits.specs.Judging.{Judges};
 
-use crate::difference::{Difference, Wanted};
+use crate::difference::Wanted;
 use crate::discharges::judge_discharge;
 use crate::frames::judge_frame;
 use crate::links::{judge_close, judge_declare, judge_global, judge_link_end, judge_no_link};
@@ -28,7 +28,7 @@ pub fn judge_reply<G: IdSource, L: Ledger>(
     ids: &mut G,
     line: &[u8],
     looks: &mut Looks<L>,
-    told: &mut Difference,
+    told: &mut Wanted,
 ) -> Result<Option<Outs>, NoMemory>
     ensures judged { IfOk result (Judges held.old held.new work.old work.new (G.next ids.old)
         (G.next ids.new) step.now line.now) }
@@ -48,7 +48,7 @@ fn judge_by_kind<G: IdSource, L: Ledger>(
     ids: &mut G,
     line: &[u8],
     looks: &mut Looks<L>,
-    told: &mut Difference,
+    told: &mut Wanted,
 ) -> Result<Option<Outs>, NoMemory>
     ensures judged { IfOk result (Judges held.old held.new work.old work.new (G.next ids.old)
         (G.next ids.new) step.now line.now) }
@@ -67,10 +67,10 @@ fn judge_by_kind<G: IdSource, L: Ledger>(
 }
 
 /// No reply has the line: the session ends here, and so does the run.
-fn only_a_stop(told: &mut Difference) -> Option<Outs>
+fn only_a_stop(told: &mut Wanted) -> Option<Outs>
     ensures { result ≡ None }
 {
-    told.wanted = Wanted::Words("a stop");
+    *told = Wanted::Words("a stop");
     None
 }
 
@@ -84,7 +84,7 @@ fn judge_control<G: IdSource, L: Ledger>(
     ids: &mut G,
     line: &[u8],
     looks: &mut Looks<L>,
-    told: &mut Difference,
+    told: &mut Wanted,
 ) -> Result<Option<Outs>, NoMemory>
     ensures judged { IfOk result (Judges held.old held.new work.old work.new (G.next ids.old)
         (G.next ids.new) (steps.Control link payload.now) line.now) }

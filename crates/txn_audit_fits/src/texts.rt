@@ -3,28 +3,39 @@
 ghost use Rattle.std.specs.Prelude.{◌≡◌, ◌++◌, codes, decimal, IfOk, string_bytes};
 ghost use Rattle.std.specs.Str.{bytes_eq};
 ghost use Rattle.hex.specs.Hex.{encode_lower};
+ghost use Rattle.txn_program_lines.specs.Cutting.{lines_of};
 ghost use Rattle.txn_program_report.specs.Report.{frame_text};
+ghost use Rattle.txn_audit_fits.specs.Passing.{IsFirst};
 
-use crate::difference::{Difference, Wanted};
+use crate::difference::Wanted;
 use amqp_txn_types::{Frame, NoMemory, TransactionId};
 use std::alloc::Global;
-use txn_program_lines::is_text;
+use txn_program_lines::{first_line, is_text};
 use txn_program_report::{put, put_frame, put_number, put_txn_id};
 
-/// Whether the line is this word and the text of the frame.
-pub fn is_frame_line(
+/// The lines after the first, where that is this word and the text of the frame; else `None`.
+pub fn lines_after_frame<'a>(
     alloc: Global,
     word: &str,
     frame: &Frame,
-    line: &[u8],
-    told: &mut Difference,
-) -> Result<bool, NoMemory>
-    ensures { IfOk result (λ same. same ≡ bytes_eq line.now (word.now ++ frame_text frame.now)) }
+    lines: &'a [u8],
+    told: &mut Wanted,
+) -> Result<Option<&'a [u8]>, NoMemory>
+    ensures { IfOk result (IsFirst (word.now ++ frame_text frame.now) (lines_of lines.now)) }
 {
     let mut wanted = String::new(alloc);
     put(&mut wanted, word)?;
     put_frame(alloc, &mut wanted, frame)?;
-    Ok(is_wanted(line, wanted, told))
+    if lines.is_empty() {
+        *told = Wanted::Text(wanted);
+        return Ok(None);
+    }
+    let (line, after) = first_line(lines);
+    if is_wanted(line, wanted, told) {
+        Ok(Some(after))
+    } else {
+        Ok(None)
+    }
 }
 
 /// Whether the line is this word and the number.
@@ -33,7 +44,7 @@ pub fn is_number_line(
     word: &str,
     number: u64,
     line: &[u8],
-    told: &mut Difference,
+    told: &mut Wanted,
 ) -> Result<bool, NoMemory>
     ensures { IfOk result (λ same. same ≡ bytes_eq line.now (word.now ++ decimal number)) }
 {
@@ -48,7 +59,7 @@ pub fn is_declared_line(
     alloc: Global,
     id: TransactionId,
     line: &[u8],
-    told: &mut Difference,
+    told: &mut Wanted,
 ) -> Result<bool, NoMemory>
     ensures { IfOk result (λ same. same ≡ bytes_eq line.now (codes "declared " ++ encode_lower id)) }
 {
@@ -59,12 +70,12 @@ pub fn is_declared_line(
 }
 
 /// Whether the line is the wanted one, which is told where it isn't.
-fn is_wanted(line: &[u8], wanted: String, told: &mut Difference) -> bool
+fn is_wanted(line: &[u8], wanted: String, told: &mut Wanted) -> bool
     ensures { result ≡ bytes_eq line.now (string_bytes wanted) }
 {
     if is_text(line, wanted.as_str()) {
         return true;
     }
-    told.wanted = Wanted::Text(wanted);
+    *told = Wanted::Text(wanted);
     false
 }

@@ -3,7 +3,7 @@
 //! | item | is |
 //! |---|---|
 //! | [`is_out_line`] | whether a line is `out FRAME` |
-//! | [`is_stop_line`] | whether it is a line `stop WORD` |
+//! | [`is_stop_line`] | whether the first word of a line is `stop` |
 //! | [`refusal_of_attach`] | the code of a line `attach-refused WORD` |
 //! | [`refusal_of_stop`] | the code of a line `stop WORD` of a refusal below |
 //!

@@ -16,15 +16,15 @@ returns-in-Ok-Some g c =
 pub returns-in-Ok-None : goal.returns-in-Ok-None
 returns-in-Ok-None g c =
     let e = rw c.in-Ok-None.field-0-is at c.in-Ok-None.ensures.ids in
-    rw (sym e, c.end.ensures) (record {
+    rw (sym e, c.end.ensures.status, c.end.ensures.told) (record {
       reading = readings.Fault;
       wanted = 2;
       text = codes "usage\n";
       read = refl;
-      answers = inr (refl, refl);
+      answers = inr (refl, refl, refl);
       status = c.end_unserved.ensures.status;
       wrote = c.end_unserved.ensures.written;
     })
 
 pub returns-in-Err : goal.returns-in-Err
-returns-in-Err g c = rw c.end-in-Err.ensures (audits-nothing (audit_words c.args.words.now) _ _)
+returns-in-Err g c = rw (c.end-in-Err.ensures.status, c.end-in-Err.ensures.told) (audits-nothing (audit_words c.args.words.now) _ _)

@@ -1,5 +1,4 @@
-use Rattle.std.proofs.Common.{Option, List, ℕ}
-use Rattle.std.specs.Borrow.{Bor}
+use Rattle.std.proofs.Common.{refl}
 use Rattle.txn_program_lines.specs.Cutting.{lines_of}
 use Rattle.txn_audit_fits.specs.Passing.{Passes}
 use Rattle.txn_audit_fits.specs.Walking.{JudgesStep}
@@ -14,7 +13,7 @@ first_line-requires g c = some_octets c.args.lines.now c.requires
 pub returns-in_default-clause-judged : goal.returns-in_default-clause-judged
 returns-in_default-clause-judged g c =
     step-none c.args.held.now c.judge_reply.new.held c.args.work.now c.judge_reply.new.work (g.G.IdSource.next c.args.ids.now) (g.G.IdSource.next c.judge_reply.new.ids) c.args.step.now (lines_of c.args.lines.now) (lines_of c.first_line.result.1.now) c.first_line.result.0.now
-    c.first_line.ensures.lines c.requires (rw c.in_default.is at c.in_ok-outs.ensures.judged)
+    c.first_line.ensures.lines c.requires c.args.lines refl (rw c.in_default.is at c.in_ok-outs.ensures.judged)
 
 pub returns-clause-judged : goal.returns-clause-judged
 returns-clause-judged g c =

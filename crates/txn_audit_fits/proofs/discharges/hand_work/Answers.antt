@@ -1,8 +1,5 @@
-use Rattle.std.proofs.Common.{List, ◌++◌, sym, ◌∙◌, ap}
-use Rattle.amqp_txn_types.specs.declared.performatives.Frame.{Frame}
 use Rattle.amqp_resource_log.specs.Live.{kept}
-use Rattle.txn_audit_fits.specs.Judging.{Takes}
-use Rattle.txn_audit_fits.proofs.Committed.{held_home, on_ok}
+use Rattle.txn_audit_fits.proofs.Committed.{held_home}
 use Rattle.txn_audit_fits.proofs.discharges.hand_work.Goals as goal
 
 pub take_work-more-requires-clause-home : goal.take_work-more-requires-clause-home

@@ -1,4 +1,4 @@
-use Rattle.std.proofs.Common.{Option, Some, length, sym, ◌∙◌, subst, ap, arith}
+use Rattle.std.proofs.Common.{Option, Some, sym, ◌∙◌, subst, arith}
 use Rattle.std.specs.Prelude.{codes}
 use Rattle.amqp_resource_log.specs.Live.{kept}
 use Rattle.amqp_resource_record.specs.declared.step.Step.TheVariants as steps

@@ -1,4 +1,3 @@
-use Rattle.std.proofs.Common.{sym, ◌∙◌}
 use Rattle.txn_audit_fits.proofs.discharges.judge_discharge.Goals as goal
 
 pub returns-then-not-is_declared_on : goal.returns-then-not-is_declared_on

@@ -1,8 +1,8 @@
-use Rattle.std.proofs.Common.{Bool, List, ◌++◌, ◌∷◌, [], sym, ◌∙◌, ap, append-nil, not, None, Some, Option, true, false, ◌≡◌}
+use Rattle.std.proofs.Common.{Bool, List, ◌++◌, ◌∷◌, [], sym, ◌∙◌, ap, not, None, Some, Option, true, false, ◌≡◌}
 use Rattle.std.specs.Prelude.{is_some}
 use Rattle.amqp_txn_types.specs.declared.id.TransactionId.{TransactionId}
 use Rattle.amqp_txn_types.specs.declared.performatives.Frame.{Frame}
-use Rattle.amqp_txn_types.specs.Frames.{is_coordinator_attach, is_plain_by, is_plain_frame, txn}
+use Rattle.amqp_txn_types.specs.Frames.{is_coordinator_attach, is_plain_by, txn}
 use Rattle.amqp_resource_record.proofs.Whole.{hands-other_frame, hands-plain}
 use Rattle.txn_audit_fits.proofs.Judged.{none_handed}
 use Rattle.txn_audit_fits.proofs.endings.add_frame.Goals as goal

@@ -1,7 +1,4 @@
 use Rattle.std.proofs.Common.{refl}
-use Rattle.amqp_resource_record.specs.Hands.{hands}
-use Rattle.amqp_resource_record.specs.declared.step.Step.TheVariants as steps
-use Rattle.txn_audit_fits.specs.Ending.{AddsHands}
 use Rattle.txn_audit_fits.proofs.Judged.{none_handed}
 use Rattle.txn_audit_fits.proofs.endings.add_hands.Goals as goal
 

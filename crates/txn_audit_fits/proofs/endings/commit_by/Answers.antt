@@ -1,4 +1,4 @@
-use Rattle.std.proofs.Common.{refl, sym, ◌∙◌, false, true}
+use Rattle.std.proofs.Common.{sym, ◌∙◌, false, true}
 use Rattle.amqp_resource_record.proofs.Whole.{commits-discharge, commits-rollback, not_held_no_commit}
 use Rattle.txn_audit_fits.proofs.Judged.{held_by, open_by}
 use Rattle.txn_audit_fits.proofs.endings.commit_by.Goals as goal

@@ -1,4 +1,4 @@
-use Rattle.std.proofs.Common.{refl, sym, ◌∙◌, false, true, None}
+use Rattle.std.proofs.Common.{refl, sym, ◌∙◌, false}
 use Rattle.amqp_txn_codec.specs.Reading.{message_of}
 use Rattle.amqp_resource_record.proofs.Whole.{commits-at}
 use Rattle.txn_audit_fits.proofs.Judged.{open_by}

@@ -1,9 +1,7 @@
-use Rattle.std.proofs.Common.{◌≤◌, List, length, map, sym, ◌∙◌, ap, arith, subst, Option, Some, None}
+use Rattle.std.proofs.Common.{length, ◌∙◌, ap, arith}
 use Rattle.std.proofs.lemmas.List.{length-map}
 use Rattle.amqp_txn_types.specs.Frames.{stripped}
-use Rattle.amqp_txn_types.specs.declared.id.TransactionId.{TransactionId}
 use Rattle.amqp_resource_log.specs.Live.{frames_kept, kept}
-use Rattle.txn_audit_fits.specs.Ending.{CommitOf}
 use Rattle.txn_audit_fits.proofs.Ended.{hands-none, hands-some}
 use Rattle.txn_audit_fits.proofs.endings.hands_some.Goals as goal
 

@@ -1,4 +1,4 @@
-use Rattle.std.proofs.Common.{[], Bool, List, Option, Some, None, sym, ◌∙◌, ◌+◌, ◌∷◌, ap, subst, drop, slice_get, IfOk}
+use Rattle.std.proofs.Common.{[], Bool, List, sym, ◌+◌, subst, drop, IfOk}
 use Rattle.amqp_resource_record.specs.declared.step.Step.{Step}
 use Rattle.txn_audit_fits.specs.Ending.{StopJudged}
 use Rattle.txn_audit_fits.proofs.Auditing.{drop-nothing, drop-step}

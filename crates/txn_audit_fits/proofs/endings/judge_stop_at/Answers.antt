@@ -1,4 +1,4 @@
-use Rattle.std.proofs.Common.{Bool, List, true, false, sym, ◌∙◌, ap, cond, ◌++◌, [], append-nil}
+use Rattle.std.proofs.Common.{sym, ◌∙◌, ap, cond, ◌++◌, [], append-nil}
 use Rattle.std.specs.Prelude.{is_some}
 use Rattle.amqp_resource_record.specs.Hands.{hands}
 use Rattle.txn_audit_fits.proofs.Ended.{judged-at}

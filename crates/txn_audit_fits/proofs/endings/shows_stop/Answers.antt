@@ -1,6 +1,5 @@
 use Rattle.std.proofs.Common.{Bool, IsTrue, ◌↔◌, refl, sym, subst}
 use Rattle.amqp_resource_record.specs.declared.step.Step.TheVariants as steps
-use Rattle.amqp_resource_record.specs.declared.stop.StopCode.TheVariants as stop_codes
 use Rattle.txn_audit_fits.specs.Fits.{Stops, local_end, remote_end}
 use Rattle.txn_audit_fits.specs.Ending.{ShowsStop}
 use Rattle.txn_audit_fits.proofs.Ended.{connection_stop, no-link_stop, shows-word}

@@ -1,10 +1,7 @@
 use Rattle.std.proofs.Common.{Bool, sym, ◌∙◌, ap, subst}
 use Rattle.std.specs.Prelude.{is_some}
-use Rattle.amqp_txn_types.specs.Presumptive.{answered_under}
 use Rattle.amqp_resource_record.specs.declared.step.Step.TheVariants as steps
-use Rattle.txn_audit_fits.specs.declared.outs.Outs.{Outs}
 use Rattle.txn_audit_fits.specs.Ending.{TellsStop}
-use Rattle.txn_audit_fits.specs.Judging.{OutsTell}
 use Rattle.txn_audit_fits.proofs.Ended.{stop-answered, stop-dead, stop-silent, told-none, told-some}
 use Rattle.txn_audit_fits.proofs.endings.shows_stop_under.Goals as goal
 

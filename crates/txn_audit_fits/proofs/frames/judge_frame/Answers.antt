@@ -1,6 +1,4 @@
-use Rattle.std.proofs.Common.{Option, sym, ◌∙◌}
 use Rattle.amqp_resource_record.specs.declared.step.Step.TheVariants as steps
-use Rattle.txn_audit_fits.specs.declared.outs.Outs.{Outs}
 use Rattle.txn_audit_fits.specs.Judging.{JudgesHere, JudgesWork}
 use Rattle.txn_audit_fits.proofs.Committed.{ok_map}
 use Rattle.txn_audit_fits.proofs.frames.judge_frame.Goals as goal

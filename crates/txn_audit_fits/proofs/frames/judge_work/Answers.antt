@@ -1,6 +1,5 @@
-use Rattle.std.proofs.Common.{sym, ◌∙◌, ap, subst, refl, true, false, Bool, Result, Ok, Err, cond, Option, ◌≡◌}
-use Rattle.std.specs.Prelude.{codes, is_some}
-use Rattle.amqp_txn_types.specs.declared.items.NoMemory.{NoMemory}
+use Rattle.std.proofs.Common.{sym, ◌∙◌, ap, subst, refl, Bool, Ok, cond}
+use Rattle.std.specs.Prelude.{codes}
 use Rattle.amqp_txn_types.specs.declared.performatives.Frame.{Frame}
 use Rattle.amqp_txn_types.specs.Ids.{same_id}
 use Rattle.amqp_txn_types.specs.Works.{frame_of_work}

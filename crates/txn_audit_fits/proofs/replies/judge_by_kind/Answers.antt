@@ -1,6 +1,4 @@
-use Rattle.std.proofs.Common.{Option, ℕ}
 use Rattle.amqp_resource_record.specs.declared.step.Step.TheVariants as steps
-use Rattle.txn_audit_fits.specs.declared.outs.Outs.{Outs}
 use Rattle.txn_audit_fits.specs.Judging.{Judges, JudgesWork}
 use Rattle.txn_audit_fits.proofs.Committed.{ok_map}
 use Rattle.txn_audit_fits.proofs.replies.judge_by_kind.Goals as goal

@@ -1,7 +1,7 @@
 use Rattle.std.proofs.Common.{◌≡◌, ◌-◌, length, drop}
 use Rattle.txn_program_lines.specs.Cutting.{lines_of}
 use Rattle.txn_audit_fits.proofs.Auditing.{Audited}
-use Rattle.txn_audit_fits.proofs.audits.audit_counting.Given as goal
+use Rattle.txn_audit_fits.proofs.audits.judge_lines.Given as goal
 
 abbrev pub invariant-loop-step : goal.invariant-loop-step
 invariant-loop-step g l = record {
