@@ -1,10 +1,11 @@
 //! What no clause says: that the calls succeed where there is memory.
 
 use amqp_accept_links::ControlLinkAcceptor;
-use amqp_below_connections::MemoryConnection;
+use amqp_below_connections::{ConnectionEnd, MemoryConnection};
 use amqp_below_layer::LayerBelow;
 use amqp_below_sessions::{BeginError, Session};
 use amqp_engine_builder::*;
+use amqp_test_values::{gives, is_done, leak, refuses};
 use amqp_txn_types::{
     ConnectionStopReason, Fields, Handle, OutgoingChannel, SessionState, Symbol, Symbols, TryClone,
     Value,
@@ -20,47 +21,61 @@ fn numbers_are_set(rt: HostRuntime) {
         .outgoing_window(3)
         .handle_max(Handle(4))
         .buffer_size(5);
-    assert_eq!(rt; builder.next_outgoing_id, 1);
-    assert_eq!(rt; builder.incoming_window, 2);
-    assert_eq!(rt; builder.outgoing_window, 3);
-    assert_eq!(rt; builder.handle_max, Handle(4));
-    assert_eq!(rt; builder.buffer_size, 5);
+    assert!(rt; builder.next_outgoing_id == 1);
+    assert!(rt; builder.incoming_window == 2);
+    assert!(rt; builder.outgoing_window == 3);
+    assert!(rt; builder.handle_max == Handle(4));
+    assert!(rt; builder.buffer_size == 5);
+    leak(builder);
 }
 
 #[test]
 fn numbers_have_defaults(rt: HostRuntime) {
     let builder = Builder::default();
-    assert_eq!(rt; builder.next_outgoing_id, 0);
-    assert_eq!(rt; builder.incoming_window, 2048);
-    assert_eq!(rt; builder.outgoing_window, 2048);
-    assert_eq!(rt; builder.handle_max, Handle(4_294_967_295));
-    assert_eq!(rt; builder.buffer_size, 65_535);
+    assert!(rt; builder.next_outgoing_id == 0);
+    assert!(rt; builder.incoming_window == 2048);
+    assert!(rt; builder.outgoing_window == 2048);
+    assert!(rt; builder.handle_max == Handle(4_294_967_295));
+    assert!(rt; builder.buffer_size == 65_535);
+    leak(builder);
 }
 
-fn symbol(alloc: Global, text: &str) -> Option<Symbol> {
-    Symbol::from_str(alloc, text).ok()
+fn symbol(rt: &impl Abort, alloc: Global, text: &str) -> Symbol {
+    Symbol::from_str(alloc, text).expect(rt, "memory")
 }
 
-/// A list of these two symbols.
-fn symbols(alloc: Global, first: &str, second: &str) -> Option<Symbols> {
+/// A list of these symbols.
+fn symbols(rt: &impl Abort, alloc: Global, texts: &[&str]) -> Symbols {
     let mut symbols = Symbols::new(alloc);
-    symbols.append(symbol(alloc, first)?).ok()?;
-    symbols.append(symbol(alloc, second)?).ok()?;
-    Some(symbols)
+    for text in texts {
+        symbols.append(symbol(rt, alloc, text)).expect(rt, "memory");
+    }
+    symbols
 }
 
 /// Fields with one key.
-fn fields(alloc: Global) -> Option<Fields> {
+fn fields(rt: &impl Abort, alloc: Global) -> Fields {
     let mut fields = Fields::new(alloc);
-    fields.insert(symbol(alloc, "k")?, Value::Bool(true)).ok()?;
-    Some(fields)
+    let inserted = is_done(fields.insert(symbol(rt, alloc, "k"), Value::Bool(true)));
+    assert!(rt; inserted);
+    fields
+}
+
+/// Whether there is one, and it is that.
+fn is_that<T: PartialEq>(found: &Option<T>, wanted: T) -> bool {
+    let same = match found {
+        Some(found) => *found == wanted,
+        None => false,
+    };
+    leak(wanted);
+    same
 }
 
 /// A builder whose lists are set.
 fn with_lists<R: Abort>(rt: &R, alloc: Global) -> Builder {
-    let offered = symbols(alloc, "a", "b").expect(rt, "memory");
-    let desired = symbols(alloc, "c", "d").expect(rt, "memory");
-    let properties = fields(alloc).expect(rt, "memory");
+    let offered = symbols(rt, alloc, &["a", "b"]);
+    let desired = symbols(rt, alloc, &["c", "d"]);
+    let properties = fields(rt, alloc);
     Builder::new()
         .set_offered_capabilities(offered)
         .set_desired_capabilities(desired)
@@ -72,74 +87,96 @@ fn with_lists<R: Abort>(rt: &R, alloc: Global) -> Builder {
 fn lists_are_set(rt: HostRuntime) {
     let alloc = rt.alloc();
     let builder = with_lists(&rt, alloc);
-    assert!(rt; builder.offered_capabilities == symbols(alloc, "a", "b"));
-    assert!(rt; builder.desired_capabilities == symbols(alloc, "c", "d"));
-    assert!(rt; builder.properties == fields(alloc));
+    assert!(rt;
+        is_that(
+            &builder.offered_capabilities,
+            symbols(&rt, alloc, &["a", "b"])
+        )
+    );
+    assert!(rt;
+        is_that(
+            &builder.desired_capabilities,
+            symbols(&rt, alloc, &["c", "d"])
+        )
+    );
+    assert!(rt; is_that(&builder.properties, fields(&rt, alloc)));
     assert!(rt; builder.control_link_acceptor.is_some());
+    leak(builder);
 }
 
 #[test]
 fn a_builder_is_copied(rt: HostRuntime) {
     let builder = with_lists(&rt, rt.alloc());
-    let copy = builder.try_clone().ok();
-    assert!(rt; copy == Some(builder));
+    let copy = builder.try_clone();
+    assert!(rt; gives(copy, builder));
 }
 
 /// One more thing that this side can do.
-fn offering(alloc: Global, builder: Builder, text: &str) -> Option<Builder> {
-    builder
-        .add_offered_capabilities(alloc, symbol(alloc, text)?)
-        .ok()
+fn offering(rt: &impl Abort, alloc: Global, builder: Builder, text: &str) -> Builder {
+    let symbol = symbol(rt, alloc, text);
+    passed(rt, builder.add_offered_capabilities(alloc, symbol))
 }
 
 /// One more thing that this side wants the peer to do.
-fn desiring(alloc: Global, builder: Builder, text: &str) -> Option<Builder> {
-    builder
-        .add_desired_capabilities(alloc, symbol(alloc, text)?)
-        .ok()
+fn desiring(rt: &impl Abort, alloc: Global, builder: Builder, text: &str) -> Builder {
+    let symbol = symbol(rt, alloc, text);
+    passed(rt, builder.add_desired_capabilities(alloc, symbol))
+}
+
+/// What a call gave that went well.
+fn passed<T, E>(rt: &impl Abort, answer: Result<T, E>) -> T {
+    match answer {
+        Ok(value) => value,
+        Err(_error) => panic!(rt; "the call is refused"),
+    }
 }
 
 #[test]
 fn offered_capabilities_are_added(rt: HostRuntime) {
     let alloc = rt.alloc();
-    let builder = offering(alloc, Builder::new(), "a").expect(&rt, "memory");
-    let builder = offering(alloc, builder, "b").expect(&rt, "memory");
-    assert!(rt; builder.offered_capabilities == symbols(alloc, "a", "b"));
+    let builder = offering(&rt, alloc, Builder::new(), "a");
+    let builder = offering(&rt, alloc, builder, "b");
+    assert!(rt;
+        is_that(
+            &builder.offered_capabilities,
+            symbols(&rt, alloc, &["a", "b"])
+        )
+    );
     assert!(rt; builder.desired_capabilities.is_none());
+    leak(builder);
 }
 
 #[test]
 fn desired_capabilities_are_added(rt: HostRuntime) {
     let alloc = rt.alloc();
-    let builder = desiring(alloc, Builder::new(), "a").expect(&rt, "memory");
-    let builder = desiring(alloc, builder, "b").expect(&rt, "memory");
-    assert!(rt; builder.desired_capabilities == symbols(alloc, "a", "b"));
+    let builder = desiring(&rt, alloc, Builder::new(), "a");
+    let builder = desiring(&rt, alloc, builder, "b");
+    assert!(rt;
+        is_that(
+            &builder.desired_capabilities,
+            symbols(&rt, alloc, &["a", "b"])
+        )
+    );
     assert!(rt; builder.offered_capabilities.is_none());
+    leak(builder);
 }
 
 /// A builder with one thing that this side can do, and one that it wants the peer to do.
-fn appended(alloc: Global) -> Option<Builder> {
-    let offered = symbol(alloc, "a")?;
-    let desired = symbol(alloc, "b")?;
-    let builder = Builder::new()
-        .append_offered_capabilities(alloc, offered)
-        .ok()?;
-    builder.append_desired_capabilities(alloc, desired).ok()
-}
-
-/// A list of one symbol.
-fn only(alloc: Global, text: &str) -> Option<Symbols> {
-    let mut symbols = Symbols::new(alloc);
-    symbols.append(symbol(alloc, text)?).ok()?;
-    Some(symbols)
+fn appended(rt: &impl Abort, alloc: Global) -> Builder {
+    let offered = symbol(rt, alloc, "a");
+    let desired = symbol(rt, alloc, "b");
+    let builder = Builder::new();
+    let builder = passed(rt, builder.append_offered_capabilities(alloc, offered));
+    passed(rt, builder.append_desired_capabilities(alloc, desired))
 }
 
 #[test]
 fn capabilities_are_appended(rt: HostRuntime) {
     let alloc = rt.alloc();
-    let builder = appended(alloc).expect(&rt, "memory");
-    assert!(rt; builder.offered_capabilities == only(alloc, "a"));
-    assert!(rt; builder.desired_capabilities == only(alloc, "b"));
+    let builder = appended(&rt, alloc);
+    assert!(rt; is_that(&builder.offered_capabilities, symbols(&rt, alloc, &["a"])));
+    assert!(rt; is_that(&builder.desired_capabilities, symbols(&rt, alloc, &["b"])));
+    leak(builder);
 }
 
 #[test]
@@ -148,37 +185,46 @@ fn a_session_is_built(rt: HostRuntime) {
     let session = builder.into_session(rt.alloc(), OutgoingChannel(7), SessionState::Mapped);
     assert!(rt; session.local_state() == SessionState::Mapped);
     assert!(rt; session.outgoing_channel() == OutgoingChannel(7));
-    drop(session);
+    leak(session);
 }
 
 /// Whether a session begins on this connection, and awaits the peer's begin.
 fn begins(alloc: Global, connection: &mut MemoryConnection) -> bool {
-    match Builder::new().begin(alloc, connection) {
+    let answer = Builder::new().begin(alloc, connection);
+    let begins = match &answer {
         Ok((begun, sent)) => {
-            let state = begun.session().local_state();
-            drop(begun);
-            sent.incoming_window == 2048 && state == SessionState::BeginSent
+            sent.incoming_window == 2048 && begun.session().local_state() == SessionState::BeginSent
         }
-        Err(refused) => {
-            drop(refused);
-            false
-        }
-    }
+        Err(_) => false,
+    };
+    leak(answer);
+    begins
+}
+
+/// Whether no session begins on this connection, for that reason.
+fn is_refused<C: ConnectionEnd>(alloc: Global, connection: &mut C, wanted: BeginError) -> bool {
+    refuses(Builder::new().begin(alloc, connection), wanted)
 }
 
 #[test]
 fn a_session_begins(rt: HostRuntime) {
     let mut connection = MemoryConnection::new(rt.alloc(), 0);
     assert!(rt; begins(rt.alloc(), &mut connection));
-    let refused = Builder::new().begin(rt.alloc(), &mut connection);
-    assert!(rt; refused.err() == Some(BeginError::LocalChannelMaxReached));
+    assert!(rt;
+        is_refused(
+            rt.alloc(),
+            &mut connection,
+            BeginError::LocalChannelMaxReached
+        )
+    );
+    leak(connection);
 }
 
 #[test]
 fn no_session_begins_on_a_stopped_connection(rt: HostRuntime) {
     let mut connection = MemoryConnection::new(rt.alloc(), 0);
     connection.set_stop_reason(ConnectionStopReason::RemoteClosed);
-    let refused = Builder::new().begin(rt.alloc(), &mut connection);
     let stopped = BeginError::ConnectionStopped(ConnectionStopReason::RemoteClosed);
-    assert!(rt; refused.err() == Some(stopped));
+    assert!(rt; is_refused(rt.alloc(), &mut connection, stopped));
+    leak(connection);
 }

@@ -4,10 +4,11 @@ use crate::test_values::{
     asked, ended, mapped, only_frame, quiet, replied, sent, stopped_for, turn,
 };
 use amqp_below_layer::SessionInnerError;
-use amqp_below_sessions::{AllocTxnIdError, PlainSession};
+use amqp_below_sessions::{AllocTxnIdError, HandleDeclare, HandleDischarge, Session};
 use amqp_engine_events::*;
 use amqp_test_values::{
-    detach, disposition, flow, gives, plain_error, refuses, relay, same, sender_attach, transfer,
+    detach, disposition, flow, gives, leak, plain_error, refuses, relay, same, sender_attach,
+    transfer,
 };
 use amqp_txn_types::{
     Attach, Binary, ConnectionError, End, ErrorCondition, Flow, Frame, Handle, InputHandle,
@@ -15,12 +16,17 @@ use amqp_txn_types::{
     TransactionId,
 };
 use std::alloc::Global;
+use std::mem::replace;
 use std::process::Abort;
 
 /// Whether the engine answers a control so.
-fn answers(mut engine: SessionEngine<PlainSession>, control: SessionControl, wanted: Turn) -> bool {
+fn answers<S: Session + HandleDeclare + HandleDischarge>(
+    mut engine: SessionEngine<S>,
+    control: SessionControl,
+    wanted: Turn,
+) -> bool {
     let answer = asked(&mut engine, control);
-    drop(engine);
+    leak(engine);
     gives(answer, wanted)
 }
 
@@ -100,7 +106,7 @@ fn an_end_keeps_its_reason(rt: HostRuntime) {
     let ended = Some(End { error: None });
     assert!(rt; gives(answer, turn(alloc, Running::Waiting, ended)));
     assert!(rt; stopped_for(engine.session(), SessionStopReason::Ended));
-    drop(engine);
+    leak(engine);
 }
 
 #[test]
@@ -120,7 +126,7 @@ fn an_end_is_sent_once(rt: HostRuntime) {
 fn a_control_outside_mapped_is_illegal(rt: HostRuntime) {
     let mut engine = ended(rt.alloc()).expect(&rt, "a session");
     let refused = asked(&mut engine, SessionControl::DeallocateLink(OutputHandle(0)));
-    drop(engine);
+    leak(engine);
     assert!(rt; refuses(refused, SessionInnerError::IllegalState));
 }
 
@@ -128,7 +134,7 @@ fn a_control_outside_mapped_is_illegal(rt: HostRuntime) {
 fn a_disposition_is_sent(rt: HostRuntime) {
     let mut engine = mapped(rt.alloc()).expect(&rt, "a session");
     let answer = asked(&mut engine, SessionControl::Disposition(disposition(0)));
-    drop(engine);
+    leak(engine);
     let only = only_frame(&rt, answer);
     assert!(rt; same(only, Some(Frame::Disposition(disposition(0)))));
 }
@@ -137,7 +143,7 @@ fn a_disposition_is_sent(rt: HostRuntime) {
 fn sends<R: Abort>(rt: &R, alloc: Global, frame: LinkFrame, wanted: Frame) -> bool {
     let mut engine = mapped(alloc).expect(rt, "a session");
     let answer = sent(&mut engine, frame);
-    drop(engine);
+    leak(engine);
     same(only_frame(rt, answer), Some(wanted))
 }
 
@@ -184,7 +190,7 @@ fn a_continuation_is_sent_as_it_is(rt: HostRuntime) {
 /// A first transfer with this tag.
 fn first(tag: Option<Binary>) -> LinkFrame {
     let mut transfer = transfer(5);
-    transfer.delivery_tag = tag;
+    leak(replace(&mut transfer.delivery_tag, tag));
     LinkFrame::Transfer {
         input: InputHandle(5),
         transfer,
@@ -200,7 +206,7 @@ fn delivery_id(rt: &impl Abort, answer: Result<Turn, SessionInnerError>) -> Opti
         Some(Frame::Transfer { transfer, .. }) => transfer.delivery_id,
         _ => None,
     };
-    drop(only);
+    leak(only);
     id
 }
 
@@ -208,15 +214,15 @@ fn delivery_id(rt: &impl Abort, answer: Result<Turn, SessionInnerError>) -> Opti
 fn a_first_transfer_gets_an_id(rt: HostRuntime) {
     let mut engine = mapped(rt.alloc()).expect(&rt, "a session");
     let answer = sent(&mut engine, first(Some(Binary::new(rt.alloc()))));
-    drop(engine);
-    assert_eq!(rt; delivery_id(&rt, answer), Some(0));
+    leak(engine);
+    assert!(rt; delivery_id(&rt, answer) == Some(0));
 }
 
 #[test]
 fn a_first_transfer_without_a_tag_is_illegal(rt: HostRuntime) {
     let mut engine = mapped(rt.alloc()).expect(&rt, "a session");
     let refused = sent(&mut engine, first(None));
-    drop(engine);
+    leak(engine);
     assert!(rt; refuses(refused, SessionInnerError::IllegalState));
 }
 

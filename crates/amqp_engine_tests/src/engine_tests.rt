@@ -1,16 +1,16 @@
 //! The engine over a plain session, called as its users call it.
 
 use crate::test_values::{
-    asked, begun, cut_off, ended, failed, finished, frame, mapped, plain_end, quiet, sent, state,
-    stopped_for, taken, told_to_end, turn,
+    asked, begun, cut_off, ended, failed, finished, first_of, frame, mapped, plain_end, quiet,
+    sent, state, stopped_for, taken, told_to_end, turn,
 };
 use amqp_accept_links::ControlLinkAcceptor;
 use amqp_accept_listener::ListenerSession;
 use amqp_below_layer::{LayerBelow, SessionInnerError};
-use amqp_below_sessions::{BeginError, PlainSession, Session};
+use amqp_below_sessions::{BeginError, ListenerSessionEndpoint, PlainSession, Session};
 use amqp_engine_events::*;
 use amqp_test_values::{
-    begin, detach, gives, not_allowed, plain_error, plain_session, refuses, relay, same,
+    begin, detach, gives, leak, not_allowed, plain_error, plain_session, refuses, relay, same,
     sender_attach, transfer,
 };
 use amqp_txn_types::{
@@ -30,13 +30,16 @@ fn transfer_frame() -> SessionFrameBody {
 
 /// The engine of a mapped session with a receiving link of the peer's handle 5.
 fn with_link(alloc: Global) -> Option<SessionEngine<PlainSession>> {
-    let mut engine = mapped(alloc)?;
+    let mut engine = match mapped(alloc) {
+        Some(engine) => engine,
+        None => return None,
+    };
     let control = SessionControl::AllocateIncomingLink {
         link_name: Text::new(alloc),
         link_relay: relay(alloc, Role::Receiver),
         input_handle: InputHandle(5),
     };
-    drop(asked(&mut engine, control));
+    leak(asked(&mut engine, control));
     Some(engine)
 }
 
@@ -49,25 +52,20 @@ fn transfers(engine: &SessionEngine<PlainSession>) -> Option<u64> {
 }
 
 fn is_window(answer: Result<Turn, SessionInnerError>) -> bool {
-    match answer {
-        Ok(turn) => {
-            let told = turn.running == Running::Continue && turn.sent.window.is_some();
-            drop(turn);
-            told
-        }
-        Err(fault) => {
-            drop(fault);
-            false
-        }
-    }
+    let told = match &answer {
+        Ok(turn) => turn.running == Running::Continue && turn.sent.window.is_some(),
+        Err(_) => false,
+    };
+    leak(answer);
+    told
 }
 
 #[test]
 fn a_transfer_reaches_the_session(rt: HostRuntime) {
     let mut engine = with_link(rt.alloc()).expect(&rt, "a session");
     assert!(rt; is_window(taken(&mut engine, transfer_frame())));
-    assert_eq!(rt; transfers(&engine), Some(1));
-    drop(engine);
+    assert!(rt; transfers(&engine) == Some(1));
+    leak(engine);
 }
 
 #[test]
@@ -81,20 +79,20 @@ fn an_unknown_id_ends_the_session(rt: HostRuntime) {
     });
     assert!(rt; gives(answer, turn(alloc, Running::Waiting, ended)));
     assert!(rt; state(&engine) == SessionState::Discarding);
-    drop(engine);
+    leak(engine);
 }
 
 #[test]
 fn what_comes_before_the_awaited_end_is_dropped(rt: HostRuntime) {
     let alloc = rt.alloc();
     let mut engine = with_link(alloc).expect(&rt, "a session");
-    drop(failed(&mut engine, SessionInnerError::UnknownTxnId));
+    leak(failed(&mut engine, SessionInnerError::UnknownTxnId));
     let dropped = taken(&mut engine, transfer_frame());
     assert!(rt; gives(dropped, quiet(alloc, Running::Waiting)));
     let over = taken(&mut engine, plain_end());
     assert!(rt; gives(over, quiet(alloc, Running::Stop)));
-    assert_eq!(rt; transfers(&engine), Some(0));
-    drop(engine);
+    assert!(rt; transfers(&engine) == Some(0));
+    leak(engine);
 }
 
 #[test]
@@ -105,7 +103,7 @@ fn the_peers_end_is_answered(rt: HostRuntime) {
     let ended = Some(End { error: None });
     assert!(rt; gives(answer, turn(alloc, Running::Stop, ended)));
     assert!(rt; stopped_for(engine.session(), SessionStopReason::RemoteEnded));
-    drop(engine);
+    leak(engine);
 }
 
 fn remote_close() -> SessionStopReason {
@@ -116,16 +114,16 @@ fn remote_close() -> SessionStopReason {
 fn a_connection_that_stopped_is_the_reason(rt: HostRuntime) {
     let mut engine = mapped(rt.alloc()).expect(&rt, "a session");
     cut_off(&mut engine);
-    drop(taken(&mut engine, plain_end()));
+    leak(taken(&mut engine, plain_end()));
     assert!(rt; stopped_for(engine.session(), remote_close()));
-    drop(engine);
+    leak(engine);
 }
 
 #[test]
 fn no_link_sends_after_the_end(rt: HostRuntime) {
     let mut engine = ended(rt.alloc()).expect(&rt, "a session");
     let refused = sent(&mut engine, LinkFrame::Detach(detach(0)));
-    drop(engine);
+    leak(engine);
     assert!(rt; refuses(refused, SessionInnerError::IllegalState));
 }
 
@@ -140,50 +138,44 @@ fn a_session_runs_from_its_begin_to_its_stop(rt: HostRuntime) {
     let (session, outcome) = finished(engine, Ok(()));
     assert!(rt; gives(outcome, ()));
     assert!(rt; stopped_for(&session, SessionStopReason::Ended));
-    drop(session);
+    leak(session);
 }
 
 /// The engine of a listener whose peer began the session.
 fn listener(alloc: Global) -> Option<SessionEngine<ListenerSession<PlainSession>>> {
     let session = plain_session(alloc, SessionState::BeginReceived, 7);
     let listener = ListenerSession::new(alloc, session, ControlLinkAcceptor::default());
-    match SessionEngine::begin_listener_session(alloc, listener) {
-        Ok((engine, sent)) => {
-            drop(sent);
-            Some(engine)
-        }
-        Err(refused) => {
-            drop(refused);
-            None
-        }
-    }
+    listened(alloc, listener)
 }
 
-fn heard(
-    engine: &mut SessionEngine<ListenerSession<PlainSession>>,
-    attach: Attach,
-) -> Result<Turn, SessionInnerError> {
-    engine.on_incoming(frame(SessionFrameBody::Link(Frame::Attach(attach))))
+/// The engine of that session, whose peer began it.
+fn listened<S: ListenerSessionEndpoint>(alloc: Global, session: S) -> Option<SessionEngine<S>> {
+    first_of(SessionEngine::begin_listener_session(alloc, session))
+}
+
+fn attach_frame(attach: Attach) -> SessionFrameBody {
+    SessionFrameBody::Link(Frame::Attach(attach))
 }
 
 #[test]
 fn an_attach_waits_in_a_listener(rt: HostRuntime) {
     let alloc = rt.alloc();
     let mut engine = listener(alloc).expect(&rt, "a session");
-    let answer = heard(&mut engine, sender_attach(Text::new(alloc), 0, None));
+    let attach = attach_frame(sender_attach(Text::new(alloc), 0, None));
+    let answer = taken(&mut engine, attach);
     assert!(rt; gives(answer, quiet(alloc, Running::Continue)));
-    assert!(rt; engine.session().local_state() == SessionState::Mapped);
-    drop(engine);
+    assert!(rt; state(&engine) == SessionState::Mapped);
+    leak(engine);
 }
 
 /// The error of the end that is sent for a fault.
 fn error_sent(rt: &impl Abort, alloc: Global, fault: SessionInnerError) -> Error {
     let mut engine = mapped(alloc).expect(rt, "a session");
     let answer = failed(&mut engine, fault);
-    drop(engine);
+    leak(engine);
     let mut turn = answer.expect(rt, "a turn");
     let ended = turn.ended.take();
-    drop(turn);
+    leak(turn);
     let end = ended.expect(rt, "an end");
     end.error.expect(rt, "an error")
 }
@@ -194,10 +186,10 @@ fn is_told(rt: &impl Abort, error: Error, condition: AmqpError, text: &str) -> b
         description,
         info,
     } = error;
-    drop(info);
+    leak(info);
     let description = description.expect(rt, "a text");
     let same_text = description.as_str() == text;
-    drop(description);
+    leak(description);
     same(found, ErrorCondition::AmqpError(condition)) && same_text
 }
 
@@ -220,47 +212,63 @@ fn a_stopped_connection_is_no_fault_of_the_session(rt: HostRuntime) {
     let (session, outcome) = finished(engine, Err(stopped));
     assert!(rt; gives(outcome, ()));
     assert!(rt; stopped_for(&session, remote_close()));
-    drop(session);
+    leak(session);
 }
 
 /// Whether the session came back for this error.
-fn came_back(
-    answer: Result<SessionEngine<PlainSession>, (PlainSession, BeginError)>,
-    wanted: BeginError,
-) -> bool {
+fn came_back<T, S>(answer: Result<T, (S, BeginError)>, wanted: BeginError) -> bool {
     match answer {
         Ok(engine) => {
-            drop(engine);
-            drop(wanted);
+            leak(engine);
+            leak(wanted);
             false
         }
         Err((session, error)) => {
-            drop(session);
+            leak(session);
             same(error, wanted)
         }
     }
+}
+
+/// What the peer's frame makes of a session that sent its begin.
+fn begun_with<S: Session>(
+    begun: ClientBegin<S>,
+    body: SessionFrameBody,
+) -> Result<SessionEngine<S>, (S, BeginError)> {
+    begun.on_frame(frame(body))
+}
+
+/// Why a session that sent its begin isn't begun, where its connection stops.
+fn stops_early<S: Session>(begun: ClientBegin<S>) -> BeginError {
+    let (session, error) = begun.connection_stopped();
+    leak(session);
+    error
+}
+
+/// The same, where the peer closed the connection.
+fn is_cut_off_early<S: Session>(mut begun: ClientBegin<S>) -> BeginError {
+    begun.note_connection_stop(ConnectionStopReason::RemoteClosed);
+    stops_early(begun)
 }
 
 #[test]
 fn the_peers_begin_makes_the_session_ready(rt: HostRuntime) {
     let engine = mapped(rt.alloc()).expect(&rt, "a session");
     assert!(rt; state(&engine) == SessionState::Mapped);
-    drop(engine);
+    leak(engine);
 }
 
 #[test]
 fn an_early_end_is_told(rt: HostRuntime) {
     let begun = begun(rt.alloc()).expect(&rt, "a session");
     assert!(rt; begun.session().local_state() == SessionState::BeginSent);
-    assert!(rt; came_back(begun.on_frame(frame(plain_end())), BeginError::RemoteEnded));
+    assert!(rt; came_back(begun_with(begun, plain_end()), BeginError::RemoteEnded));
 }
 
 #[test]
 fn a_connection_may_stop_early(rt: HostRuntime) {
-    let mut begun = begun(rt.alloc()).expect(&rt, "a session");
-    begun.note_connection_stop(ConnectionStopReason::RemoteClosed);
-    let (session, error) = begun.connection_stopped();
-    drop(session);
+    let begun = begun(rt.alloc()).expect(&rt, "a session");
+    let error = is_cut_off_early(begun);
     let stopped = BeginError::ConnectionStopped(ConnectionStopReason::RemoteClosed);
     assert!(rt; same(error, stopped));
 }
@@ -271,29 +279,29 @@ fn the_peers_error_is_the_reason(rt: HostRuntime) {
     let end = SessionFrameBody::End(End {
         error: Some(not_allowed()),
     });
-    drop(taken(&mut engine, end));
+    leak(taken(&mut engine, end));
     let reason = SessionStopReason::RemoteEndedWithError(not_allowed());
     assert!(rt; stopped_for(engine.session(), reason));
-    drop(engine);
+    leak(engine);
 }
 
 #[test]
 fn this_sides_error_is_the_reason(rt: HostRuntime) {
     let mut engine = mapped(rt.alloc()).expect(&rt, "a session");
-    drop(asked(&mut engine, SessionControl::End(Some(not_allowed()))));
+    leak(asked(&mut engine, SessionControl::End(Some(not_allowed()))));
     let reason = SessionStopReason::EndedWithError(not_allowed());
     assert!(rt; stopped_for(engine.session(), reason));
     assert!(rt; state(&engine) == SessionState::Discarding);
-    drop(engine);
+    leak(engine);
 }
 
 #[test]
 fn an_end_after_the_connection_stopped_tells_it(rt: HostRuntime) {
     let mut engine = mapped(rt.alloc()).expect(&rt, "a session");
     cut_off(&mut engine);
-    drop(asked(&mut engine, SessionControl::End(None)));
+    leak(asked(&mut engine, SessionControl::End(None)));
     assert!(rt; stopped_for(engine.session(), remote_close()));
-    drop(engine);
+    leak(engine);
 }
 
 #[test]
@@ -302,7 +310,7 @@ fn a_connection_that_stopped_is_answered(rt: HostRuntime) {
     let stopped = SessionInnerError::ConnectionStopped(ConnectionStopReason::RemoteClosed);
     let refused = failed(&mut engine, stopped);
     assert!(rt; state(&engine) == SessionState::Mapped);
-    drop(engine);
+    leak(engine);
     let wanted = SessionInnerError::ConnectionStopped(ConnectionStopReason::RemoteClosed);
     assert!(rt; refuses(refused, wanted));
 }
@@ -319,14 +327,14 @@ fn finishes<R: Abort>(
     is_finished(finished(engine, outcome), wanted, reason)
 }
 
-fn is_finished(
-    ended: (PlainSession, Result<(), SessionInnerError>),
+fn is_finished<S: Session>(
+    ended: (S, Result<(), SessionInnerError>),
     wanted: Result<(), SessionInnerError>,
     reason: SessionStopReason,
 ) -> bool {
     let (session, answer) = ended;
     let stopped = stopped_for(&session, reason);
-    drop(session);
+    leak(session);
     same(answer, wanted) && stopped
 }
 
@@ -351,7 +359,7 @@ fn the_error_of_an_outcome_is_answered_and_kept(rt: HostRuntime) {
 #[test]
 fn the_first_reason_is_kept(rt: HostRuntime) {
     let mut engine = mapped(rt.alloc()).expect(&rt, "a session");
-    drop(taken(&mut engine, plain_end()));
+    leak(taken(&mut engine, plain_end()));
     let outcome = Err(SessionInnerError::RemoteEndedWithError(not_allowed()));
     let wanted = Err(SessionInnerError::RemoteEndedWithError(not_allowed()));
     let ended = finished(engine, outcome);
@@ -361,8 +369,7 @@ fn the_first_reason_is_kept(rt: HostRuntime) {
 #[test]
 fn a_connection_may_close_early(rt: HostRuntime) {
     let begun = begun(rt.alloc()).expect(&rt, "a session");
-    let (session, error) = begun.connection_stopped();
-    drop(session);
+    let error = stops_early(begun);
     let closed = BeginError::ConnectionStopped(ConnectionStopReason::Closed);
     assert!(rt; same(error, closed));
 }

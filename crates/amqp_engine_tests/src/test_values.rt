@@ -2,9 +2,9 @@
 
 use amqp_below_ids::CountIds;
 use amqp_below_layer::{Answers, LayerBelow, SessionInnerError};
-use amqp_below_sessions::{PlainSession, Session};
+use amqp_below_sessions::{HandleDeclare, HandleDischarge, PlainSession, Session};
 use amqp_engine_events::*;
-use amqp_test_values::{begin, plain_session};
+use amqp_test_values::{begin, leak, plain_session};
 use amqp_txn_types::{
     ConnectionStopReason, End, Frame, Frames, LinkFrame, SessionState, SessionStopReason,
 };
@@ -23,14 +23,23 @@ pub fn plain_end() -> SessionFrameBody {
 
 /// A session of this side that sent its begin.
 pub fn begun(alloc: Global) -> Option<ClientBegin<PlainSession>> {
-    let session = plain_session(alloc, SessionState::Unmapped, 7);
-    match SessionEngine::begin_client_session(alloc, session) {
-        Ok((begun, sent)) => {
-            drop(sent);
-            Some(begun)
+    begun_over(alloc, plain_session(alloc, SessionState::Unmapped, 7))
+}
+
+/// That session, which sent its begin.
+fn begun_over<S: Session>(alloc: Global, session: S) -> Option<ClientBegin<S>> {
+    first_of(SessionEngine::begin_client_session(alloc, session))
+}
+
+/// The first value of an Ok.
+pub fn first_of<T, U, E>(answer: Result<(T, U), E>) -> Option<T> {
+    match answer {
+        Ok((first, second)) => {
+            leak(second);
+            Some(first)
         }
         Err(refused) => {
-            drop(refused);
+            leak(refused);
             None
         }
     }
@@ -44,11 +53,11 @@ pub fn mapped(alloc: Global) -> Option<SessionEngine<PlainSession>> {
     }
 }
 
-fn made_ready(begun: ClientBegin<PlainSession>) -> Option<SessionEngine<PlainSession>> {
+fn made_ready<S: Session>(begun: ClientBegin<S>) -> Option<SessionEngine<S>> {
     match begun.on_frame(frame(SessionFrameBody::Begin(begin(7)))) {
         Ok(engine) => Some(engine),
         Err(refused) => {
-            drop(refused);
+            leak(refused);
             None
         }
     }
@@ -56,73 +65,80 @@ fn made_ready(begun: ClientBegin<PlainSession>) -> Option<SessionEngine<PlainSes
 
 /// The engine of a session that sent its end.
 pub fn ended(alloc: Global) -> Option<SessionEngine<PlainSession>> {
-    let mut engine = mapped(alloc)?;
-    drop(told_to_end(&mut engine));
-    Some(engine)
+    match mapped(alloc) {
+        Some(engine) => Some(end_sent(engine)),
+        None => None,
+    }
+}
+
+/// The engine, of which the session sent its end.
+fn end_sent<S: Session>(mut engine: SessionEngine<S>) -> SessionEngine<S> {
+    leak(told_to_end(&mut engine));
+    engine
 }
 
 /// What the engine answers to a control. Like those below it says nothing of the session, so that
 /// each call of the engine is proved once.
-pub fn asked(
-    engine: &mut SessionEngine<PlainSession>,
+pub fn asked<S: Session + HandleDeclare + HandleDischarge>(
+    engine: &mut SessionEngine<S>,
     control: SessionControl,
 ) -> Result<Turn, SessionInnerError> {
     engine.on_control(control, &mut CountIds::new())
 }
 
 /// What the engine answers to a frame that comes.
-pub fn taken(
-    engine: &mut SessionEngine<PlainSession>,
+pub fn taken<S: Session>(
+    engine: &mut SessionEngine<S>,
     body: SessionFrameBody,
 ) -> Result<Turn, SessionInnerError> {
     engine.on_incoming(frame(body))
 }
 
 /// What the engine answers to a frame of a link.
-pub fn sent(
-    engine: &mut SessionEngine<PlainSession>,
+pub fn sent<S: Session>(
+    engine: &mut SessionEngine<S>,
     frame: LinkFrame,
 ) -> Result<Turn, SessionInnerError> {
     engine.on_outgoing_link_frames(frame)
 }
 
 /// What the engine answers to a fault.
-pub fn failed(
-    engine: &mut SessionEngine<PlainSession>,
+pub fn failed<S: Session>(
+    engine: &mut SessionEngine<S>,
     fault: SessionInnerError,
 ) -> Result<Turn, SessionInnerError> {
     let answer = engine.on_error(&fault);
-    drop(fault);
+    leak(fault);
     answer
 }
 
 /// What the engine answers where it is told to end the session.
-pub fn told_to_end(engine: &mut SessionEngine<PlainSession>) -> Result<Turn, SessionInnerError> {
+pub fn told_to_end<S: Session>(engine: &mut SessionEngine<S>) -> Result<Turn, SessionInnerError> {
     engine.end_session(None)
 }
 
 /// The connection of the engine's session was closed by the peer.
-pub fn cut_off(engine: &mut SessionEngine<PlainSession>) {
+pub fn cut_off<S: Session>(engine: &mut SessionEngine<S>) {
     engine.note_connection_stop(ConnectionStopReason::RemoteClosed);
 }
 
 /// The session of the engine, and the outcome that it answers.
-pub fn finished(
-    engine: SessionEngine<PlainSession>,
+pub fn finished<S: Session>(
+    engine: SessionEngine<S>,
     outcome: Result<(), SessionInnerError>,
-) -> (PlainSession, Result<(), SessionInnerError>) {
+) -> (S, Result<(), SessionInnerError>) {
     engine.finish(outcome)
 }
 
 /// The state of the engine's session.
-pub fn state(engine: &SessionEngine<PlainSession>) -> SessionState {
+pub fn state<S: Session>(engine: &SessionEngine<S>) -> SessionState {
     engine.session().local_state()
 }
 
 /// Whether the session stopped for this reason.
-pub fn stopped_for(session: &PlainSession, reason: SessionStopReason) -> bool {
+pub fn stopped_for<S: Session>(session: &S, reason: SessionStopReason) -> bool {
     let equal = session.session_stop_reason() == Some(&reason);
-    drop(reason);
+    leak(reason);
     equal
 }
 
@@ -161,6 +177,6 @@ pub fn replied(alloc: Global, reply: ControlReply) -> Turn {
 pub fn only_frame(rt: &impl Abort, answer: Result<Turn, SessionInnerError>) -> Option<Frame> {
     let mut turn = answer.expect(rt, "a turn");
     let frame = turn.sent.given.items.pop();
-    drop(turn);
+    leak(turn);
     frame
 }

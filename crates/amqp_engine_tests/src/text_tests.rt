@@ -1,7 +1,7 @@
 //! The texts of controls.
 
 use amqp_engine_events::*;
-use amqp_test_values::{disposition, not_allowed, other_text, relay};
+use amqp_test_values::{disposition, leak, not_allowed, other_text, relay};
 use amqp_txn_types::{
     ConnectionError, InputHandle, OutgoingChannel, OutputHandle, Role, Text, TransactionId,
 };
@@ -30,6 +30,7 @@ fn controls_of_connections_have_their_texts(rt: HostRuntime) {
         ),
     ];
     have_texts(&rt, rt.alloc(), &table);
+    leak(table);
 }
 
 #[test]
@@ -57,6 +58,7 @@ fn controls_of_links_have_their_texts(rt: HostRuntime) {
         ),
     ];
     have_texts(&rt, alloc, &table);
+    leak(table);
 }
 
 #[test]
@@ -74,6 +76,7 @@ fn controls_of_sessions_have_their_texts(rt: HostRuntime) {
         ),
     ];
     have_texts(&rt, rt.alloc(), &table);
+    leak(table);
 }
 
 #[test]
@@ -95,4 +98,5 @@ fn controls_of_transactions_have_their_texts(rt: HostRuntime) {
         (SessionControl::AbortTransaction(txn_id), "AbortTransaction"),
     ];
     have_texts(&rt, rt.alloc(), &table);
+    leak(table);
 }

@@ -1,7 +1,7 @@
 //! The calls of a transactional session over a listener, without an engine, and over one that
 //! accepts links at once: each succeeds where there is memory.
 
-use crate::tests::test_values::{Listening, transfer};
+use crate::accepted_tests::test_values::{Listening, transfer};
 use amqp_accept_at_once::AcceptingListener;
 use amqp_accept_links::{ControlLinkAcceptor, LinkAcceptor};
 use amqp_accept_listener::ListenerSession;
@@ -11,7 +11,8 @@ use amqp_below_sessions::{HandleDeclare, NameState, PlainSession, Session};
 use amqp_engine_builder::Builder;
 use amqp_resource_session::{HandleControlLink, TxnSession, numbered_id};
 use amqp_test_values::{
-    begin, control_attach, detach, disposition, flow, is_done, relay, sender_attach, under,
+    begin, control_attach, detach, disposition, flow, is_done, leak, relay, sender_attach,
+    transfer as transfer_on, under, value_of,
 };
 use amqp_txn_types::{
     ConnectionStopReason, End, Frame, Frames, Handle, IncomingChannel, InputHandle, LinkFlow,
@@ -38,7 +39,7 @@ fn at_once(alloc: Global, state: SessionState) -> TxnSession<AcceptingListener<P
 fn allocates_id(session: &mut Listening) -> bool {
     let answer = session.allocate_transaction_id(&mut CountIds::new());
     let is_allocated = answer.is_ok();
-    drop(answer);
+    leak(answer);
     is_allocated
 }
 
@@ -48,7 +49,7 @@ fn count_given(answer: Result<Frames, SessionInnerError>) -> usize {
         Ok(given) => given.len(),
         Err(_) => 100,
     };
-    drop(answer);
+    leak(answer);
     count
 }
 
@@ -62,9 +63,9 @@ fn a_post_is_kept_by_a_call(rt: HostRuntime) {
     let mut session = mapped(rt.alloc());
     let is_allocated = allocates_id(&mut session);
     let given = heard(&mut session, transfer(under(numbered_id(1))));
-    drop(session);
+    leak(session);
     assert!(rt; is_allocated);
-    assert_eq!(rt; given, 1);
+    assert!(rt; given == 1);
 }
 
 /// The number of a control link that is opened by a call, and how many frames are given back for
@@ -72,10 +73,10 @@ fn a_post_is_kept_by_a_call(rt: HostRuntime) {
 fn opened_by_call(alloc: Global, session: &mut Listening) -> Option<(u64, usize)> {
     let attach = control_attach(Text::new(alloc), 0);
     let answer = session.on_incoming_control_attach(&attach);
-    drop(attach);
-    let (link, given) = answer.ok()?;
+    leak(attach);
+    let (link, given) = value_of(answer)?;
     let count = given.len();
-    drop(given);
+    leak(given);
     Some((link, count))
 }
 
@@ -86,7 +87,7 @@ fn a_control_link_is_opened_by_a_call(rt: HostRuntime) {
     let opened = opened_by_call(alloc, &mut session);
     let again = opened_by_call(alloc, &mut session);
     let code = session.stop_code();
-    drop(session);
+    leak(session);
     assert!(rt; opened == Some((0, 2)));
     assert!(rt; again == None);
     assert!(rt; code == None);
@@ -101,15 +102,15 @@ fn a_control_link_is_opened_by_its_attach(rt: HostRuntime) {
         Frame::Attach(control_attach(Text::new(alloc), 0)),
     );
     let opened = session.links_opened();
-    drop(session);
-    assert_eq!(rt; given, 2);
-    assert_eq!(rt; opened, 1);
+    leak(session);
+    assert!(rt; given == 2);
+    assert!(rt; opened == 1);
 }
 
 /// Allocates a link of this side.
 fn allocate<S: Session>(alloc: Global, session: &mut S) -> Option<OutputHandle> {
     let answer = session.allocate_link(Text::new(alloc), relay(alloc, Role::Receiver));
-    answer.ok()
+    value_of(answer)
 }
 
 /// Allocates a link that the peer attached on handle 5.
@@ -119,7 +120,7 @@ fn allocate_incoming<S: Session>(alloc: Global, session: &mut S) -> Option<Outpu
         relay(alloc, Role::Receiver),
         InputHandle(5),
     );
-    answer.ok()
+    value_of(answer)
 }
 
 /// How the name of the links above is known.
@@ -128,13 +129,13 @@ fn known<S: Session>(alloc: Global, session: &S) -> NameState {
 }
 
 /// Whether a link of this side is allocated and freed, and then one that the peer attached.
-fn allocates<S: Session + Drop>(alloc: Global, mut session: S) -> bool {
+fn allocates<S: Session>(alloc: Global, mut session: S) -> bool {
     let first = allocate(alloc, &mut session) == Some(OutputHandle(0));
     let waits = known(alloc, &session) == NameState::Waiting;
     let freed = session.deallocate_link(OutputHandle(0));
     let second = allocate_incoming(alloc, &mut session) == Some(OutputHandle(0));
     let taken = known(alloc, &session) == NameState::Taken;
-    drop(session);
+    leak(session);
     first && waits && freed && second && taken
 }
 
@@ -149,24 +150,24 @@ fn frames_of_a_link_are_heard(rt: HostRuntime) {
     let alloc = rt.alloc();
     let mut session = mapped(alloc);
     assert!(rt; allocate_incoming(alloc, &mut session) == Some(OutputHandle(0)));
-    assert_eq!(rt; heard(&mut session, Frame::Flow(flow(Some(Handle(5))))), 0);
-    assert_eq!(rt; heard(&mut session, transfer(None)), 0);
-    assert_eq!(rt; heard(&mut session, Frame::Disposition(disposition(0))), 0);
-    assert_eq!(rt; heard(&mut session, Frame::Detach(detach(5))), 1);
-    drop(session);
+    assert!(rt; heard(&mut session, Frame::Flow(flow(Some(Handle(5))))) == 0);
+    assert!(rt; heard(&mut session, transfer(None)) == 0);
+    assert!(rt; heard(&mut session, Frame::Disposition(disposition(0))) == 0);
+    assert!(rt; heard(&mut session, Frame::Detach(detach(5))) == 1);
+    leak(session);
 }
 
 /// Whether the session passes what the link with output handle 0 is to send.
 fn passes<S: Session>(alloc: Global, session: &mut S) -> bool {
     let attach = sender_attach(Text::new(alloc), 0, None);
     let attached = is_done(session.on_outgoing_attach(&attach));
-    drop(attach);
+    leak(attach);
     let answer = disposition(0);
     let disposed = is_done(session.on_outgoing_disposition(&answer));
-    drop(answer);
+    leak(answer);
     let last = detach(0);
     let detached = is_done(session.on_outgoing_detach(&last));
-    drop(last);
+    leak(last);
     attached && disposed && detached
 }
 
@@ -184,26 +185,24 @@ fn grants<S: Session>(session: &mut S) -> bool {
     let granted = is_done(session.on_outgoing_flow(granting));
     let owed = session.maybe_outgoing_session_flow();
     let none = owed.is_none();
-    drop(owed);
+    leak(owed);
     granted && none
 }
 
 /// Whether the session sends a transfer that continues a delivery.
 fn continues<S: Session>(session: &mut S) -> bool {
-    let Frame::Transfer { mut transfer, .. } = transfer(None) else {
-        return false;
-    };
-    let answer = session.on_outgoing_transfer(InputHandle(5), &mut transfer, false);
-    drop(transfer);
+    let mut sent = transfer_on(5).delivery_id(7);
+    let answer = session.on_outgoing_transfer(InputHandle(5), &mut sent, false);
+    leak(sent);
     is_done(answer)
 }
 
 /// Whether the session sends all frames of the link.
-fn sends<S: Session + Drop>(alloc: Global, mut session: S) -> bool {
+fn sends<S: Session>(alloc: Global, mut session: S) -> bool {
     let passed = passes(alloc, &mut session);
     let granted = grants(&mut session);
     let continued = continues(&mut session);
-    drop(session);
+    leak(session);
     passed && granted && continued
 }
 
@@ -225,15 +224,15 @@ fn ends<S: Session>(session: &mut S) -> bool {
     let sent = is_done(session.send_end(None));
     let end = End { error: None };
     let taken = is_done(session.on_incoming_end(IncomingChannel(3), &end));
-    drop(end);
+    leak(end);
     sent && taken && session.local_state() == SessionState::Unmapped
 }
 
 /// Whether the session keeps its reasons, and then ends.
-fn stops<S: Session + Drop>(mut session: S) -> bool {
+fn stops<S: Session>(mut session: S) -> bool {
     let kept = keeps_reasons(&mut session);
     let ended = ends(&mut session);
-    drop(session);
+    leak(session);
     kept && ended
 }
 
@@ -243,11 +242,11 @@ fn a_session_ends(rt: HostRuntime) {
 }
 
 /// Whether the session begins, and takes the peer's begin.
-fn begins<S: Session + Drop>(mut session: S) -> bool {
+fn begins<S: Session>(mut session: S) -> bool {
     let sent = is_done(session.send_begin());
     let taken = is_done(session.on_incoming_begin(IncomingChannel(3), begin(7)));
     let state = session.local_state();
-    drop(session);
+    leak(session);
     sent && taken && state == SessionState::Mapped
 }
 
@@ -262,9 +261,9 @@ fn a_control_link_is_attached_below(rt: HostRuntime) {
     let mut session = at_once(alloc, SessionState::Mapped);
     let attach = control_attach(Text::new(alloc), 0);
     let given = count_given(session.on_control_attach(&attach));
-    drop(attach);
+    leak(attach);
     let opened = session.links_opened();
-    drop(session);
-    assert_eq!(rt; given, 2);
-    assert_eq!(rt; opened, 0);
+    leak(session);
+    assert!(rt; given == 2);
+    assert!(rt; opened == 0);
 }

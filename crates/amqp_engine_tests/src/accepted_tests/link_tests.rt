@@ -1,14 +1,16 @@
 //! The links of a session that was accepted: from the peer's begin and attaches to a post that is
 //! committed.
 
-use crate::tests::engine_calls::{Engine, asked, committed, given_for, transactional_engine};
-use crate::tests::test_values::{connection, session_of, transactional, transfer};
+use crate::accepted_tests::engine_calls::{
+    Engine, asked, committed, given_for, transactional_engine,
+};
+use crate::accepted_tests::test_values::{connection, session_of, transactional, transfer};
 use amqp_accept_links::{AcceptorAttachError, LinkAcceptor, LinkEndpoint, SessionHandle};
 use amqp_below_sessions::ListenerSessionEndpoint;
 use amqp_engine_events::{SessionControl, SessionEngine};
 use amqp_links::Poll;
 use amqp_resource_session::numbered_id;
-use amqp_test_values::{control_attach, sender_attach, under};
+use amqp_test_values::{control_attach, leak, sender_attach, under, value_of};
 use amqp_txn_types::{Frame, Frames, OutputHandle, Text, TransactionId};
 use std::alloc::Global;
 use std::process::Abort;
@@ -25,7 +27,7 @@ pub fn accept_link<S: ListenerSessionEndpoint>(
     let mut handle = SessionHandle::new(engine.session_mut());
     let answer = acceptor.accept(alloc, &mut handle);
     drop(handle);
-    drop(acceptor);
+    leak(acceptor);
     answer
 }
 
@@ -34,8 +36,8 @@ fn accept_session(alloc: Global) -> Option<Engine> {
     let acceptor = transactional();
     let mut connection = connection(alloc, 1);
     let answer = acceptor.accept(alloc, &mut connection);
-    drop(acceptor);
-    drop(connection);
+    leak(acceptor);
+    leak(connection);
     transactional_engine(session_of(answer)?)
 }
 
@@ -46,7 +48,7 @@ fn attach_control(alloc: Global, engine: &mut Engine) -> Option<usize> {
 
 /// How many frames are to be sent for the attach of the peer's sender.
 fn attach_sender(alloc: Global, engine: &mut Engine) -> Option<usize> {
-    let name = Text::from_str(alloc, "orders").ok()?;
+    let name = value_of(Text::from_str(alloc, "orders"))?;
     given_for(engine, Frame::Attach(sender_attach(name, 5, None)))
 }
 
@@ -56,7 +58,7 @@ fn frames_of_receiver(answer: Accepted) -> Option<usize> {
         Poll::Ready(Ok((LinkEndpoint::Receiver(_), frames))) => Some(frames.len()),
         _ => None,
     };
-    drop(answer);
+    leak(answer);
     found
 }
 
@@ -85,12 +87,12 @@ fn post(engine: &mut Engine, txn_id: TransactionId) -> Option<usize> {
 fn a_post_on_an_accepted_link_is_committed(rt: HostRuntime) {
     let mut engine = with_links(&rt, rt.alloc());
     let id = numbered_id(1);
-    drop(asked(&mut engine, SessionControl::AllocateTransactionId));
+    leak(asked(&mut engine, SessionControl::AllocateTransactionId));
     let presumed = post(&mut engine, id);
     let held_back = transfers_below(&engine);
     let handed = committed(&mut engine, id);
     let taken = transfers_below(&engine);
-    drop(engine);
+    leak(engine);
     assert!(rt; presumed == Some(1));
     assert!(rt; held_back == Some(0));
     assert!(rt; handed == Some(Ok(1)));
@@ -102,7 +104,7 @@ fn no_link_waits(rt: HostRuntime) {
     let alloc = rt.alloc();
     let mut engine = accept_session(alloc).expect(&rt, "a session");
     let answer = accept_link(alloc, &mut engine);
-    drop(engine);
+    leak(engine);
     assert!(rt; matches!(&answer, Poll::Pending));
-    drop(answer);
+    leak(answer);
 }

@@ -1,7 +1,7 @@
 //! What accepting a link answers once its session stopped, and who ended it closed its queue.
 
-use crate::tests::link_tests::accept_link;
-use crate::tests::test_values::{connection, session_of};
+use crate::accepted_tests::link_tests::accept_link;
+use crate::accepted_tests::test_values::{connection, session_of};
 use amqp_accept_links::{AcceptorAttachError, LinkAcceptor, SessionHandle};
 use amqp_accept_listener::ListenerSession;
 use amqp_below_layer::SessionInnerError;
@@ -9,6 +9,7 @@ use amqp_below_sessions::{ListenerSessionEndpoint, PlainSession};
 use amqp_engine_events::{SessionEngine, SessionFrame, SessionFrameBody};
 use amqp_links::Poll;
 use amqp_resource_accepted::*;
+use amqp_test_values::{leak, same};
 use amqp_txn_types::{ConnectionStopReason, End, SessionStopReason};
 use std::alloc::Global;
 
@@ -20,7 +21,7 @@ fn plain_engine(session: AcceptedSession) -> Option<Engine> {
     match session {
         AcceptedSession::Plain(engine) => Some(engine),
         AcceptedSession::Transactional(engine) => {
-            drop(engine);
+            leak(engine);
             None
         }
     }
@@ -31,21 +32,18 @@ fn accept_session(alloc: Global) -> Option<Engine> {
     let acceptor = SessionAcceptor::new();
     let mut connection = connection(alloc, 1);
     let answer = acceptor.accept(alloc, &mut connection);
-    drop(acceptor);
-    drop(connection);
+    leak(acceptor);
+    leak(connection);
     plain_engine(session_of(answer)?)
 }
 
 /// Whether accepting a link answers that the session stopped for this reason.
-fn tells_stop<T: Drop>(
-    answer: Poll<Result<T, AcceptorAttachError>>,
-    reason: SessionStopReason,
-) -> bool {
+fn tells_stop<T>(answer: Poll<Result<T, AcceptorAttachError>>, reason: SessionStopReason) -> bool {
     match answer {
-        Poll::Ready(Err(error)) => error == AcceptorAttachError::SessionStopped(reason),
+        Poll::Ready(Err(error)) => same(error, AcceptorAttachError::SessionStopped(reason)),
         other => {
-            drop(other);
-            drop(reason);
+            leak(other);
+            leak(reason);
             false
         }
     }
@@ -54,7 +52,7 @@ fn tells_stop<T: Drop>(
 /// The peer's end comes, and the session's owner closes its queue.
 fn end_by_peer(engine: &mut Engine) {
     let end = SessionFrameBody::End(End { error: None });
-    drop(engine.on_incoming(SessionFrame {
+    leak(engine.on_incoming(SessionFrame {
         channel: 3,
         body: end,
     }));
@@ -67,7 +65,7 @@ fn a_session_that_the_peer_ended_is_told(rt: HostRuntime) {
     let mut engine = accept_session(alloc).expect(&rt, "a session");
     end_by_peer(&mut engine);
     let answer = accept_link(alloc, &mut engine);
-    drop(engine);
+    leak(engine);
     assert!(rt; tells_stop(answer, SessionStopReason::RemoteEnded));
 }
 
@@ -75,12 +73,12 @@ fn a_session_that_the_peer_ended_is_told(rt: HostRuntime) {
 fn after_remote_close(alloc: Global, engine: Engine) -> bool {
     let stopped = SessionInnerError::ConnectionStopped(ConnectionStopReason::RemoteClosed);
     let (mut session, outcome) = engine.finish(Err(stopped));
-    drop(outcome);
+    leak(outcome);
     session.close_listener();
     let acceptor = LinkAcceptor::new();
     let answer = acceptor.accept(alloc, &mut SessionHandle::new(&mut session));
-    drop(acceptor);
-    drop(session);
+    leak(acceptor);
+    leak(session);
     tells_stop(
         answer,
         SessionStopReason::ConnectionStopped(ConnectionStopReason::RemoteClosed),

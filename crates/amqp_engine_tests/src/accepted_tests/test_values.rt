@@ -7,9 +7,10 @@ use amqp_below_sessions::{BeginError, PlainSession};
 use amqp_links::Poll;
 use amqp_resource_accepted::*;
 use amqp_resource_session::TxnSession;
-use amqp_test_values::{begin, transfer as transfer_on};
+use amqp_test_values::{begin, leak, transfer as transfer_on};
 use amqp_txn_types::{Begin, ConnectionStopReason, DeliveryState, Frame, Payload};
 use std::alloc::Global;
+use std::mem::replace;
 
 /// A session that does transactions, whose peer's attaches wait.
 pub type Listening = TxnSession<ListenerSession<PlainSession>>;
@@ -26,7 +27,7 @@ pub fn incoming() -> IncomingSession {
 pub fn connection(alloc: Global, count: u8) -> MemoryConnection {
     let mut connection = MemoryConnection::new(alloc, 0);
     for _turn in 0..count {
-        drop(connection.push_session(incoming()));
+        leak(connection.push_session(incoming()));
     }
     connection
 }
@@ -52,11 +53,11 @@ pub fn session_of(
     match answer {
         Poll::Pending => None,
         Poll::Ready(Ok((session, begin))) => {
-            drop(begin);
+            leak(begin);
             Some(session)
         }
         Poll::Ready(Err(error)) => {
-            drop(error);
+            leak(error);
             None
         }
     }
@@ -67,7 +68,7 @@ pub fn word(answer: Poll<Result<(AcceptedSession, Begin), BeginError>>) -> &'sta
     match answer {
         Poll::Pending => "pending",
         Poll::Ready(Ok((session, begin))) => {
-            drop(begin);
+            leak(begin);
             kind(session)
         }
         Poll::Ready(Err(error)) => error_word(error),
@@ -79,7 +80,7 @@ fn kind(session: AcceptedSession) -> &'static str {
         AcceptedSession::Plain(_) => "plain",
         AcceptedSession::Transactional(_) => "transactional",
     };
-    drop(session);
+    leak(session);
     found
 }
 
@@ -90,7 +91,7 @@ pub fn error_word(error: BeginError) -> &'static str {
         BeginError::LocalChannelMaxReached => "no channel",
         _ => "another error",
     };
-    drop(error);
+    leak(error);
     found
 }
 
@@ -98,7 +99,7 @@ pub fn error_word(error: BeginError) -> &'static str {
 pub fn transfer(state: Option<DeliveryState>) -> Frame {
     let mut transfer = transfer_on(5);
     transfer.delivery_id = Some(7);
-    transfer.state = state;
+    leak(replace(&mut transfer.state, state));
     Frame::Transfer {
         transfer,
         payload: Payload::new(),

@@ -1,6 +1,6 @@
 //! Sessions that are accepted and begun, on each answer of the connection.
 
-use crate::tests::test_values::{
+use crate::accepted_tests::test_values::{
     connection, error_word, incoming, stopped_connection, transactional, word,
 };
 use amqp_accept_links::ControlLinkAcceptor;
@@ -9,14 +9,15 @@ use amqp_below_layer::LayerBelow;
 use amqp_below_sessions::Session;
 use amqp_engine_builder::Builder;
 use amqp_resource_accepted::*;
+use amqp_test_values::{leak, value_of};
 use amqp_txn_types::{OutgoingChannel, SessionState};
 use std::alloc::Global;
 
 /// What an acceptor answers, in a word.
 fn accepted(alloc: Global, acceptor: SessionAcceptor, mut on: MemoryConnection) -> &'static str {
     let found = word(acceptor.accept(alloc, &mut on));
-    drop(acceptor);
-    drop(on);
+    leak(acceptor);
+    leak(on);
     found
 }
 
@@ -24,35 +25,35 @@ fn accepted(alloc: Global, acceptor: SessionAcceptor, mut on: MemoryConnection) 
 fn a_session_that_waits_is_accepted(rt: HostRuntime) {
     let alloc = rt.alloc();
     let plain = accepted(alloc, SessionAcceptor::new(), connection(alloc, 1));
-    assert_eq!(rt; plain, "plain");
+    assert!(rt; plain == "plain");
 }
 
 #[test]
 fn a_session_with_control_links_is_accepted(rt: HostRuntime) {
     let alloc = rt.alloc();
     let accepted = accepted(alloc, transactional(), connection(alloc, 1));
-    assert_eq!(rt; accepted, "transactional");
+    assert!(rt; accepted == "transactional");
 }
 
 #[test]
 fn no_session_waits(rt: HostRuntime) {
     let alloc = rt.alloc();
     let pending = accepted(alloc, SessionAcceptor::default(), connection(alloc, 0));
-    assert_eq!(rt; pending, "pending");
+    assert!(rt; pending == "pending");
 }
 
 #[test]
 fn no_session_will_come(rt: HostRuntime) {
     let alloc = rt.alloc();
     let stopped = accepted(alloc, SessionAcceptor::new(), stopped_connection(alloc, 0));
-    assert_eq!(rt; stopped, "stopped by the peer");
+    assert!(rt; stopped == "stopped by the peer");
 }
 
 #[test]
 fn a_session_waits_on_a_stopped_connection(rt: HostRuntime) {
     let alloc = rt.alloc();
     let stopped = accepted(alloc, SessionAcceptor::new(), stopped_connection(alloc, 1));
-    assert_eq!(rt; stopped, "stopped by the peer");
+    assert!(rt; stopped == "stopped by the peer");
 }
 
 #[test]
@@ -62,21 +63,21 @@ fn no_channel_is_left(rt: HostRuntime) {
     let acceptor = SessionAcceptor::new();
     let first = word(acceptor.accept(alloc, &mut on));
     let second = word(acceptor.accept(alloc, &mut on));
-    drop(acceptor);
-    drop(on);
-    assert_eq!(rt; first, "plain");
-    assert_eq!(rt; second, "no channel");
+    leak(acceptor);
+    leak(on);
+    assert!(rt; first == "plain");
+    assert!(rt; second == "no channel");
 }
 
 /// Whether a session is accepted on this channel, with a begin that answers the peer's.
 fn answers_peer(alloc: Global, acceptor: SessionAcceptor) -> bool {
     let answer = acceptor.accept_incoming_session(alloc, incoming(), OutgoingChannel(4));
-    drop(acceptor);
-    let Some((session, begin)) = answer.ok() else {
+    leak(acceptor);
+    let Some((session, begin)) = value_of(answer) else {
         return false;
     };
     let channel = begin.remote_channel;
-    drop(begin);
+    leak(begin);
     channel == Some(3) && is_plain_on(session, OutgoingChannel(4))
 }
 
@@ -91,7 +92,7 @@ fn is_plain_on(session: AcceptedSession, channel: OutgoingChannel) -> bool {
         AcceptedSession::Plain(engine) => is_mapped_on(engine.session(), channel),
         AcceptedSession::Transactional(_) => false,
     };
-    drop(session);
+    leak(session);
     found
 }
 
@@ -103,10 +104,10 @@ fn an_accepted_session_answers_the_peer(rt: HostRuntime) {
 /// What beginning a session answers, in a word.
 fn begun(alloc: Global, builder: Builder, mut on: MemoryConnection) -> &'static str {
     let answer = begin(alloc, builder, &mut on);
-    drop(on);
+    leak(on);
     match answer {
         Ok((session, begin)) => {
-            drop(begin);
+            leak(begin);
             began_kind(session)
         }
         Err(error) => error_word(error),
@@ -118,24 +119,21 @@ fn began_kind(session: BeganSession) -> &'static str {
         BeganSession::Plain(_) => "plain",
         BeganSession::Transactional(_) => "transactional",
     };
-    drop(session);
+    leak(session);
     found
 }
 
 #[test]
 fn a_session_of_this_side_begins(rt: HostRuntime) {
     let alloc = rt.alloc();
-    assert_eq!(rt; begun(alloc, Builder::new(), connection(alloc, 0)), "plain");
+    assert!(rt; begun(alloc, Builder::new(), connection(alloc, 0)) == "plain");
 }
 
 #[test]
 fn a_session_with_control_links_begins(rt: HostRuntime) {
     let alloc = rt.alloc();
     let builder = Builder::new().control_link_acceptor(ControlLinkAcceptor::default());
-    assert_eq!(rt;
-        begun(alloc, builder, connection(alloc, 0)),
-        "transactional"
-    );
+    assert!(rt; begun(alloc, builder, connection(alloc, 0)) == "transactional");
 }
 
 #[test]
@@ -143,5 +141,5 @@ fn no_session_begins_on_a_stopped_connection(rt: HostRuntime) {
     let alloc = rt.alloc();
     let builder = Builder::new().control_link_acceptor(ControlLinkAcceptor::default());
     let stopped = begun(alloc, builder, stopped_connection(alloc, 0));
-    assert_eq!(rt; stopped, "stopped by the peer");
+    assert!(rt; stopped == "stopped by the peer");
 }

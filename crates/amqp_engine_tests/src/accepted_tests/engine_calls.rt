@@ -1,13 +1,14 @@
 //! The calls of an accepted session's engine. Each says nothing of the session, so that each call of
 //! the engine is proved once.
 
-use crate::tests::test_values::{Listening, incoming, transactional};
+use crate::accepted_tests::test_values::{Listening, incoming, transactional};
 use amqp_below_ids::CountIds;
 use amqp_below_layer::SessionInnerError;
 use amqp_engine_events::{
     ControlReply, SessionControl, SessionEngine, SessionFrame, SessionFrameBody, Turn,
 };
 use amqp_resource_accepted::*;
+use amqp_test_values::{leak, value_of};
 use amqp_txn_types::{Frame, OutgoingChannel, TransactionError, TransactionId};
 use std::alloc::Global;
 
@@ -19,7 +20,7 @@ pub fn transactional_engine(session: AcceptedSession) -> Option<Engine> {
     match session {
         AcceptedSession::Transactional(engine) => Some(engine),
         AcceptedSession::Plain(engine) => {
-            drop(engine);
+            leak(engine);
             None
         }
     }
@@ -29,9 +30,9 @@ pub fn transactional_engine(session: AcceptedSession) -> Option<Engine> {
 pub fn accepted(alloc: Global) -> Option<Engine> {
     let acceptor = transactional();
     let answer = acceptor.accept_incoming_session(alloc, incoming(), OutgoingChannel(4));
-    drop(acceptor);
-    let (session, begin) = answer.ok()?;
-    drop(begin);
+    leak(acceptor);
+    let (session, begin) = value_of(answer)?;
+    leak(begin);
     transactional_engine(session)
 }
 
@@ -50,9 +51,9 @@ pub fn asked(engine: &mut Engine, control: SessionControl) -> Result<Turn, Sessi
 
 /// How many frames are to be sent for a frame; None where it was refused.
 pub fn given_for(engine: &mut Engine, frame: Frame) -> Option<usize> {
-    let turn = taken(engine, frame).ok()?;
+    let turn = value_of(taken(engine, frame))?;
     let count = turn.sent.given.len();
-    drop(turn);
+    leak(turn);
     Some(count)
 }
 
@@ -61,12 +62,12 @@ pub fn committed(
     engine: &mut Engine,
     txn_id: TransactionId,
 ) -> Option<Result<usize, TransactionError>> {
-    let turn = asked(engine, SessionControl::CommitTransaction { txn_id }).ok()?;
+    let turn = value_of(asked(engine, SessionControl::CommitTransaction { txn_id }))?;
     let found = match &turn.reply {
         ControlReply::Committed(Ok(echoes)) => Some(Ok(echoes.len())),
         ControlReply::Committed(Err(error)) => Some(Err(*error)),
         _ => None,
     };
-    drop(turn);
+    leak(turn);
     found
 }
