@@ -12,7 +12,7 @@ use amqp_below_layer::{OpenSession, SessionInnerError, Tells};
 use amqp_below_recorder::Recorder;
 use amqp_below_sessions::PlainSession;
 use amqp_resource_record::StopCode;
-use amqp_test_values::{call_numbers, control_attach, plain_session, transfer};
+use amqp_test_values::{call_numbers, control_attach, leak, plain_session, transfer};
 use amqp_txn_types::{Frame, Payload, SessionState, Text, TransactionId, Transfer};
 use std::alloc::Global;
 use std::process::Abort;
@@ -67,7 +67,7 @@ fn happens<R: Abort>(rt: &R, world: &mut Played, event: Event, wanted: Happened)
     requires { IsDeclare event → ⊥ }
 {
     let happened = world.event(&event).expect(rt, "ample memory");
-    drop(event);
+    leak(event);
     assert!(rt; happened == wanted);
 }
 
@@ -78,10 +78,16 @@ fn discharged<R: Abort>(rt: &R, alloc: Global, layer: Recorder<OpenSession>, end
         ≡ session_states.Mapped }
     requires discharge { IsDeclare end → ⊥ }
 {
-    let Ok(mut world) = World::new(alloc, layer, 1, ids(rt, alloc)) else {
-        rt.abort();
+    let mut world = match World::new(alloc, layer, 1, ids(rt, alloc)) {
+        Ok(world) => world,
+        Err(back) => {
+            leak(back);
+            panic!(rt; "a world")
+        }
     };
-    let happened = world.event(&Event::Declare(0)).expect(rt, "ample memory");
+    let declare = Event::Declare(0);
+    let happened = world.event(&declare).expect(rt, "ample memory");
+    leak(declare);
     assert!(rt; happened == Happened::Put);
     happens(rt, &mut world, Event::Arrive, Happened::Arrived);
     happens(rt, &mut world, Event::Return, Happened::Heard);
@@ -113,7 +119,7 @@ fn took_the_post<R: Abort>(rt: &R, alloc: Global, world: &Played) {
     let taken = world.below().exchanges();
     assert!(rt; taken.len() == 1);
     assert!(rt; taken.get(0).expect(rt, "one was taken").0 == wanted);
-    drop(wanted);
+    leak(wanted);
 }
 
 /// Nothing was taken.
@@ -130,7 +136,7 @@ fn a_commit_that_was_accepted_is_heard(rt: HostRuntime) {
     hears(&rt, &world, Heard::Committed);
     took_the_post(&rt, rt.alloc(), &world);
     assert!(rt; world.stop() == None);
-    drop(world);
+    leak(world);
 }
 
 #[test]
@@ -141,7 +147,7 @@ fn nothing_returns_after_a_cut(rt: HostRuntime) {
     happens(&rt, &mut world, Event::Return, Happened::Skipped);
     hears(&rt, &world, Heard::Nothing);
     took_the_post(&rt, rt.alloc(), &world);
-    drop(world);
+    leak(world);
 }
 
 #[test]
@@ -151,7 +157,7 @@ fn a_rollback_hands_nothing(rt: HostRuntime) {
     happens(&rt, &mut world, Event::Return, Happened::Heard);
     hears(&rt, &world, Heard::RolledBack);
     took_nothing(&rt, &world);
-    drop(world);
+    leak(world);
 }
 
 #[test]
@@ -162,7 +168,7 @@ fn a_vetoed_commit_is_heard_as_rejected(rt: HostRuntime) {
     hears(&rt, &world, Heard::Rejected);
     took_nothing(&rt, &world);
     assert!(rt; world.stop() == None);
-    drop(world);
+    leak(world);
 }
 
 #[test]
@@ -174,7 +180,7 @@ fn a_commit_that_ran_out_of_memory_below_is_not_answered(rt: HostRuntime) {
     took_nothing(&rt, &world);
     assert!(rt; world.stop() == Some(StopCode::BelowNoMemory));
     assert!(rt; world.handed() == 0);
-    drop(world);
+    leak(world);
 }
 
 #[test]
@@ -189,7 +195,7 @@ fn what_is_not_plain_is_skipped(rt: HostRuntime) {
     happens(&rt, &mut world, Event::Arrive, Happened::Arrived);
     happens(&rt, &mut world, Event::Arrive, Happened::Skipped);
     hears(&rt, &world, Heard::Nothing);
-    drop(world);
+    leak(world);
 }
 
 /// The attach was refused for its handle.
@@ -205,13 +211,13 @@ fn a_refused_attach_gives_the_layer_back(rt: HostRuntime) {
     let below = narrow_listener(rt.alloc());
     match World::new(rt.alloc(), below, 2, ids(&rt, rt.alloc())) {
         Ok(world) => {
-            drop(world);
-            rt.abort();
+            leak(world);
+            panic!(rt; "a refused attach");
         }
         Err((below, error)) => {
             assert!(rt; names_the_handle(&error));
-            drop(error);
-            drop(below);
+            leak(error);
+            leak(below);
         }
     }
 }
