@@ -7,6 +7,7 @@ use Rattle.amqp_txn_codec.specs.Canon.{canon}
 use Rattle.amqp_txn_codec.specs.Reading.{message_of}
 use Rattle.amqp_resource_record.specs.declared.entry.Entry.{Entry}
 use Rattle.amqp_resource_session.specs.Session.{bare_frames_on}
+use Rattle.daxurbi_layer.specs.Answering.{answer_of}
 use Rattle.daxurbi_layer.specs.declared.below_answer.BelowAnswer.{BelowAnswer}
 use Rattle.daxurbi_session.specs.Payloads.{kind_and_id, message_of_kind}
 use Rattle.daxurbi_session.specs.Reporting.{frames_text, report_of}
@@ -16,7 +17,7 @@ use Rattle.daxurbi_session.specs.declared.control_payloads.MessageKind.{MessageK
 use Rattle.daxurbi_session.specs.declared.control_payloads.MessageKind.TheVariants as kinds
 use Rattle.daxurbi_session.specs.declared.slot_session.SlotSession.{SlotSession}
 use Rattle.daxurbi_session.specs.declared.slot_session.Stepped.{Stepped}
-use Rattle.daxurbi.specs.Numbers.{answer_of, kind_of, number_of, step_code}
+use Rattle.daxurbi.specs.Numbers.{kind_of, number_of, step_code}
 
 -- ---- slots
 

@@ -1,7 +1,8 @@
 //! The numbers that stand for answers, for what a layer below is told, and for kinds of messages.
 
 ghost use Rattle.std.specs.Prelude.{◌≡◌};
-ghost use Rattle.daxurbi.specs.Numbers.{answer_of, kind_of, number_of, step_code};
+ghost use Rattle.daxurbi_layer.specs.Answering.{answer_of};
+ghost use Rattle.daxurbi.specs.Numbers.{kind_of, number_of, step_code};
 
 use daxurbi_layer::{BelowAnswer, NamedError};
 use daxurbi_session::{MessageKind, Stepped};

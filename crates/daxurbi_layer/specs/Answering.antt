@@ -1,5 +1,5 @@
 -- What a layer below answers, by what it was told beforehand.
-use Rattle.std.specs.Prelude.{ℕ, Option, Some, None, Result, Ok, Err, List, [], ◌∷◌, length}
+use Rattle.std.specs.Prelude.{ℕ, Bool, cond, Option, Some, None, Result, Ok, Err, List, [], ◌∷◌, length, slice_get}
 use Rattle.std.specs.List.{sum_by}
 use Rattle.amqp_txn_types.specs.declared.items.NoMemory.{NoMemory}
 use Rattle.amqp_txn_types.specs.declared.delivery.ConnectionStopReason.TheVariants as stop_reasons
@@ -46,11 +46,46 @@ abbrev pub unless_take : BelowAnswer → ℕ → ℕ
 unless_take answers.Take count = 0
 unless_take _ count = count
 
--- the numbers of the frame calls that it refuses: the first, after which no other comes, unless it
--- was told to take
-abbrev pub planned_told : BelowAnswer → List ℕ
-planned_told answers.Take = []
-planned_told _ = 1 ∷ []
+-- what a layer may be told, in the order of its numbers from 0
+abbrev pub answers_told : List BelowAnswer
+answers_told =
+    answers.Take ∷ answers.Veto ∷ answers.Refuse names.UnattachedHandle
+    ∷ answers.Refuse names.LinkNameNotFound ∷ answers.Refuse names.HandleInUse
+    ∷ answers.Refuse names.IllegalState ∷ answers.Refuse names.TransferToSender
+    ∷ answers.Refuse names.ConnectionStopped ∷ answers.Refuse names.RemoteEnded
+    ∷ answers.Refuse names.NoMemory ∷ []
+
+-- what a layer is told by a number
+abbrev pub answer_of : ℕ → Option BelowAnswer
+answer_of number = slice_get answers_told number
+
+-- the number of what it was told
+abbrev pub number_named : NamedError → ℕ
+number_named names.UnattachedHandle = 2
+number_named names.LinkNameNotFound = 3
+number_named names.HandleInUse = 4
+number_named names.IllegalState = 5
+number_named names.TransferToSender = 6
+number_named names.ConnectionStopped = 7
+number_named names.RemoteEnded = 8
+number_named names.NoMemory = 9
+
+abbrev pub number_told : BelowAnswer → ℕ
+number_told answers.Take = 0
+number_told answers.Veto = 1
+number_told (answers.Refuse error) = number_named error
+
+-- the error that it lists what it refused with: what was told; told to take, an illegal state
+abbrev pub error_of : Option SessionInnerError → SessionInnerError
+error_of None = faults.IllegalState
+error_of (Some error) = error
+
+-- told to take: how many refusals it doesn't list once it took something, and whether it lists one
+-- before
+abbrev pub unlisted : BelowAnswer → List (Frame × List Frame) → Bool → ℕ → ℕ
+unlisted answers.Take [] listed refusals = cond listed 1 0
+unlisted answers.Take (first ∷ rest) listed refusals = cond listed 0 refusals
+unlisted _ taken listed refusals = 0
 
 -- how many frames were given back for those that were taken
 abbrev pub given_count : List (Frame × List Frame) → ℕ

@@ -19,6 +19,7 @@
 #![tactic(auto)]
 
 mod below_answer;
+mod refused;
 mod told_layer;
 
 pub use below_answer::{BelowAnswer, NamedError};

@@ -1,5 +1,5 @@
 -- What the checks of a layer that was told its answer say of what was told.
-use Rattle.std.proofs.Common.{List, None, Option, Some, [], ap, refl, subst, sym, ◌∙◌, ◌++◌, ◌∷◌, ◌≡◌, Result, Ok, Err, Bool, true, false}
+use Rattle.std.proofs.Common.{List, None, Option, Some, [], ap, refl, sym, ◌∙◌, ◌∷◌, ◌≡◌, Result, Ok, Err, Bool, true, false}
 use Rattle.std.specs.Prelude.{MatchBool, IfOk}
 use Rattle.amqp_below_ids.specs.Drawn.{DrawnIds}
 use Rattle.amqp_below_layer.specs.OneFrame.{ChecksAll, ChecksFrame, ChecksTo}
@@ -9,7 +9,7 @@ use Rattle.amqp_resource_record.specs.declared.step.Step.{Step}
 use Rattle.amqp_resource_record.specs.declared.step.Step.TheVariants as steps
 use Rattle.amqp_resource_record.specs.declared.stop.StepError.{StepError}
 use Rattle.amqp_resource_record.specs.declared.stop.StepError.TheVariants as errors
-use Rattle.amqp_resource_session.specs.Steps.{ChecksAnswer, ChecksUnder, ChecksWork, IfRefused, fault_of, is_unknown}
+use Rattle.amqp_resource_session.specs.Steps.{ChecksUnder, ChecksWork, IfRefused, fault_of, is_unknown}
 use Rattle.amqp_txn_types.specs.Frames.{txn}
 use Rattle.amqp_txn_types.specs.Presumptive.{answered_under}
 use Rattle.amqp_txn_types.specs.declared.id.TransactionId.{TransactionId}
@@ -24,13 +24,13 @@ use Rattle.daxurbi_session.specs.ToldSteps.{IfChecked, RefusedAsTold, answered_f
 
 -- how such a layer checks
 abbrev pub checks : ToldLayer → ToldLayer → Disposition → Result Unit SessionInnerError → Type 0
-checks old new disposition answer = Answers tt old new answer
+checks old new disposition answer = Answers old new answer
 
-none_told : (o : Option SessionInnerError) → PlainAnswer {T = Unit {0}} o tt (Ok tt) → o ≡ None
+none_told : (o : Option SessionInnerError) → PlainAnswer o (Ok tt) → o ≡ None
 none_told None fine = refl
 none_told (Some error) fine = absurd (cc fine)
 
-some_told : (o : Option SessionInnerError) (own : SessionInnerError) → PlainAnswer {T = Unit {0}} o tt (Err own) → o ≡ Some own
+some_told : (o : Option SessionInnerError) (own : SessionInnerError) → PlainAnswer o (Err own) → o ≡ Some own
 some_told None own not = absurd (cc not)
 some_told (Some error) own is = cc is
 

@@ -1,3 +1,5 @@
+pub mod AsTold
 pub mod Checked
 pub mod Made
+pub mod Sent
 pub mod Told

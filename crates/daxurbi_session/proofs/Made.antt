@@ -1,5 +1,5 @@
 -- What a step makes of a slot's session, from what it makes of the session.
-use Rattle.std.proofs.Common.{Bool, List, None, Option, Some, [], refl, subst, sym, true, ℕ, ◌∙◌, ◌∷◌, ◌≡◌, Result, Ok, Err}
+use Rattle.std.proofs.Common.{List, None, Option, Some, refl, subst, sym, true, ℕ, ◌∙◌, ◌≡◌, Ok, Err}
 use Rattle.amqp_below_ids.specs.Drawn.{DrawnIds}
 use Rattle.amqp_below_layer.specs.declared.inner_error.SessionInnerError.{SessionInnerError}
 use Rattle.amqp_below_layer.specs.declared.inner_error.SessionInnerError.TheVariants as faults
@@ -10,20 +10,16 @@ use Rattle.amqp_resource_record.specs.declared.entry.Entry.{Entry}
 use Rattle.amqp_resource_record.specs.declared.reply.Reply.{Reply}
 use Rattle.amqp_resource_record.specs.declared.reply.Reply.TheVariants as replies
 use Rattle.amqp_resource_record.specs.declared.step.Step.{Step}
-use Rattle.amqp_resource_record.specs.declared.stop.Stop.{Stop}
 use Rattle.amqp_resource_record.specs.declared.stop.Stop.TheVariants as stops
-use Rattle.amqp_resource_record.specs.declared.stop.StepError.{StepError}
 use Rattle.amqp_resource_record.specs.declared.stop.StepError.TheVariants as errors
 use Rattle.amqp_resource_session.specs.Session.{stop_of}
 use Rattle.amqp_resource_session.specs.Steps.{IfRefused, IfUnknown, IfVeto, MayFault, UnderDead}
-use Rattle.amqp_resource_session.specs.declared.session.TxnSession.{TxnSession}
 use Rattle.amqp_txn_types.specs.declared.delivery.SessionStopReason.{SessionStopReason}
 use Rattle.amqp_txn_types.specs.declared.performatives.Frame.{Frame}
 use Rattle.amqp_txn_types.specs.declared.small.TransactionError.TheVariants as transaction_errors
 use Rattle.daxurbi_layer.specs.declared.below_answer.BelowAnswer.{BelowAnswer}
-use Rattle.daxurbi_layer.specs.declared.told_layer.ToldLayer.{ToldLayer}
-use Rattle.daxurbi_session.specs.Slots.{FitsStop, LastAnswered, LastStopped, SameSlot, StepAnswered, StepStopped, StopFits}
-use Rattle.daxurbi_session.specs.ToldSteps.{RecordSays, ToldStep}
+use Rattle.daxurbi_session.specs.Slots.{LastAnswered, LastStopped, SameSlot, StepAnswered, StepStopped, StopFits}
+use Rattle.daxurbi_session.specs.ToldSteps.{ToldStep}
 use Rattle.daxurbi_session.specs.declared.last_step.Ending.TheVariants as endings
 use Rattle.daxurbi_session.specs.declared.last_step.LastStep.{LastStep}
 use Rattle.daxurbi_session.specs.declared.slot_session.SlotSession.{SlotSession}
@@ -51,7 +47,7 @@ made_answered old new step told taken drawn reply said last =
     let entry : Entry = record { step = step; drawn = drawn; reply = reply } in
     let makes : StepAnswered old new step told entry taken = record {
       made = refl;
-      records = λ r stands. let by = said.by_record r stands in record { answer = by.answer; stands = by.stands; handed = by.handed };
+      records = λ r stands. let by = said.by_record r stands in record { answer = by.answer; stands = by.stands; handed = by.handed; replies = by.replies };
       veto = veto_told reply _ said.veto;
       untaken = said.untaken;
       ungiven = said.ungiven;
@@ -84,7 +80,7 @@ pub made_fault : (old new : SlotSession) (step : Step) (told : BelowAnswer) (tak
     → LastStopped new.last (StepStopped old new step told)
 made_fault old new step told taken error handed said last =
     let makes : StepStopped old new step told (stops.Fault error) handed taken = record {
-      records = λ r stands. let by = said.by_record r stands in record { cause = fault_fits r step error handed by.unknown_only by.refusal; took = by.first };
+      records = λ r stands. let by = said.by_record r stands in record { cause = fault_fits r step error handed by.unknown_only by.refusal; took = by.first; refused = by.refused };
       untaken = said.untaken;
       surely = said.surely;
       checked = said.check_refused;
@@ -100,7 +96,7 @@ pub made_end : (old new : SlotSession) (step : Step) (told : BelowAnswer) (taken
     → LastStopped new.last (StepStopped old new step told)
 made_end old new step told taken reason said last =
     let makes : StepStopped old new step told (stops.Ended reason) 0 taken = record {
-      records = λ r stands. let by = said.by_record r stands in record { cause = said.ended_only; took = by.first };
+      records = λ r stands. let by = said.by_record r stands in record { cause = said.ended_only; took = by.first; refused = tt };
       untaken = said.untaken;
       surely = tt;
       checked = tt;

@@ -1,34 +1,38 @@
 -- A step over a layer that is told its answer, from what a step says.
-use Rattle.std.proofs.Common.{Bool, List, None, Option, Some, [], ap, false, length, refl, subst, sym, take, true, ℕ, ◌+◌, ◌++◌, ◌∙◌, ◌∷◌, ◌≡◌, ◌≤◌, Result, Ok, Err, arith}
-use Rattle.std.specs.Prelude.{MatchBool, IfErr, IfOk}
+use Rattle.std.proofs.Common.{Bool, List, Some, [], ap, false, length, refl, subst, sym, take, true, ℕ, ◌∙◌, ◌≡◌, ◌≤◌, ◌⊎◌, inl, inr, Result, Ok, Err, arith}
+use Rattle.std.specs.Prelude.{MatchBool, IfErr}
 use Rattle.std.specs.List.{zip}
 use Rattle.std.proofs.lemmas.Option.{same_Some}
 use Rattle.std.proofs.lemmas.Slice.Zip.{firsts-zip}
 use Rattle.amqp_below_ids.specs.Drawn.{DrawnIds}
-use Rattle.amqp_below_layer.specs.OneFrame.{TookFrames}
 use Rattle.amqp_below_layer.specs.Told.{Told}
-use Rattle.amqp_below_layer.specs.declared.inner_error.SessionInnerError.{SessionInnerError}
 use Rattle.amqp_resource_record.specs.Hands.{hands}
 use Rattle.amqp_resource_record.specs.Work.{given_by, handed_by}
 use Rattle.amqp_resource_record.specs.declared.entry.Entry.{Entry}
 use Rattle.amqp_resource_record.specs.declared.reply.Reply.{Reply}
 use Rattle.amqp_resource_record.specs.declared.reply.Reply.TheVariants as replies
 use Rattle.amqp_txn_types.specs.declared.small.TransactionError.TheVariants as transaction_errors
-use Rattle.daxurbi_layer.specs.Answering.{planned_told, unless_take}
-use Rattle.daxurbi_layer.specs.declared.below_answer.BelowAnswer.{BelowAnswer}
-use Rattle.daxurbi_layer.specs.declared.below_answer.BelowAnswer.TheVariants as answers
+use Rattle.amqp_below_layer.specs.declared.refusal.Refusal.{Refusal}
+use Rattle.amqp_below_layer.specs.declared.verdict.Verdict.TheVariants as verdicts
+use Rattle.amqp_resource_held.specs.Views.{view_of_record}
+use Rattle.amqp_resource_record.specs.Opened.{opened_by, refused_by}
+use Rattle.daxurbi_layer.specs.Answering.{error_of, refusal_told, verdict_told}
+use Rattle.daxurbi_layer.specs.Handing.{told_of}
+use Rattle.daxurbi_layer.specs.Refusing.{opened_list, refused_list}
 use Rattle.amqp_resource_record.specs.declared.step.Step.{Step}
 use Rattle.amqp_resource_record.specs.declared.stop.StepError.{StepError}
 use Rattle.amqp_resource_record.specs.declared.stop.StepError.TheVariants as errors
 use Rattle.amqp_resource_session.specs.Session.{held_of}
 use Rattle.amqp_resource_session.specs.StepClauses.{StepRecords}
-use Rattle.amqp_resource_session.specs.Steps.{IfUnknown, IfVeto, IsFirstStop, OnNoCall, OnNoMemory, OnVeto, TookFirst, TookHands, calls_nothing, is_unknown}
+use Rattle.amqp_resource_session.specs.Steps.{IfRefused, IfVeto, IsFirstStop, OnNoCall, OnNoMemory, OnVeto, TookFirst, TookHands, calls_nothing, is_unknown}
 use Rattle.amqp_resource_session.specs.declared.session.TxnSession.{TxnSession}
+use Rattle.amqp_txn_types.specs.Counts.{Rose}
 use Rattle.amqp_txn_types.specs.Growing.{grown}
 use Rattle.amqp_txn_types.specs.declared.id.TransactionId.{TransactionId}
 use Rattle.amqp_txn_types.specs.declared.performatives.Frame.{Frame}
 use Rattle.daxurbi_layer.specs.declared.told_layer.ToldLayer.{ToldLayer}
-use Rattle.daxurbi_session.specs.ToldSteps.{IfStopped, RecordSays, TookOnly, frames_taken}
+use Rattle.daxurbi_session.specs.ToldSteps.{IfChecked, RecordSays, RefusedAsTold, TookOnly, answered_with, frames_taken}
+use Rattle.daxurbi_session.proofs.AsTold.{refusal_as_told, reply_told}
 
 -- ---- what was taken
 
@@ -67,49 +71,67 @@ only_dead false P handed dead = tt
 
 -- ---- by a record
 
-pub told_record : (old_told new_told : Told) (ids : ℕ → TransactionId) (new : TxnSession ToldLayer) (entries : List Entry) (step : Step)
-    (taken : List (Frame × List Frame)) (result : Result (DrawnIds × Reply) StepError)
-    → old_told.taken ≡ Some [] → new_told.taken ≡ Some taken → OnNoCall step result (taken ≡ []) → IfErr result IsFirstStop
-    → StepRecords old_told new_told ids (held_of new) entries step result → RecordSays entries new step taken result
-told_record old_told new_told ids new entries step taken (Ok out) none some nothing runs said = record {
-  answer = said.answer;
-  stands = said.stands;
-  handed = took_all old_told new_told entries step out.1 taken none some said.taken;
+pub told_record : (old : Told) (layer : ToldLayer) (ids : ℕ → TransactionId) (new : TxnSession ToldLayer) (entries : List Entry) (step : Step)
+    (result : Result (DrawnIds × Reply) StepError)
+    → old.taken ≡ Some [] → old.opened ≡ Some [] → old.refused ≡ Some [] → OnNoCall step result (layer.taken.items ≡ []) → IfErr result IsFirstStop
+    → IfRefused result (λ error handed. 1 ≤ layer.refusals) → IfRefused result (λ error handed. IfChecked (answered_with step) (RefusedAsTold layer.answer error))
+    → StepRecords old (told_of layer) ids (held_of new) entries step result → RecordSays entries new step layer.answer layer.taken.items result
+told_record old layer ids new entries step (Ok out) none unopened unrefused nothing runs rose checked said =
+    let listing : List Refusal = refused_list (error_of (refusal_told layer.answer)) layer.refused in
+    let handed : layer.taken.items ≡ zip (handed_by entries step out.1) (given_by step out.1) = took_all old (told_of layer) entries step out.1 layer.taken.items none refl said.taken in
+    let opens : Some (opened_list layer.opened) ≡ Some (opened_by step out.1) = said.opened ∙ ap (λ o. grown o (opened_by step out.1)) unopened in
+    let refuses : Some listing ≡ Some (refused_by step out.1) = said.refused ∙ ap (λ o. grown o (refused_by step out.1)) unrefused in
+    record {
+      answer = said.answer;
+      stands = said.stands;
+      handed = handed;
+      first = tt;
+      unknown = said.unknown;
+      unknown_only = tt;
+      refusal = tt;
+      replies = reply_told (Rose old.refusals layer.refusals) layer.answer layer.opened layer.taken.items layer.refused layer.refusals entries step out.0.ids out.1
+          layer.unopened layer.listed said.answer handed said.attach_refused (same_Some (opened_list layer.opened) (opened_by step out.1) opens) (same_Some listing (refused_by step out.1) refuses);
+      refused = tt;
+      memory = tt;
+    }
+told_record old layer ids new entries step (Err (errors.Fault error handed)) none unopened unrefused nothing runs rose checked said =
+    let took : TookOnly entries step layer.taken.items handed = took_fault (is_unknown error) old (told_of layer) entries step handed layer.taken.items _ none refl said.unknown_only said.handed nothing in
+    record {
+      answer = tt;
+      stands = tt;
+      handed = tt;
+      first = took;
+      unknown = said.unknown;
+      unknown_only = only_dead (is_unknown error) _ handed said.unknown_only;
+      refusal = said.refusal;
+      replies = tt;
+      refused = refusal_as_told (is_unknown error) layer.answer layer.taken.items layer.refused layer.refusals (view_of_record entries) entries step error handed old (told_of layer)
+          layer.listed layer.untaken took unrefused refl rose said.refusal checked said.refused_last;
+      memory = tt;
+    }
+told_record old layer ids new entries step (Err (errors.Ended reason)) none unopened unrefused nothing runs rose checked said = record {
+  answer = tt;
+  stands = tt;
+  handed = tt;
+  first = took_none entries step 0 layer.taken.items refl nothing;
+  unknown = said.unknown;
+  unknown_only = tt;
+  refusal = tt;
+  replies = tt;
+  refused = tt;
+  memory = tt;
+}
+told_record old layer ids new entries step (Err (errors.Stopped code)) none unopened unrefused nothing runs rose checked said = absurd runs
+told_record old layer ids new entries step (Err errors.NoMemory) none unopened unrefused nothing runs rose checked said = record {
+  answer = tt;
+  stands = tt;
+  handed = tt;
   first = tt;
   unknown = said.unknown;
   unknown_only = tt;
   refusal = tt;
-  memory = tt;
-}
-told_record old_told new_told ids new entries step taken (Err (errors.Fault error handed)) none some nothing runs said = record {
-  answer = tt;
-  stands = tt;
-  handed = tt;
-  first = took_fault (is_unknown error) old_told new_told entries step handed taken _ none some said.unknown_only said.handed nothing;
-  unknown = said.unknown;
-  unknown_only = only_dead (is_unknown error) _ handed said.unknown_only;
-  refusal = said.refusal;
-  memory = tt;
-}
-told_record old_told new_told ids new entries step taken (Err (errors.Ended reason)) none some nothing runs said = record {
-  answer = tt;
-  stands = tt;
-  handed = tt;
-  first = took_none entries step 0 taken refl nothing;
-  unknown = said.unknown;
-  unknown_only = tt;
-  refusal = tt;
-  memory = tt;
-}
-told_record old_told new_told ids new entries step taken (Err (errors.Stopped code)) none some nothing runs said = absurd runs
-told_record old_told new_told ids new entries step taken (Err errors.NoMemory) none some nothing runs said = record {
-  answer = tt;
-  stands = tt;
-  handed = tt;
-  first = tt;
-  unknown = said.unknown;
-  unknown_only = tt;
-  refusal = tt;
+  replies = tt;
+  refused = tt;
   memory = said.memory.0;
 }
 
@@ -150,12 +172,8 @@ pub on_veto : (result : Result (DrawnIds × Reply) StepError) {P Q : Type 0} →
 on_veto (Ok out) f p = if_veto out.1 f p
 on_veto (Err error) f p = tt
 
--- a layer that was told the same to refuse took as little
-pub untaken_along : (a b : BelowAnswer) (n : ℕ) → planned_told a ≡ planned_told b → unless_take a n ≡ 0 → unless_take b n ≡ 0
-untaken_along a answers.Take n same none = refl
-untaken_along answers.Take answers.Veto n same none = absurd (cc same)
-untaken_along answers.Take (answers.Refuse error) n same none = absurd (cc same)
-untaken_along answers.Veto answers.Veto n same none = none
-untaken_along answers.Veto (answers.Refuse error) n same none = none
-untaken_along (answers.Refuse own) answers.Veto n same none = none
-untaken_along (answers.Refuse own) (answers.Refuse error) n same none = none
+-- a layer that took nothing vetoes what it was told to
+pub vetoed_as_told : (layer : ToldLayer) → layer.taken.items ≡ [] → (verdict_told layer.answer ≡ Ok verdicts.Veto) ⊎ (1 ≤ length layer.taken.items)
+    → verdict_told layer.answer ≡ Ok verdicts.Veto
+vetoed_as_told layer none (inl told) = told
+vetoed_as_told layer none (inr some) = absurd (omega (arith, some, ap (λ (l : List (Frame × List Frame)). length l) none))

@@ -24,7 +24,7 @@ use Rattle.daxurbi_layer.specs.Answering.{given_count, refusal_told, unless_take
 use Rattle.daxurbi_layer.specs.declared.below_answer.BelowAnswer.{BelowAnswer}
 use Rattle.daxurbi_layer.specs.declared.told_layer.ToldLayer.{ToldLayer}
 use Rattle.daxurbi_session.specs.SlotIds.{ids_of}
-use Rattle.daxurbi_session.specs.ToldSteps.{IfChecked, RefusedAsTold, TookOnly, answered_with, told_for}
+use Rattle.daxurbi_session.specs.ToldSteps.{AsTold, IfChecked, RefusedAsTold, RepliesAsTold, TookOnly, answered_with, told_for}
 use Rattle.daxurbi_session.specs.declared.last_step.Ending.{Ending}
 use Rattle.daxurbi_session.specs.declared.last_step.Ending.TheVariants as endings
 use Rattle.daxurbi_session.specs.declared.last_step.LastStep.{LastStep}
@@ -46,20 +46,22 @@ abbrev pub SlotStandsFor : SlotSession → List Entry → Type 0
 SlotStandsFor slot entries = StandsFor slot.session entries
 
 -- an entry and what was taken of its step, by a record that the session stood for before: the reply
--- is an answer of the record, the session then stands for the record with the entry, and what was
--- taken is what the record says the step hands, each frame with what the reply says was given back
-pub record EntryFits (entries : List Entry) (new : SlotSession) (entry : Entry)
-    (taken : List (Frame × List Frame)) : Type 0 where
+-- is an answer of the record, the session then stands for the record with the entry, what was taken
+-- is what the record says the step hands, each frame with what the reply says was given back, and
+-- an attach was answered as was told
+pub record EntryFits (entries : List Entry) (new : SlotSession) (told : BelowAnswer)
+    (entry : Entry) (taken : List (Frame × List Frame)) : Type 0 where
   pub answer : Answer entries entry.step entry.drawn.ids entry.reply
   pub stands : SlotStandsFor new (entries ++ entry ∷ [])
   pub handed : taken
       ≡ zip (handed_by entries entry.step entry.reply) (given_by entry.step entry.reply)
+  pub replies : RepliesAsTold told entry.reply
 
 -- a step was answered
 pub record StepAnswered (old new : SlotSession) (step : Step) (told : BelowAnswer) (entry : Entry)
     (taken : List (Frame × List Frame)) : Type 0 where
   pub made : entry.step ≡ step
-  pub records : (r : List Entry) → SlotStandsFor old r → EntryFits r new entry taken
+  pub records : (r : List Entry) → SlotStandsFor old r → EntryFits r new told entry taken
   -- A veto was told, nothing is taken but where it was told to take, and no frame is given back.
   pub veto : is_veto entry.reply ≡ true → verdict_told told ≡ Ok verdicts.Veto
   pub untaken : unless_take told (length taken) ≡ 0
@@ -79,21 +81,23 @@ StopFits entries step (stops.Fault error) =
 StopFits entries step (stops.Ended reason) = ended_by step ≡ Some reason
 StopFits entries step _ = ⊥
 
--- a stop and what was taken of its step, by a record that the session stood for before
-pub record FitsStop (entries : List Entry) (step : Step) (stop : Stop) (handed : ℕ)
-    (taken : List (Frame × List Frame)) : Type 0 where
-  pub cause : StopFits entries step stop
-  pub took : TookOnly entries step taken handed
-
 -- a stop that is a refusal of the layer below, with a fact of its error
 abbrev pub IfFault : Stop → (SessionInnerError → Type 0) → Type 0
 IfFault (stops.Fault error) P = MatchBool (is_unknown error) ⊤ (P error)
 IfFault _ P = ⊤
 
+-- a stop and what was taken of its step, by a record that the session stood for before: a refusal
+-- is what was told, or out of memory
+pub record FitsStop (entries : List Entry) (step : Step) (told : BelowAnswer) (stop : Stop)
+    (handed : ℕ) (taken : List (Frame × List Frame)) : Type 0 where
+  pub cause : StopFits entries step stop
+  pub took : TookOnly entries step taken handed
+  pub refused : IfFault stop (λ error. AsTold told error)
+
 -- a step stopped the session
 pub record StepStopped (old new : SlotSession) (step : Step) (told : BelowAnswer) (stop : Stop)
     (handed : ℕ) (taken : List (Frame × List Frame)) : Type 0 where
-  pub records : (r : List Entry) → SlotStandsFor old r → FitsStop r step stop handed taken
+  pub records : (r : List Entry) → SlotStandsFor old r → FitsStop r step told stop handed taken
   -- Nothing is taken but where it was told to take, and of a commit nothing.
   pub untaken : unless_take told (length taken) ≡ 0
   pub surely : IfFault stop (λ error. StopsSurely true step handed)

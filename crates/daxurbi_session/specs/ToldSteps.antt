@@ -1,6 +1,6 @@
 -- What a step makes over a layer that was told its answer and is used for this step alone.
 use Rattle.std.specs.List.{zip}
-use Rattle.std.specs.Prelude.{ℕ, ◌≡◌, ◌≤◌, ⊤, true, Option, Some, None, Result, Ok, Err, List, [], ◌∷◌, ◌++◌, length, map, take, IfOk, IfErr, OnErr}
+use Rattle.std.specs.Prelude.{ℕ, ◌≡◌, ◌≤◌, ⊤, true, Option, Some, None, Result, Ok, Err, List, [], ◌∷◌, ◌++◌, ◌⊎◌, length, map, take, IfOk, IfErr, OnErr}
 use Rattle.amqp_txn_types.specs.Frames.{txn}
 use Rattle.amqp_txn_types.specs.Presumptive.{answered_under}
 use Rattle.amqp_txn_types.specs.declared.id.TransactionId.{TransactionId}
@@ -18,6 +18,7 @@ use Rattle.amqp_resource_record.specs.Hands.{hands}
 use Rattle.amqp_resource_record.specs.Work.{given_by, handed_by}
 use Rattle.amqp_resource_record.specs.declared.entry.Entry.{Entry}
 use Rattle.amqp_resource_record.specs.declared.reply.Reply.{Reply}
+use Rattle.amqp_resource_record.specs.declared.reply.Reply.TheVariants as replies
 use Rattle.amqp_resource_record.specs.declared.step.Step.{Step}
 use Rattle.amqp_resource_record.specs.declared.step.Step.TheVariants as steps
 use Rattle.amqp_resource_record.specs.declared.stop.StepError.{StepError}
@@ -73,10 +74,20 @@ abbrev pub RefusedAsTold : BelowAnswer → SessionInnerError → Type 0
 RefusedAsTold told error =
     (own : SessionInnerError) × (error ≡ fault_of own) × (refusal_told told ≡ Some own)
 
+-- the error is what was told, or out of memory
+abbrev pub AsTold : BelowAnswer → SessionInnerError → Type 0
+AsTold told error = (refusal_told told ≡ Some error) ⊎ (error ≡ faults.NoMemory)
+
+-- an attach opens a link where no refusal was told, and is refused with what was told
+abbrev pub RepliesAsTold : BelowAnswer → Reply → Type 0
+RepliesAsTold told (replies.Attached link given) = refusal_told told ≡ None
+RepliesAsTold told (replies.AttachRefused error) = AsTold told error
+RepliesAsTold told _ = ⊤
+
 -- what a step makes, by a record that the session stood for before it
 pub record RecordSays (entries : List Entry) (new : TxnSession ToldLayer) (step : Step)
-    (taken : List (Frame × List Frame)) (result : Result (DrawnIds × Reply) StepError)
-    : Type 0 where
+    (told : BelowAnswer) (taken : List (Frame × List Frame))
+    (result : Result (DrawnIds × Reply) StepError) : Type 0 where
   -- The reply is an answer of the record, and the session then stands for the record with it.
   pub answer : IfOk result (λ out. Answer entries step out.0.ids out.1)
   pub stands : IfOk result (λ out. StandsFor new (entries ++ entry_of step out.0 out.1 ∷ []))
@@ -92,6 +103,10 @@ pub record RecordSays (entries : List Entry) (new : TxnSession ToldLayer) (step 
   pub unknown_only : IfUnknown result (λ handed. UnderDead (view_of_record entries) step)
   pub refusal : IfRefused result
       (λ error handed. MayFault (view_of_record entries) step (hands entries step) error)
+  -- The layer below refuses with what was told, or out of memory, and opens a link only where no
+  -- refusal was told.
+  pub replies : IfOk result (λ out. RepliesAsTold told out.1)
+  pub refused : IfRefused result (λ error handed. AsTold told error)
   -- Out of memory leaves the session standing for what it stood for.
   pub memory : OnNoMemory result (StandsFor new entries)
 
@@ -99,7 +114,7 @@ pub record RecordSays (entries : List Entry) (new : TxnSession ToldLayer) (step 
 pub record ToldStep (old new : TxnSession ToldLayer) (old_ids new_ids : SlotIds) (step : Step)
     (told : BelowAnswer) (taken : List (Frame × List Frame))
     (result : Result (DrawnIds × Reply) StepError) : Type 0 where
-  pub by_record : (r : List Entry) → StandsFor old r → RecordSays r new step taken result
+  pub by_record : (r : List Entry) → StandsFor old r → RecordSays r new step told taken result
   -- It isn't answered that the session had stopped; an end is answered with its own value.
   pub runs : IfErr result IsFirstStop
   pub ended : AnswersEnd (ended_by step) result

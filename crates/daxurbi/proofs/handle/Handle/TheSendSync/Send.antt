@@ -13,13 +13,13 @@ use Rattle.std_alloc.proofs.SendSync.{quiet, lies}
 use Rattle.std_heap.proofs.Global.TheSendSync as allocator
 use Rattle.daxurbi.specs.Owning.{handle_owns}
 use Rattle.daxurbi_session.specs.contracts.slot_session.SlotSession as session
-use Rattle.daxurbi_session.proofs.slot_session.SlotSession.TheSendSync.{the_send as session_send}
+use Rattle.daxurbi_session.proofs.Sent.{slot_send}
 use Rattle.daxurbi.specs.contracts.handle.Handle.{the_row, the_type}
 
 -- what a handle owns beside its fields has no thread's key
 keyless : (alloc : Global) (at : Ptr) (value : Option session.the_row.Denot) → Keyless (handle_owns alloc at value)
 keyless alloc at None = tt
-keyless alloc at (Some found) = (lies session.the_row session_send at found, heap.frees.frees alloc (raw (lone session.the_row.mir)) at)
+keyless alloc at (Some found) = (lies session.the_row slot_send at found, heap.frees.frees alloc (raw (lone session.the_row.mir)) at)
 
 pub send : IsSend the_row
 send =

@@ -1,4 +1,4 @@
-use Rattle.std.proofs.Common.{rules, List, Ok, Err, subst}
+use Rattle.std.proofs.Common.{rules, Err, subst}
 use Rattle.daxurbi_layer.specs.declared.below_answer.BelowAnswer.{BelowAnswer}
 use Rattle.amqp_resource_record.specs.declared.stop.StepError.{StepError}
 use Rattle.daxurbi_session.specs.Slots.{LastAnswered, LastStopped, StepAnswered, StepStopped}
