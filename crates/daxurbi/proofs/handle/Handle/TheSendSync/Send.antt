@@ -13,7 +13,7 @@ use Rattle.std_alloc.proofs.SendSync.{quiet, lies}
 use Rattle.std_heap.proofs.Global.TheSendSync as allocator
 use Rattle.daxurbi.specs.Owning.{handle_owns}
 use Rattle.daxurbi_session.specs.contracts.slot_session.SlotSession as session
-use Rattle.daxurbi_session.proofs.Sent.{slot_send}
+use Rattle.daxurbi.proofs.Sent.{slot_send}
 use Rattle.daxurbi.specs.contracts.handle.Handle.{the_row, the_type}
 
 -- what a handle owns beside its fields has no thread's key
