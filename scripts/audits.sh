@@ -127,7 +127,7 @@ is_of_run() {
 # Made inputs, up to the most octets that an audit reads: 4 MiB.
 made() {
   local most
-  for most in 1000 30000 262144 1048576 1927000 3145728 4194304; do
+  for most in 1000 30000 262144 1048576 1926000 3145728 4194304; do
     make_input "$most"
     is_of_run "$most"
     judge "made of $(input_octets) octets, $(wc -l <"$work/steps") steps" "yes 0" "$work/steps" \
@@ -156,7 +156,7 @@ costs() {
   local most
   echo "| call | octets | instructions | an octet | KiB |"
   echo "|---|---|---|---|---|"
-  for most in 262144 1048576 1927000 4194304; do
+  for most in 262144 1048576 1926000 4194304; do
     make_input "$most"
     { cat "$work/steps"; echo report; cat "$work/report"; } >"$work/input"
     if [ "$(wc -c <"$work/steps")" -le 1048576 ]; then
