@@ -2,4 +2,6 @@
 #![tactic(auto)]
 
 #[cfg(test)]
-mod tests;
+mod audit_tests;
+#[cfg(test)]
+mod memory_streams;
