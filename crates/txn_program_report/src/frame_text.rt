@@ -12,6 +12,7 @@ use amqp_txn_types::{Attach, Detach, Disposition, Flow, Frame, NoMemory, Payload
 use std::alloc::Global;
 
 /// Puts the text of a frame at the end: its name, and a word for each field that is shown.
+#[inline(always)]
 pub fn put_frame(alloc: Global, out: &mut String, frame: &Frame) -> Result<(), NoMemory>
     ensures { OnOk result (string_bytes out.new ≡ string_bytes out.old ++ frame_text frame.now) }
 {
@@ -38,6 +39,7 @@ fn put_attach(out: &mut String, attach: &Attach) -> Result<(), NoMemory>
 
 /// `flow H N`
 #[tactic(auto, unfolding(crate::specs::Report::frame_text))]
+#[inline(always)]
 pub fn put_flow(out: &mut String, flow: &Flow) -> Result<(), NoMemory>
     ensures { OnOk result (string_bytes out.new
         ≡ string_bytes out.old ++ frame_text (frames.Flow flow.now)) }
@@ -49,6 +51,7 @@ pub fn put_flow(out: &mut String, flow: &Flow) -> Result<(), NoMemory>
 
 /// `transfer H ID SET STATE PAYLOAD`
 #[tactic(auto, unfolding(crate::specs::Report::frame_text))]
+#[inline(always)]
 fn put_transfer(
     alloc: Global,
     out: &mut String,

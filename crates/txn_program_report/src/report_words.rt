@@ -11,6 +11,7 @@ use amqp_txn_types::{
 use std::alloc::Global;
 
 /// Puts the text at the end.
+#[inline(always)]
 pub fn put(out: &mut String, text: &str) -> Result<(), NoMemory>
     ensures { OnOk result (string_bytes out.new ≡ string_bytes out.old ++ text.now) }
 {
@@ -19,6 +20,7 @@ pub fn put(out: &mut String, text: &str) -> Result<(), NoMemory>
 }
 
 /// Puts a space and the text at the end.
+#[inline(always)]
 pub fn put_word(out: &mut String, word: &str) -> Result<(), NoMemory>
     ensures { OnOk result (string_bytes out.new ≡ string_bytes out.old ++ 32 ∷ word.now) }
 {
@@ -54,6 +56,7 @@ pub fn put_number_word(out: &mut String, number: u32) -> Result<(), NoMemory>
 }
 
 /// Puts a space and the number, or `-` for none, at the end.
+#[inline(always)]
 pub fn put_optional_number(out: &mut String, number: Option<u32>) -> Result<(), NoMemory>
     ensures { OnOk result (string_bytes out.new ≡ string_bytes out.old ++ 32 ∷ number_word number) }
 {
@@ -64,6 +67,7 @@ pub fn put_optional_number(out: &mut String, number: Option<u32>) -> Result<(), 
 }
 
 /// Puts a space and the handle, or `-` for none, at the end.
+#[inline(always)]
 pub fn put_optional_handle(out: &mut String, handle: Option<Handle>) -> Result<(), NoMemory>
     ensures { OnOk result (string_bytes out.new ≡ string_bytes out.old ++ 32 ∷ handle_word handle) }
 {

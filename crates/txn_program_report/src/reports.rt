@@ -66,6 +66,7 @@ pub fn put_entries(alloc: Global, out: &mut String, entries: &[Entry]) -> Result
 }
 
 /// Puts the lines of an entry at the end: its reply, then a line for each frame of it.
+#[inline(always)]
 pub fn put_entry(alloc: Global, out: &mut String, entry: &Entry) -> Result<(), NoMemory>
     ensures { OnOk result (string_bytes out.new ≡ string_bytes out.old ++ entry_lines entry.now) }
 {
@@ -76,6 +77,7 @@ pub fn put_entry(alloc: Global, out: &mut String, entry: &Entry) -> Result<(), N
 
 /// Puts the text of a reply at the end, without its line feed.
 #[tactic(auto, unfolding(crate::specs::Report::reply_text))]
+#[inline(always)]
 pub fn put_reply(alloc: Global, out: &mut String, reply: &Reply) -> Result<(), NoMemory>
     ensures { OnOk result (string_bytes out.new ≡ string_bytes out.old ++ reply_text reply.now) }
 {
@@ -106,6 +108,7 @@ pub fn put_reply(alloc: Global, out: &mut String, reply: &Reply) -> Result<(), N
 }
 
 /// Puts a line `out FRAME` for each frame of a reply at the end.
+#[inline(always)]
 pub fn put_reply_frames(alloc: Global, out: &mut String, reply: &Reply) -> Result<(), NoMemory>
     ensures { OnOk result (string_bytes out.new
         ≡ string_bytes out.old ++ flat_map out_line (reply_frames reply.now)) }
@@ -128,6 +131,7 @@ fn put_echoes(alloc: Global, out: &mut String, echoes: &[Answers]) -> Result<(),
     Ok(())
 }
 
+#[inline(always)]
 fn put_answers(alloc: Global, out: &mut String, answers: &Answers) -> Result<(), NoMemory>
     ensures { OnOk result (string_bytes out.new
         ≡ string_bytes out.old ++ flat_map out_line (answer_frames answers.now)) }
@@ -136,6 +140,7 @@ fn put_answers(alloc: Global, out: &mut String, answers: &Answers) -> Result<(),
     put_window(out, &answers.window)
 }
 
+#[inline(always)]
 fn put_window(out: &mut String, window: &Option<Flow>) -> Result<(), NoMemory>
     ensures { OnOk result (string_bytes out.new
         ≡ string_bytes out.old ++ flat_map out_line (window_frames window.now)) }
@@ -148,6 +153,7 @@ fn put_window(out: &mut String, window: &Option<Flow>) -> Result<(), NoMemory>
     put(out, "\n")
 }
 
+#[inline(always)]
 fn put_frames(alloc: Global, out: &mut String, frames: &[Frame]) -> Result<(), NoMemory>
     ensures { OnOk result (string_bytes out.new
         ≡ string_bytes out.old ++ flat_map out_line frames.now) }
@@ -158,6 +164,7 @@ fn put_frames(alloc: Global, out: &mut String, frames: &[Frame]) -> Result<(), N
     Ok(())
 }
 
+#[inline(always)]
 fn put_out_line(alloc: Global, out: &mut String, frame: &Frame) -> Result<(), NoMemory>
     ensures { OnOk result (string_bytes out.new ≡ string_bytes out.old ++ out_line frame.now) }
 {
@@ -177,6 +184,7 @@ pub fn put_taken(alloc: Global, out: &mut String, taken: &[(Frame, Frames)]) -> 
     Ok(())
 }
 
+#[inline(always)]
 fn put_taken_line(alloc: Global, out: &mut String, frame: &Frame) -> Result<(), NoMemory>
     ensures { OnOk result (string_bytes out.new
         ≡ string_bytes out.old ++ line (codes "taken " ++ frame_text frame.now)) }
