@@ -23,6 +23,7 @@ pub(crate) fn made(alloc: Global, count: u32) -> Result<Steps, NoMemory>
 }
 
 /// Appends the steps of that many transactions.
+#[inline(always)]
 fn append_transactions(alloc: Global, steps: &mut Steps, count: u32) -> Result<(), NoMemory>
     requires { count ≤ 20000 }
     ensures { OnOk result (steps.new ≡ steps.old ++ made_from count 1 0) }
@@ -43,6 +44,7 @@ fn append_transactions(alloc: Global, steps: &mut Steps, count: u32) -> Result<(
 }
 
 /// Appends the steps of two transactions together, with three times a post of each.
+#[inline(always)]
 fn append_pair(alloc: Global, steps: &mut Steps, number: u32, delivery: u32) -> Result<(), NoMemory>
     requires number { number ≤ 20000 }
     requires delivery { delivery ≤ 60000 }
@@ -58,6 +60,7 @@ fn append_pair(alloc: Global, steps: &mut Steps, number: u32, delivery: u32) -> 
 }
 
 /// Appends a post of a transaction, and one of the next.
+#[inline(always)]
 fn append_two_posts(
     alloc: Global,
     steps: &mut Steps,
@@ -101,6 +104,7 @@ fn made_attach(alloc: Global) -> Result<Step, NoMemory>
 }
 
 #[tactic(auto, unfolding(crate::specs::Made::made_declare))]
+#[inline(always)]
 fn made_declare(alloc: Global) -> Result<Step, NoMemory>
     ensures { IfOk result (λ step. step ≡ made_declare) }
 {
@@ -113,6 +117,7 @@ fn made_declare(alloc: Global) -> Result<Step, NoMemory>
 
 /// A settled post, whose payload is the transaction's number.
 #[tactic(auto, unfolding(crate::specs::Made::made_post))]
+#[inline(always)]
 fn made_post(alloc: Global, number: u32, delivery: u32) -> Result<Step, NoMemory>
     ensures { IfOk result (λ step. step ≡ made_post number delivery) }
 {
@@ -129,6 +134,7 @@ fn made_post(alloc: Global, number: u32, delivery: u32) -> Result<Step, NoMemory
 
 /// The discharge of a transaction: a rollback of each third one.
 #[tactic(auto, unfolding(crate::specs::Made::made_discharge))]
+#[inline(always)]
 fn made_discharge(alloc: Global, number: u32) -> Result<Step, NoMemory>
     ensures { IfOk result (λ step. step ≡ made_discharge number) }
 {
