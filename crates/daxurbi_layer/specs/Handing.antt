@@ -1,5 +1,5 @@
 -- What each call of a layer that was told its answer gives and leaves.
-use Rattle.std.specs.Prelude.{ℕ, ◌≡◌, ◌≤◌, ◌+◌, Option, Some, None, Result, Ok, Err, List, [], ◌∷◌, length, vec_len, vec_capacity, IsSome, OnOk}
+use Rattle.std.specs.Prelude.{ℕ, ◌≡◌, ◌≢◌, ◌≤◌, ◌+◌, Option, Some, None, Result, Ok, Err, List, [], ◌∷◌, length, vec_len, vec_capacity, IsSome, OnOk}
 use Rattle.amqp_txn_types.specs.declared.items.NoMemory.{NoMemory}
 use Rattle.amqp_txn_types.specs.declared.performatives.Attach.{Attach}
 use Rattle.amqp_txn_types.specs.declared.performatives.Frame.{Frame}
@@ -12,8 +12,8 @@ use Rattle.daxurbi_layer.specs.Hindering.{LackedRoom, no_room}
 use Rattle.daxurbi_layer.specs.Refusing.{error_listed, opened_list, refused_list}
 use Rattle.daxurbi_layer.specs.declared.told_layer.ToldLayer.{ToldLayer}
 
--- what it tells: the frames that it took, what it opened and refused, and its counts. It has no plan
--- of refused calls; in its place stands the number of what it was told
+-- what it tells: the frames that it took, what it opened and refused, and its counts. It has no
+-- plan of refused calls: in its place stands the number of what it was told
 abbrev pub told_of : ToldLayer → Told
 told_of layer = record open_told {
   taken = Some layer.taken.items;
@@ -28,8 +28,8 @@ told_of layer = record open_told {
 abbrev pub HasRoom : ToldLayer → ℕ → Type 0
 HasRoom layer count = vec_len layer.taken + count ≤ vec_capacity layer.taken
 
--- the answer to a frame, by the refusal that was told: that; told to take no frame back, or that
--- there was no room. After a first refusal each is out of memory
+-- the answer to a frame, by the refusal that was told: that refusal; where none was told no frame
+-- back, or that there was no room. After the first refusal each is answered with out of memory
 abbrev pub FrameAnswer : Option SessionInnerError → ToldLayer
     → Result (List Frame) SessionInnerError → Type 0
 FrameAnswer (Some error) old result = result ≡ Err (error_listed old.refused error)
@@ -47,8 +47,9 @@ pub record Hands (old new : ToldLayer) (frame : Frame)
   pub capacity : vec_capacity old.taken ≤ vec_capacity new.taken
   pub fine : OnOk result (new.refusals ≡ old.refusals)
 
--- the answer to an attach, by the refusal that was told: that; told to take no frame back, or that
--- there was no room where one link was opened before. After a first refusal each is out of memory
+-- the answer to an attach, by the refusal that was told: that refusal; where none was told no frame
+-- back, or that there was no room where one link was opened before. After the first refusal each is
+-- answered with out of memory
 abbrev pub OpenAnswer : Option SessionInnerError → ToldLayer
     → Result (List Frame) SessionInnerError → Type 0
 OpenAnswer (Some error) old result = result ≡ Err (error_listed old.refused error)
@@ -76,11 +77,12 @@ pub record Answers (old new : ToldLayer) (result : Result Unit SessionInnerError
   pub fine : OnOk result (new.refusals ≡ old.refusals)
 
 -- what a review answers: what was told, a veto where a frame was taken before, or out of memory
+-- where no veto was told
 abbrev pub ReviewAnswer : ToldLayer → Result Verdict NoMemory → Type 0
 ReviewAnswer old (Ok verdict) =
     (length old.taken.items ≡ 0 → verdict_told old.answer ≡ Ok verdict)
     × (1 ≤ length old.taken.items → verdict ≡ verdicts.Veto)
-ReviewAnswer old (Err error) = Unit {0}
+ReviewAnswer old (Err error) = verdict_told old.answer ≢ Ok verdicts.Veto
 
 -- the frames of a commit are reviewed
 pub record ReviewsTold (old new : ToldLayer) (list : List Frame)

@@ -1,28 +1,24 @@
-//! Runs through a session over a broker, each worked by hand.
+//! Runs of `broker` through a session over a broker, each worked by hand.
 
-use amqp_below_streams::{SureSink, SureSource};
-use amqp_txn_types::{Binary, Items, NoMemory, Text};
-use std::alloc::Global;
+use crate::memory_streams::{A, assert_written, source_of, texts_of};
+use amqp_below_streams::SureSink;
+use amqp_test_values::leak;
+use std::alloc::{Alloc, Global};
+use std::process::Abort;
 use txn_broker_run::run_broker;
 
-/// The words `broker ID`, with the id of the lines below.
-fn append_words(alloc: Global, words: &mut Items<Text>) -> Result<(), NoMemory> {
-    words.append(Text::from_str(alloc, "broker")?)?;
-    words.append(Text::from_str(alloc, "00000000000000000000000000000001")?)
-}
-
-/// The status of a run over these octets, and whether its text is that text.
-fn run_over(alloc: Global, words: Items<Text>, octets: Binary, text: &str) -> (u8, bool) {
-    let mut source = SureSource::new(octets);
-    let mut sink = SureSink::new(alloc);
-    let ran = run_broker(alloc, words.as_slice(), &mut source, &mut sink);
-    let status = ran.status;
-    let written = sink.as_slice() == text.as_bytes();
-    drop(ran);
-    drop(words);
-    drop(source);
-    drop(sink);
-    (status, written)
+/// Runs `broker A` over the lines: it ends well, and its text is that text.
+fn assert_broker(rt: &(impl Abort + Alloc<A = Global>), lines: &str, text: &str) {
+    let words = texts_of(rt, &["broker", A]);
+    let mut source = source_of(rt, lines);
+    let mut sink = SureSink::new(rt.alloc());
+    let ran = run_broker(rt.alloc(), words.as_slice(), &mut source, &mut sink);
+    let ended = ran.status;
+    leak(ran);
+    leak(words);
+    leak(source);
+    assert_written(rt, sink, text);
+    assert!(rt; ended == 0);
 }
 
 #[test]
@@ -46,12 +42,7 @@ fn a_commit_puts_its_message_after_those_that_were_there(rt: HostRuntime) {
         queue q 2\n\
         message 0 51\n\
         message 1 50\n";
-    let alloc = rt.alloc();
-    let mut words = Items::new(alloc);
-    append_words(alloc, &mut words).expect(&rt, "words");
-    let octets = Binary::from_slice(alloc, lines.as_bytes()).expect(&rt, "octets");
-    let ended = run_over(alloc, words, octets, text);
-    assert_eq!(rt; ended, (0, true));
+    assert_broker(&rt, lines, text);
 }
 
 #[test]
@@ -82,12 +73,7 @@ fn a_vetoed_commit_leaves_its_queue(rt: HostRuntime) {
         handed 0\n\
         queue q 1\n\
         message 0 50\n";
-    let alloc = rt.alloc();
-    let mut words = Items::new(alloc);
-    append_words(alloc, &mut words).expect(&rt, "words");
-    let octets = Binary::from_slice(alloc, lines.as_bytes()).expect(&rt, "octets");
-    let ended = run_over(alloc, words, octets, text);
-    assert_eq!(rt; ended, (0, true));
+    assert_broker(&rt, lines, text);
 }
 
 #[test]
@@ -109,10 +95,5 @@ fn a_commit_of_a_removal_alone_takes_its_message(rt: HostRuntime) {
         stop done\n\
         handed 0\n\
         queue q 0\n";
-    let alloc = rt.alloc();
-    let mut words = Items::new(alloc);
-    append_words(alloc, &mut words).expect(&rt, "words");
-    let octets = Binary::from_slice(alloc, lines.as_bytes()).expect(&rt, "octets");
-    let ended = run_over(alloc, words, octets, text);
-    assert_eq!(rt; ended, (0, true));
+    assert_broker(&rt, lines, text);
 }

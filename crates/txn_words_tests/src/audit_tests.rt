@@ -1,10 +1,10 @@
 //! Reports that fit, reports that don't and what is told of them, and inputs outside the form.
 
-use crate::memory_streams::{A, assert_written, texts_of};
+use crate::memory_streams::{A, assert_written, source_of, texts_of};
 use amqp_below_streams::{SureSink, SureSource};
+use amqp_test_values::leak;
 use amqp_txn_types::Binary;
 use std::alloc::{Alloc, Global};
-use std::mem::forget;
 use std::process::Abort;
 use txn_audit::run_audit;
 
@@ -22,17 +22,16 @@ fn lines_of(rt: &(impl Abort + Alloc<A = Global>), lines: &[&str]) -> SureSource
     SureSource::new(Binary::from_vec(octets))
 }
 
-/// An audit of the input ends with that status and that text, and tells that, or nothing where that
-/// is empty.
-fn ends_so(
+/// An audit of what the source has ends with that status and that text, and tells that, or nothing
+/// where that is empty.
+fn reads_so(
     rt: &(impl Abort + Alloc<A = Global>),
     words: &[&str],
-    input: &[&str],
+    mut source: SureSource,
     ends: (u8, &str, &str),
 ) {
     let (status, text, why) = ends;
     let words = texts_of(rt, words);
-    let mut source = lines_of(rt, input);
     let mut sink = SureSink::new(rt.alloc());
     let ran = run_audit(rt.alloc(), words.as_slice(), &mut source, &mut sink);
     assert!(rt; ran.status == status);
@@ -41,10 +40,20 @@ fn ends_so(
         None => why.is_empty(),
     };
     assert!(rt; told);
-    forget(ran);
-    drop(words);
-    drop(source);
+    leak(ran);
+    leak(words);
+    leak(source);
     assert_written(rt, sink, text);
+}
+
+/// An audit of these lines ends so.
+fn ends_so(
+    rt: &(impl Abort + Alloc<A = Global>),
+    words: &[&str],
+    input: &[&str],
+    ends: (u8, &str, &str),
+) {
+    reads_so(rt, words, lines_of(rt, input), ends);
 }
 
 const COMMIT: [&str; 13] = [
@@ -125,23 +134,9 @@ fn the_report_of_a_run_that_the_layer_below_stops_fits(rt: HostRuntime) {
 /// The last line of the report has no line feed.
 #[test]
 fn a_line_after_one_without_a_line_feed_is_numbered(rt: HostRuntime) {
-    let words = texts_of(&rt, &["audit", A]);
-    let mut octets = Vec::new(rt.alloc());
-    octets
-        .extend_from_slice(b"flow -\nreport\nok")
-        .expect(&rt, "memory");
-    let mut source = SureSource::new(Binary::from_vec(octets));
-    let mut sink = SureSink::new(rt.alloc());
-    let ran = run_audit(rt.alloc(), words.as_slice(), &mut source, &mut sink);
-    let told = match &ran.why {
-        Some(line) => line.as_str() == "line 2 of the report: wanted a stop, found no further line",
-        None => false,
-    };
-    assert!(rt; told);
-    forget(ran);
-    drop(words);
-    drop(source);
-    assert_written(&rt, sink, "no\n");
+    let source = source_of(&rt, "flow -\nreport\nok");
+    let why = "line 2 of the report: wanted a stop, found no further line";
+    reads_so(&rt, &["audit", A], source, (1, "no\n", why));
 }
 
 #[test]

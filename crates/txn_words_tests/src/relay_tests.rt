@@ -2,8 +2,8 @@
 
 use crate::memory_streams::{A, assert_written, source_of, texts_of};
 use amqp_below_streams::SureSink;
+use amqp_test_values::leak;
 use std::alloc::{Alloc, Global};
-use std::mem::forget;
 use std::process::Abort;
 use txn_relay_run::run_relay;
 
@@ -14,9 +14,9 @@ fn assert_relay(rt: &(impl Abort + Alloc<A = Global>), lines: &str, text: &str) 
     let mut sink = SureSink::new(rt.alloc());
     let ran = run_relay(rt.alloc(), words.as_slice(), &mut source, &mut sink);
     let ended = ran.status;
-    forget(ran);
-    drop(words);
-    drop(source);
+    leak(ran);
+    leak(words);
+    leak(source);
     assert_written(rt, sink, text);
     assert!(rt; ended == 0);
 }
