@@ -5,6 +5,7 @@
 //! | [`drive_broker`], [`BrokerRun`] | steps driven through a session over a new broker |
 //! | [`run_broker`], [`BrokerRan`] | the same for the words and the input of a program, with its report |
 //! | [`end_broker`] | the same for a process |
+//! | [`broker_report`], [`put_messages`] | the text of a run, and of messages |
 //!
 //! ```text
 //! let ran = run_broker(alloc, words, &mut input, &mut output);
@@ -30,5 +31,5 @@ mod runs;
 
 pub use driving::{BrokerRun, drive_broker};
 pub use ending::end_broker;
-pub use queue_report::broker_report;
+pub use queue_report::{broker_report, put_messages};
 pub use runs::{BrokerRan, run_broker};

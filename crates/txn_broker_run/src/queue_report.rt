@@ -58,7 +58,8 @@ fn put_queue(
     put_messages(alloc, out, messages)
 }
 
-fn put_messages(alloc: Global, out: &mut String, messages: &[Message]) -> Result<(), NoMemory>
+/// Puts the lines of some messages at the end. The only error is out of memory.
+pub fn put_messages(alloc: Global, out: &mut String, messages: &[Message]) -> Result<(), NoMemory>
     ensures { OnOk result (string_bytes out.new
         ≡ string_bytes out.old ++ flat_map message_line messages.now) }
 {

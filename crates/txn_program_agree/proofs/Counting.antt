@@ -1,12 +1,10 @@
 -- There are at most as many events as octets, and one.
-use Rattle.std.proofs.Common.{◌≡◌, ℕ, suc, ◌+◌, ◌≤◌, ◌==◌, Option, Some, None, Result, Ok, Err, List, [], ◌∷◌, length, refl, ◌∙◌, ap, arith}
-use Rattle.std.specs.List.{slice_split}
-use Rattle.std.proofs.lemmas.List.Splits.{length-slice_split}
-use Rattle.std.proofs.lemmas.List.Sums.{count_by-le-length}
+use Rattle.std.proofs.Common.{◌≡◌, ℕ, suc, ◌+◌, ◌≤◌, Option, Some, None, Result, Ok, Err, List, [], ◌∷◌, length, refl, ◌∙◌, ap, arith}
 use Rattle.txn_parties.specs.declared.event.Event.{Event}
 use Rattle.txn_program_agree_lines.specs.EventLines.{event_of_line, input_events}
-use Rattle.txn_program_lines.specs.Cutting.{lines_of, without_last_empty}
+use Rattle.txn_program_lines.specs.Cutting.{lines_of}
 use Rattle.txn_program_lines.specs.Numbered.{item_then, items_from}
+use Rattle.txn_program_parties.proofs.LineCount.{lines-few}
 
 -- lines spell an item each
 items-count : (spelled : List ℕ → Option Event) (n : ℕ) (lines : List (List ℕ)) (events : List Event) → items_from spelled n lines ≡ Ok events → length events ≡ length lines
@@ -20,19 +18,6 @@ items-count spelled n (line ∷ others) events e = by_line (spelled line) (items
     by_line (Some item) (Ok more) rest e =
         let is : events ≡ item ∷ more = cc e in
         ap length is ∙ ap (λ n. suc n) (rest more refl)
-
-shorter : (pieces : List (List ℕ)) → length (without_last_empty pieces) ≤ length pieces
-shorter [] = omega arith
-shorter ([] ∷ []) = omega arith
-shorter ([] ∷ piece ∷ pieces) = let r = shorter (piece ∷ pieces) in omega (arith, r)
-shorter ((octet ∷ octets) ∷ pieces) = let r = shorter pieces in omega (arith, r)
-
-lines-few : (octets : List ℕ) → length (lines_of octets) ≤ length octets + 1
-lines-few octets =
-    let a = shorter (slice_split (λ octet. octet == 10) octets) in
-    let b = length-slice_split (λ octet. octet == 10) octets in
-    let c = count_by-le-length (λ octet. octet == 10) octets in
-    omega (arith, a, b, c)
 
 pub events-few : (octets : List ℕ) (events : List Event) → input_events octets ≡ Ok events → length events ≤ length octets + 1
 events-few octets events e =

@@ -31,7 +31,8 @@ use Rattle.txn_program_runs.proofs.Endings.{without_fault}
 use Rattle.txn_world.specs.Beginning.{Began, Untaken}
 use Rattle.txn_world.specs.Happening.{TwoParties, code_of_stop}
 use Rattle.txn_program_agree.specs.AgreeText.{agree_text}
-use Rattle.txn_program_agree.specs.Playing.{Played, PlayedAll, PlayedOn, PlayedSome, Refused, StopTold, Unknown, events_of, skipped_in}
+use Rattle.txn_program_agree.specs.Playing.{Played, PlayedAll, PlayedOn, PlayedSome, Refused, StopTold, Unknown}
+use Rattle.txn_program_parties.specs.Skipping.{events_of, skipped_in}
 use Rattle.txn_program_agree.specs.Serving.{AgreesOver, ArePlayed, PlaysOut, Reached, Reaches, stop_status}
 use Rattle.txn_program_agree.proofs.Ending.{reached-ends}
 

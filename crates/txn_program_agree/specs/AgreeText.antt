@@ -1,13 +1,13 @@
 -- The text of a run of two parties.
-use Rattle.std.specs.Prelude.{ℕ, zero, suc, Option, Some, None, List, [], ◌∷◌, ◌++◌, codes, decimal}
+use Rattle.std.specs.Prelude.{ℕ, zero, suc, List, [], ◌∷◌, ◌++◌, codes, decimal}
 use Rattle.std.specs.List.{flat_map}
 use Rattle.amqp_txn_types.specs.declared.performatives.Frame.{Frame}
 use Rattle.amqp_below_layer.specs.declared.inner_error.SessionInnerError.{SessionInnerError}
 use Rattle.amqp_resource_record.specs.Stops.{fault_code}
-use Rattle.amqp_resource_record.specs.declared.stop.StopCode.{StopCode}
 use Rattle.txn_parties.specs.declared.event.Heard.{Heard}
 use Rattle.txn_parties.specs.declared.event.Heard.TheVariants as hearings
 use Rattle.txn_parties.specs.Exchange.{Exchange, heard, made}
+use Rattle.txn_program_parties.specs.StopLine.{stop_text}
 use Rattle.txn_program_report.specs.Report.{line, stop_word, taken_line}
 use Rattle.txn_world.specs.Happening.{code_of_stop, handed_of_stop}
 
@@ -26,11 +26,6 @@ heard_line number heard = line (codes "txn " ++ (decimal number ++ (32 ∷ heard
 abbrev pub heard_lines : Exchange → ℕ → List ℕ
 heard_lines w zero = []
 heard_lines w (suc number) = heard_lines w number ++ heard_line number (heard w number)
-
--- stop WORD, or `none` where the session didn't stop
-abbrev pub stop_text : Option StopCode → List ℕ
-stop_text None = codes "none"
-stop_text (Some code) = stop_word code
 
 -- a line for each transaction, how many events were skipped, the stop, how many frames of the
 -- stopping item were taken, and a line for each frame that was taken

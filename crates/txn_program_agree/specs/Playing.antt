@@ -1,6 +1,5 @@
 -- Events of two parties, one after another.
-use Rattle.std.specs.Prelude.{ℕ, ◌≡◌, ◌≤◌, ◌+◌, ◌-◌, ◌^◌, Bool, true, false, Some, None, List, ◌∷◌, ◌++◌, length, map, min, take}
-use Rattle.std.specs.List.{count_by}
+use Rattle.std.specs.Prelude.{ℕ, ◌≡◌, ◌≤◌, ◌+◌, ◌-◌, ◌^◌, Bool, Some, None, List, ◌∷◌, ◌++◌, length, min, take}
 use Rattle.amqp_txn_types.specs.Counts.{Rose}
 use Rattle.amqp_txn_types.specs.Growing.{grown}
 use Rattle.amqp_txn_types.specs.declared.id.TransactionId.{TransactionId}
@@ -17,7 +16,6 @@ use Rattle.amqp_resource_record.specs.declared.stop.StopCode.TheVariants as code
 use Rattle.amqp_resource_session.specs.Steps.{AddsRefusal}
 use Rattle.txn_parties.specs.declared.event.Event.{Event}
 use Rattle.txn_parties.specs.declared.event.Happened.{Happened}
-use Rattle.txn_parties.specs.declared.event.Happened.TheVariants as happenings
 use Rattle.txn_parties.specs.declared.item.Halt.{Halt}
 use Rattle.txn_parties.specs.declared.item.Item.{Item}
 use Rattle.txn_parties.specs.Items.{step_of}
@@ -25,19 +23,8 @@ use Rattle.txn_parties.specs.Exchange.{Begins, Exchange, begun, entries_of, made
 use Rattle.txn_parties.specs.Invariant.{Keeps}
 use Rattle.txn_parties.specs.Taken.{TookSince}
 use Rattle.txn_parties.specs.Turns.{Follows}
+use Rattle.txn_program_parties.specs.Skipping.{events_of, skipped_in}
 use Rattle.txn_world.specs.Happening.{TwoParties}
-
-abbrev pub is_skipped : Happened → Bool
-is_skipped happenings.Skipped = true
-is_skipped _ = false
-
--- how often nothing happened
-abbrev pub skipped_in : List (Event × Happened) → ℕ
-skipped_in past = count_by (λ (p : Event × Happened). is_skipped p.1) past
-
--- the events of a past
-abbrev pub events_of : List (Event × Happened) → List Event
-events_of past = map (λ (p : Event × Happened). p.0) past
 
 -- why the session stopped at an item: the id of its frame isn't live; or the layer below refused,
 -- which its count shows, and told the refusal by this error

@@ -37,7 +37,8 @@ use Rattle.txn_world.specs.Beginning.{RefusedOnly, attach_steps}
 use Rattle.txn_world.specs.Happening.{TwoParties, code_of_stop}
 use Rattle.txn_world.specs.declared.errors.WorldError.TheVariants as world_errors
 use Rattle.txn_program_agree.specs.AgreeText.{agree_text, refused_text}
-use Rattle.txn_program_agree.specs.Playing.{Played, PlayedOn, events_of, skipped_in}
+use Rattle.txn_program_agree.specs.Playing.{Played, PlayedOn}
+use Rattle.txn_program_parties.specs.Skipping.{events_of, skipped_in}
 use Rattle.txn_program_agree.specs.declared.agree_words.AgreeCommand.{AgreeCommand}
 
 -- what a call came to: no two parties were made; the attach of a control link was refused; two

@@ -1,17 +1,17 @@
 //! The text of a run of two parties.
 
-ghost use Rattle.std.specs.Prelude.{◌≡◌, ◌≤◌, ◌++◌, codes, string_bytes, IfOk, OnOk};
+ghost use Rattle.std.specs.Prelude.{◌≡◌, ◌≤◌, ◌++◌, string_bytes, IfOk, OnOk};
 ghost use Rattle.txn_parties.specs.Exchange.{made};
-ghost use Rattle.txn_program_agree.specs.AgreeText.{agree_text, heard_line, heard_lines, heard_word, refused_text, stop_text};
-ghost use Rattle.txn_program_report.specs.Report.{line};
+ghost use Rattle.txn_program_agree.specs.AgreeText.{agree_text, heard_line, heard_lines, heard_word, refused_text};
 ghost use Rattle.txn_program_runs.specs.Running.{taken_of};
 
 use amqp_below_ids::IdSource;
 use amqp_below_layer::{LayerBelow, SessionInnerError, Tells};
 use amqp_below_recorder::Recorder;
-use amqp_resource_record::{StopCode, code_of_fault};
+use amqp_resource_record::code_of_fault;
 use amqp_txn_types::NoMemory;
 use std::alloc::Global;
+use txn_program_parties::put_stop_or_none;
 use txn_program_report::{put, put_count, put_number, put_taken, put_word, stop_word};
 use txn_world::{Heard, World};
 
@@ -30,7 +30,7 @@ pub(crate) fn agree_string<S: LayerBelow, G: IdSource>(
     let mut out = String::new(alloc);
     put_heard(&mut out, world)?;
     put_count(&mut out, "skipped ", skipped)?;
-    put_stop(&mut out, world.stop())?;
+    put_stop_or_none(&mut out, world.stop())?;
     put_count(&mut out, "handed ", world.handed())?;
     put_taken(alloc, &mut out, world.below().exchanges().as_slice())?;
     Ok(out)
@@ -85,24 +85,5 @@ fn heard_word(heard: Heard) -> &'static str
         Heard::Committed => "committed",
         Heard::RolledBack => "rolled-back",
         Heard::Rejected => "rejected",
-    }
-}
-
-/// Puts the line of the stop, or of none.
-fn put_stop(out: &mut String, stop: Option<StopCode>) -> Result<(), NoMemory>
-    ensures { OnOk result (string_bytes out.new
-        ≡ string_bytes out.old ++ line (codes "stop " ++ stop_text stop)) }
-{
-    put(out, "stop ")?;
-    put(out, stop_text(stop))?;
-    put(out, "\n")
-}
-
-fn stop_text(stop: Option<StopCode>) -> &'static str
-    ensures { result.now ≡ stop_text stop }
-{
-    match stop {
-        None => "none",
-        Some(code) => stop_word(code),
     }
 }

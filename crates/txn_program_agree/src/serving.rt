@@ -27,10 +27,9 @@ use amqp_resource_record::{StopCode, code_of_fault};
 use amqp_txn_types::{Binary, NoMemory};
 use std::alloc::Global;
 use txn_program_agree_lines::{Events, spelled_events};
-use txn_program_edges::{
-    Reading, TransactionIds, Unserved, end_unserved, read_up_to, status, write_and_end,
-};
+use txn_program_edges::{Reading, TransactionIds, Unserved, end_unserved, read_up_to, status};
 use txn_program_lines::SpellError;
+use txn_program_parties::write_text;
 use txn_program_runs::{INPUT_LIMIT, Plans, Ran, end_without_memory};
 use txn_world::{World, WorldError};
 
@@ -272,19 +271,6 @@ fn end_made<S: LayerBelow, O: ByteSink>(
         driven: None,
         entries: Some(entries),
         below,
-    }
-}
-
-/// Writes the text of a status, where there was memory for it, and returns the status that the
-/// program then ends with.
-fn write_text<O: ByteSink>(status: u8, text: Result<String, NoMemory>, output: &mut O) -> u8
-    ensures status { EndsWith (O.faults output.old) (O.faults output.new) status result }
-    ensures written { (these : List ℕ) → IfOk text (λ text. string_bytes text ≡ these) →
-        Wrote (O.written output.old) (O.written output.new) result these }
-{
-    match text {
-        Ok(text) => write_and_end(status, text.as_str().as_bytes(), output),
-        Err(_) => status::NO_MEMORY,
     }
 }
 

@@ -311,6 +311,7 @@ pub fn u32_at(words: Option<&[u8]>) -> Result<(u32, Option<&[u8]>), Unread>
 }
 
 /// A number up to 18,446,744,073,709,551,615 and the words after it.
+#[inline(never)]
 pub fn u64_at(words: Option<&[u8]>) -> Result<(u64, Option<&[u8]>), Unread>
     ensures { Reads (λ x. (x.0, words_left x.1)) result (next u64_of (words_left words.entry)) }
 {

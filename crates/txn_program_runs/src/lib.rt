@@ -8,6 +8,7 @@
 //! | [`run_command_of`], [`RunCommand`] | the command that words give |
 //! | [`serve_run`], [`Ran`] | a call for a command, and what it leaves |
 //! | [`serve_over`], [`end_over`] | the same for the arguments of a process, over a layer of its own |
+//! | [`ends_count`] | how many commits or rollbacks a history holds |
 //!
 //! ```
 //! let below = Recorder::new(alloc, OpenSession::new(alloc));
@@ -38,3 +39,4 @@ pub use process_end::end_over;
 pub use run_command::{serve_over, serve_run};
 pub use run_words::{Layer, Plans, RunCommand, command_over, run_command_of};
 pub use step_runs::{INPUT_LIMIT, Ran, end_without_memory, status_of_stop};
+pub use summary::ends_count;

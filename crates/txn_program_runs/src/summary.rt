@@ -1,6 +1,6 @@
 //! The summary of a made run.
 
-ghost use Rattle.std.specs.Prelude.{◌≡◌, ◌++◌, decimal, string_bytes, IfOk, OnOk};
+ghost use Rattle.std.specs.Prelude.{◌≡◌, ◌≤◌, ◌++◌, decimal, length, string_bytes, IfOk, OnOk};
 ghost use Rattle.std.specs.List.{count_by};
 ghost use Rattle.amqp_txn_codec.specs.Reading.{message_of};
 ghost use Rattle.txn_program_report.specs.Report.{line};
@@ -31,8 +31,9 @@ pub(crate) fn summary_string(
 }
 
 /// How many accepted discharges were rollbacks, or else commits.
-fn ends_count(entries: &[Entry], rollback: bool) -> usize
-    ensures { result ≡ ends_count rollback entries.now }
+pub fn ends_count(entries: &[Entry], rollback: bool) -> usize
+    ensures count { result ≡ ends_count rollback entries.now }
+    ensures few { result ≤ length entries.now }
 {
     entries
         .iter()

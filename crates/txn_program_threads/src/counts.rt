@@ -1,50 +1,14 @@
 //! What is counted of a history, and the status that it ends with.
 
-ghost use Rattle.std.specs.Prelude.{◌≡◌, ◌≤◌, length, option_copied};
+ghost use Rattle.std.specs.Prelude.{◌≡◌, option_copied};
 ghost use Rattle.std.specs.List.{count_by};
-ghost use Rattle.amqp_txn_codec.specs.Reading.{message_of};
 ghost use Rattle.amqp_resource_shared.specs.Receipts.{is_recorded};
-ghost use Rattle.txn_program_runs.specs.Made.{ends_by, ends_count, step_ends_by};
 ghost use Rattle.txn_program_threads.specs.Statuses.{first_refused, is_refused_attach, is_refused_reply, is_starved_attach, starved_by, threads_status};
 
 use amqp_below_layer::SessionInnerError;
-use amqp_resource_record::{Entry, Reply, Step, StopCode};
+use amqp_resource_record::{Entry, Reply, StopCode};
 use amqp_resource_shared::CloseWhy;
-use amqp_txn_codec::{ControlMessageBody, decode, rolls_back};
 use txn_program_edges::status;
-
-/// How many accepted discharges were rollbacks, or else commits.
-pub(crate) fn ends_count(entries: &[Entry], rollback: bool) -> usize
-    ensures count { result ≡ ends_count rollback entries.now }
-    ensures few { result ≤ length entries.now }
-{
-    entries
-        .iter()
-        .filter(|entry| step_ends_by(rollback, &entry.step, &entry.reply))
-        .count()
-}
-
-/// Whether the step is such a discharge, and was accepted.
-fn step_ends_by(rollback: bool, step: &Step, reply: &Reply) -> bool
-    ensures { result ≡ step_ends_by rollback step.now reply.now }
-{
-    match (step, reply) {
-        (Step::Control { payload, .. }, Reply::Accepted(_)) => ends_by(
-            rollback,
-            payload.as_slice(),
-        ),
-        _ => false,
-    }
-}
-
-fn ends_by(rollback: bool, payload: &[u8]) -> bool
-    ensures { result ≡ ends_by rollback (message_of payload.now) }
-{
-    match decode(payload) {
-        Ok(ControlMessageBody::Discharge(discharge)) => rolls_back(discharge.fail) == rollback,
-        _ => false,
-    }
-}
 
 /// How many replies are neither `Attached`, `Declared`, `Frames` nor `Accepted`.
 pub(crate) fn count_refused(entries: &[Entry]) -> usize

@@ -4,13 +4,14 @@ ghost use Rattle.std.specs.Prelude.{◌≡◌, ◌<◌, ◌^◌, ◌⊎◌, fals
 ghost use Rattle.amqp_resource_shared.specs.Close.{closed_of, why_of};
 ghost use Rattle.txn_program_threads.specs.Runs.{EndsCounted, Leaves, RanOut};
 
-use crate::counts::{count_refused, ends_count, status_of};
+use crate::counts::{count_refused, status_of};
 use crate::threads_ran::ThreadsRan;
 use amqp_below_ids::CountIds;
 use amqp_below_layer::{LayerBelow, Tells};
 use amqp_below_recorder::Recorder;
 use amqp_resource_shared::{CloseWhy, Closed};
 use txn_program_edges::status;
+use txn_program_runs::ends_count;
 
 /// The session of a run of workers, closed.
 pub(crate) type ClosedRun<S> = Closed<Recorder<S>, CountIds>;

@@ -1,12 +1,10 @@
 -- There are at most as many messages as octets, and one.
-use Rattle.std.proofs.Common.{◌≡◌, ℕ, suc, ◌+◌, ◌≤◌, ◌==◌, Option, Some, None, Result, Ok, Err, List, [], ◌∷◌, ◌++◌, length, refl, ◌∙◌, ap, arith, subst}
-use Rattle.std.specs.List.{slice_split}
+use Rattle.std.proofs.Common.{◌≡◌, ℕ, suc, ◌+◌, ◌≤◌, Option, Some, None, Result, Ok, Err, List, [], ◌∷◌, ◌++◌, length, refl, ◌∙◌, ap, arith, subst}
 use Rattle.std.proofs.lemmas.List.{length-append}
-use Rattle.std.proofs.lemmas.List.Splits.{length-slice_split}
-use Rattle.std.proofs.lemmas.List.Sums.{count_by-le-length}
-use Rattle.txn_program_lines.specs.Cutting.{lines_of, without_last_empty}
+use Rattle.txn_program_lines.specs.Cutting.{lines_of}
 use Rattle.txn_program_lines.specs.LineWords.{◌>>=◌}
 use Rattle.txn_program_lines.specs.Numbered.{lines_after, then_lines}
+use Rattle.txn_program_parties.proofs.LineCount.{lines-few}
 use Rattle.txn_relay.specs.declared.event.RelayEvent.{RelayEvent}
 use Rattle.txn_relay_run.specs.Scripts.{line_of, no_script, script_after, script_of, with_line, with_message}
 use Rattle.txn_relay_run.specs.declared.script.Line.{Line}
@@ -29,13 +27,13 @@ line_one script next (Some (kinds.Event event)) e =
     let long = ap length is in
     omega (arith, long)
 
-lines_few : (n : ℕ) (lines : List (List ℕ)) (script final : Script) → lines_after script_after script n lines ≡ Ok final → length final.messages ≤ length script.messages + length lines
+script_few : (n : ℕ) (lines : List (List ℕ)) (script final : Script) → lines_after script_after script n lines ≡ Ok final → length final.messages ≤ length script.messages + length lines
 unfolding lines_after
-lines_few n [] script final e =
+script_few n [] script final e =
     let is : final.messages ≡ script.messages = cc e in
     let long = ap length is in
     omega (arith, long)
-lines_few n (line ∷ others) script final e = by_line (script_after script line) (λ next made. line_one script next (line_of line) made) (λ next f. lines_few (n + 1) others next final f) e
+script_few n (line ∷ others) script final e = by_line (script_after script line) (λ next made. line_one script next (line_of line) made) (λ next f. script_few (n + 1) others next final f) e
   where
     by_line : (o : Option Script) → ((next : Script) → o ≡ Some next → length next.messages ≤ length script.messages + 1) → ((next : Script) → lines_after script_after next (n + 1) others ≡ Ok final → length final.messages ≤ length next.messages + length others) → then_lines o n (λ next. lines_after script_after next (n + 1) others) ≡ Ok final → length final.messages ≤ length script.messages + length (line ∷ others)
     by_line None one rest e = absurd (cc e)
@@ -44,16 +42,8 @@ lines_few n (line ∷ others) script final e = by_line (script_after script line
         let b = rest next e in
         omega (arith, a, b)
 
-shorter : (pieces : List (List ℕ)) → length (without_last_empty pieces) ≤ length pieces
-shorter [] = omega arith
-shorter ([] ∷ []) = omega arith
-shorter ([] ∷ piece ∷ pieces) = let r = shorter (piece ∷ pieces) in omega (arith, r)
-shorter ((octet ∷ octets) ∷ pieces) = let r = shorter pieces in omega (arith, r)
-
 pub messages_few : (octets : List ℕ) (script : Script) → script_of octets ≡ Ok script → length script.messages ≤ length octets + 1
 messages_few octets script e =
-    let a = shorter (slice_split (λ octet. octet == 10) octets) in
-    let b = length-slice_split (λ octet. octet == 10) octets in
-    let c = count_by-le-length (λ octet. octet == 10) octets in
-    let d = lines_few 1 (lines_of octets) no_script script e in
-    omega (arith, a, b, c, d)
+    let a = lines-few octets in
+    let b = script_few 1 (lines_of octets) no_script script e in
+    omega (arith, a, b)

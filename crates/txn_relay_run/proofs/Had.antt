@@ -1,39 +1,15 @@
 -- One event more.
-use Rattle.std.proofs.Common.{◌≡◌, ℕ, suc, ◌+◌, ◌<◌, ◌≤◌, Bool, true, false, cond, Result, Ok, Err, List, [], ◌∷◌, ◌++◌, append_assoc, length, take, drop, get_or, map, refl, sym, ◌∙◌, ap, arith, subst}
-use Rattle.std.specs.Prelude.{OnErr}
-use Rattle.std.proofs.lemmas.List.{length-map, length-take-le, map_push, take-append-drop, take_more}
-use Rattle.std.proofs.lemmas.List.Sums.{count_by-le-length, sum_by_push}
-use Rattle.amqp_txn_types.specs.declared.items.NoMemory.{NoMemory}
+use Rattle.std.proofs.Common.{◌≡◌, ℕ, ◌+◌, ◌<◌, ◌≤◌, List, [], ◌∷◌, ◌++◌, append_assoc, length, take, drop, get_or, refl, sym, ◌∙◌, ap, arith, subst}
+use Rattle.std.proofs.lemmas.List.{take-append-drop, take_more}
 use Rattle.txn_parties.specs.declared.event.Happened.{Happened}
-use Rattle.txn_parties.specs.declared.event.Happened.TheVariants as happenings
+use Rattle.txn_program_parties.proofs.OneEvent.{events_more, one_skip, skipped_few, skipped_more}
 use Rattle.txn_relay.specs.declared.event.RelayEvent.{RelayEvent}
 use Rattle.txn_relay.specs.Relaying.{Draws, Happens, LeavesSome, Relaying}
-use Rattle.txn_relay_run.specs.Playing.{Had, HadAll, HadSome, events_of, is_skipped, skipped_in}
+use Rattle.txn_relay_run.specs.Playing.{Had, HadAll, HadSome}
 
 pub had_more : (draws : Draws) (old mid new : Relaying) (past : List (RelayEvent × Happened)) (event : RelayEvent) (h : Happened) → Had draws old past mid → Happens draws mid new event h → Had draws old (past ++ (event, h) ∷ []) new
 had_more draws old mid new [] event h had now = (new, subst (λ (r : Relaying). Happens draws r new event h) had now, refl)
 had_more draws old mid new (first ∷ past) event h had now = (had.0, had.1, had_more draws had.0 mid new past event h had.2 now)
-
-pub events_more : (past : List (RelayEvent × Happened)) (event : RelayEvent) (h : Happened) → events_of (past ++ (event, h) ∷ []) ≡ events_of past ++ event ∷ []
-events_more past event h = map_push (λ (p : RelayEvent × Happened). p.0) past (event, h)
-
-pub skipped_more : (past : List (RelayEvent × Happened)) (event : RelayEvent) (h : Happened) → skipped_in (past ++ (event, h) ∷ []) ≡ skipped_in past + cond (is_skipped h) 1 0
-skipped_more past event h = sum_by_push (λ (p : RelayEvent × Happened). cond (is_skipped p.1) 1 0) past (event, h)
-
-abbrev one_skip : Happened → ℕ
-one_skip h = cond (is_skipped h) 1 0
-
-pub skips : (now before : ℕ) (h : Happened) → now ≡ before + 1 → h ≡ happenings.Skipped → now ≡ before + one_skip h
-skips now before h e s = e ∙ ap (λ x. before + one_skip x) (sym s)
-
-pub passes : (now before : ℕ) (h : Happened) → now ≡ before → (h ≡ happenings.Skipped → ⊥) → now ≡ before + one_skip h
-passes now before happenings.Skipped e not = absurd (not refl)
-passes now before _ e not = omega (arith, e)
-
--- where there is an error, this is so
-pub on_err : (r : Result ℕ NoMemory) (P : Type 0) → P → OnErr r P
-on_err (Ok n) P p = tt
-on_err (Err e) P p = p
 
 pub all-none : (draws : Draws) (relay : Relaying) (events : List RelayEvent) → HadAll draws relay relay (take 0 events) 0
 all-none draws relay events = record { past = []; had = refl; these = refl; skips = refl }
@@ -62,7 +38,6 @@ some-had draws old mid new events i skipped d within p left = record {
 
 pub skipped-few : (draws : Draws) (old new : Relaying) (events : List RelayEvent) (i skipped : ℕ) → i ≤ length events → HadAll draws old new (take i events) skipped → skipped ≤ i
 skipped-few draws old new events i skipped within p =
-    let few = count_by-le-length (λ (x : RelayEvent × Happened). is_skipped x.1) p.past in
-    let is : length p.past ≡ i = sym (length-map p.past (λ (x : RelayEvent × Happened). x.0)) ∙ ap length p.these ∙ length-take-le i events within in
+    let few = skipped_few p.past events i within p.these in
     let s = p.skips in
-    omega (arith, few, is, s)
+    omega (arith, few, s)

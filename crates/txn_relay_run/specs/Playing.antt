@@ -1,21 +1,9 @@
 -- The events of a relay, one after another.
-use Rattle.std.specs.Prelude.{ℕ, ◌≡◌, Bool, true, false, List, [], ◌∷◌, ◌++◌, count_by, map}
+use Rattle.std.specs.Prelude.{ℕ, ◌≡◌, List, [], ◌∷◌, ◌++◌}
 use Rattle.txn_parties.specs.declared.event.Happened.{Happened}
-use Rattle.txn_parties.specs.declared.event.Happened.TheVariants as happenings
+use Rattle.txn_program_parties.specs.Skipping.{events_of, skipped_in}
 use Rattle.txn_relay.specs.declared.event.RelayEvent.{RelayEvent}
 use Rattle.txn_relay.specs.Relaying.{Draws, Happens, LeavesSome, Relaying}
-
-abbrev pub is_skipped : Happened → Bool
-is_skipped happenings.Skipped = true
-is_skipped _ = false
-
--- how often nothing happened
-abbrev pub skipped_in : List (RelayEvent × Happened) → ℕ
-skipped_in past = count_by (λ (p : RelayEvent × Happened). is_skipped p.1) past
-
--- the events of a past
-abbrev pub events_of : List (RelayEvent × Happened) → List RelayEvent
-events_of past = map (λ (p : RelayEvent × Happened). p.0) past
 
 -- a relay had these events, once each and in order, and each did what it did
 abbrev pub Had : Draws → Relaying → List (RelayEvent × Happened)

@@ -1,30 +1,21 @@
 -- The text of a relay.
-use Rattle.std.specs.Prelude.{ℕ, Option, Some, None, List, ◌∷◌, ◌++◌, codes, decimal, length}
+use Rattle.std.specs.Prelude.{ℕ, List, ◌∷◌, ◌++◌, codes, decimal, length}
 use Rattle.std.specs.List.{flat_map}
-use Rattle.amqp_resource_record.specs.declared.stop.StopCode.{StopCode}
 use Rattle.txn_broker_queues.specs.declared.message.Message.{Message}
 use Rattle.txn_broker_queues.specs.Queues.{queue}
 use Rattle.txn_broker_queues.specs.Taking.{taken_of}
-use Rattle.txn_program_report.specs.Report.{line, payload_word, stop_word}
+use Rattle.txn_broker_run.specs.Reporting.{message_line}
+use Rattle.txn_program_parties.specs.StopLine.{stop_text}
+use Rattle.txn_program_report.specs.Report.{line}
 use Rattle.txn_world.specs.Happening.{code_of_stop}
 use Rattle.txn_relay.specs.Moves.{from_name, to_name}
 use Rattle.txn_relay.specs.Once.{heard_committed}
 use Rattle.txn_relay.specs.Relaying.{Relaying}
 
--- message NUMBER PAYLOAD
-abbrev pub message_line : Message → List ℕ
-message_line message =
-    line (codes "message " ++ decimal message.number ++ 32 ∷ payload_word message.payload)
-
 -- NAME N, and the lines of its messages
 abbrev pub queue_text : List ℕ → List Message → List ℕ
 queue_text name messages =
     name ++ line (32 ∷ decimal (length messages)) ++ flat_map message_line messages
-
--- stop WORD, or `none` where the session didn't stop
-abbrev pub stop_text : Option StopCode → List ℕ
-stop_text None = codes "none"
-stop_text (Some code) = stop_word code
 
 -- the two queues, how many transactions heard Committed, how many events were skipped, the stop
 unfoldable pub relay_text : Relaying → ℕ → List ℕ

@@ -1,15 +1,14 @@
 //! The text of a relay.
 
-ghost use Rattle.std.specs.Prelude.{◌≡◌, ◌++◌, codes, string_bytes, IfOk, OnOk};
-ghost use Rattle.std.specs.List.{flat_map};
-ghost use Rattle.txn_program_report.specs.Report.{line};
-ghost use Rattle.txn_relay_run.specs.RelayText.{message_line, queue_text, relay_text, stop_text};
+ghost use Rattle.std.specs.Prelude.{◌≡◌, ◌++◌, string_bytes, IfOk, OnOk};
+ghost use Rattle.txn_relay_run.specs.RelayText.{queue_text, relay_text};
 
-use amqp_resource_record::StopCode;
 use amqp_txn_types::NoMemory;
 use std::alloc::Global;
 use txn_broker_queues::Message;
-use txn_program_report::{put, put_count, put_number, put_payload, stop_word};
+use txn_broker_run::put_messages;
+use txn_program_parties::put_stop_or_none;
+use txn_program_report::{put, put_count};
 use txn_relay::{FROM_NAME, Relay, TO_NAME};
 
 /// The two queues with their messages, how many transactions heard Committed, how many events were
@@ -25,7 +24,7 @@ pub(crate) fn relay_string(alloc: Global, relay: &Relay, skipped: usize) -> Resu
     put_queue(alloc, &mut out, TO_NAME, to.as_slice())?;
     put_count(&mut out, "heard ", relay.committed() as usize)?;
     put_count(&mut out, "skipped ", skipped)?;
-    put_stop(&mut out, relay.stop())?;
+    put_stop_or_none(&mut out, relay.stop())?;
     Ok(out)
 }
 
@@ -42,44 +41,4 @@ fn put_queue(
     put(out, name)?;
     put_count(out, " ", messages.len())?;
     put_messages(alloc, out, messages)
-}
-
-fn put_messages(alloc: Global, out: &mut String, messages: &[Message]) -> Result<(), NoMemory>
-    ensures { OnOk result (string_bytes out.new
-        ≡ string_bytes out.old ++ flat_map message_line messages.now) }
-{
-    for message in messages {
-        put_message(alloc, out, message)?;
-    }
-    Ok(())
-}
-
-/// Puts the line `message NUMBER PAYLOAD` at the end.
-fn put_message(alloc: Global, out: &mut String, message: &Message) -> Result<(), NoMemory>
-    ensures { OnOk result (string_bytes out.new
-        ≡ string_bytes out.old ++ message_line message.now) }
-{
-    put(out, "message ")?;
-    put_number(out, u64::from(message.number))?;
-    put_payload(alloc, out, &message.payload)?;
-    put(out, "\n")
-}
-
-/// Puts the line of the stop, or of none.
-fn put_stop(out: &mut String, stop: Option<StopCode>) -> Result<(), NoMemory>
-    ensures { OnOk result (string_bytes out.new
-        ≡ string_bytes out.old ++ line (codes "stop " ++ stop_text stop)) }
-{
-    put(out, "stop ")?;
-    put(out, stop_text(stop))?;
-    put(out, "\n")
-}
-
-fn stop_text(stop: Option<StopCode>) -> &'static str
-    ensures { result.now ≡ stop_text stop }
-{
-    match stop {
-        None => "none",
-        Some(code) => stop_word(code),
-    }
 }

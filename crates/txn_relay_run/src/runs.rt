@@ -20,9 +20,10 @@ use amqp_resource_record::StopCode;
 use amqp_txn_types::{Binary, NoMemory, Payload, Text};
 use std::alloc::Global;
 use txn_program_edges::{
-    Reading, TransactionIds, Unserved, end_unserved, id_list_of, read_up_to, status, write_and_end,
+    Reading, TransactionIds, Unserved, end_unserved, id_list_of, read_up_to, status,
 };
 use txn_program_lines::{SpellError, is_text};
+use txn_program_parties::write_text;
 use txn_program_runs::INPUT_LIMIT;
 use txn_relay::{Relay, RelayEvent};
 use txn_world::World;
@@ -260,18 +261,5 @@ fn end_made<O: ByteSink>(alloc: Global, relay: Relay, skipped: usize, output: &m
     RelayRan {
         status,
         relay: Some(relay),
-    }
-}
-
-/// Writes the text of a status, where there was memory for it, and returns the status that the
-/// program then ends with.
-fn write_text<O: ByteSink>(status: u8, text: Result<String, NoMemory>, output: &mut O) -> u8
-    ensures status { EndsWith (O.faults output.old) (O.faults output.new) status result }
-    ensures written { (these : List ℕ) → IfOk text (λ text. string_bytes text ≡ these) →
-        Wrote (O.written output.old) (O.written output.new) result these }
-{
-    match text {
-        Ok(text) => write_and_end(status, text.as_str().as_bytes(), output),
-        Err(_) => status::NO_MEMORY,
     }
 }

@@ -1,4 +1,5 @@
-use Rattle.txn_program_agree.proofs.EachEvent.{all-more, all-none, on_err, passes, skipped-few, skips, some-played}
+use Rattle.txn_program_agree.proofs.EachEvent.{all-more, all-none, skipped-few, some-played}
+use Rattle.txn_program_parties.proofs.OneEvent.{on_err, passes, skips}
 use Rattle.txn_program_agree.proofs.playing.play.Goals as goal
 use Rattle.txn_program_agree.proofs.playing.play.Goals.{in-Skipped, in_default}
 use Rattle.std.proofs.Common.{arith}

@@ -1,5 +1,6 @@
 use Rattle.std.proofs.Common.{arith}
-use Rattle.txn_relay_run.proofs.Had.{all-more, all-none, on_err, passes, skipped-few, skips, some-had}
+use Rattle.txn_relay_run.proofs.Had.{all-more, all-none, skipped-few, some-had}
+use Rattle.txn_program_parties.proofs.OneEvent.{on_err, passes, skips}
 use Rattle.txn_relay_run.proofs.playing.play.Goals as goal
 use Rattle.txn_relay_run.proofs.playing.play.Goals.{in-Skipped, in_default}
 
