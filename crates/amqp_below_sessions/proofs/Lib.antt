@@ -1,5 +1,6 @@
 pub mod Positions
 pub mod Indexing
+pub mod Ordered
 pub mod Agreeing
 pub mod Answered
 pub mod Exactly

@@ -1,6 +1,8 @@
 -- The links of a session, each under its output handle.
 use Rattle.std.specs.Prelude.{ℕ, ◌≡◌, ◌≢◌, ◌++◌, [], ◌∷◌, nat_eq, Bool, false, Option, Some, None, List, position, slice_index_or}
+use Rattle.std.specs.Ordering.{nat_cmp}
 use Rattle.std.specs.Cmp.Lexicographic.{pointwise}
+use Rattle.std.specs.declared.cmp.Ordering.{Ordering}
 use Rattle.amqp_txn_types.specs.declared.text.Text.{Text}
 use Rattle.amqp_txn_types.specs.declared.small.InputHandle.{InputHandle}
 use Rattle.amqp_txn_types.specs.declared.small.OutputHandle.{OutputHandle}
@@ -26,6 +28,10 @@ link_at slots output = slice_index_or slots output None
 -- two input handles are the same
 abbrev pub same_input : InputHandle → InputHandle → Bool
 same_input a b = nat_eq a.0 b.0
+
+-- input handles in the order of their numbers
+abbrev pub input_order : InputHandle → InputHandle → Ordering
+input_order a b = nat_cmp a.0 b.0
 
 -- the link is of this name
 abbrev pub has_name : Text → Option Link → Bool

@@ -2,9 +2,9 @@
 
 ghost use Rattle.std.specs.Prelude.{◌≡◌, ◌<◌, ◌^◌, [], Some, None, is_some, option_copied, IfSome, IsSome, MatchOption, OnOk, OnErr, IfOk};
 ghost use Rattle.std.specs.Bool.{OnTrue};
-ghost use Rattle.std.specs.HashMap.{get as entry_of};
+ghost use Rattle.std.specs.BTreeMap.{get as entry_of};
 ghost use Rattle.amqp_txn_types.specs.declared.small.InputHandle.{InputHandle};
-ghost use Rattle.amqp_below_sessions.specs.Links.{Finds, IsWaiting, LinkTable, Sets, attached, link_at, mapped_link, output_mapped, output_named, same_input, settled_as, waiting_link, with_flow, with_transfer};
+ghost use Rattle.amqp_below_sessions.specs.Links.{Finds, IsWaiting, LinkTable, Sets, attached, input_order, link_at, mapped_link, output_mapped, output_named, settled_as, waiting_link, with_flow, with_transfer};
 ghost use Rattle.amqp_txn_types.specs.declared.text.Text.{Text};
 ghost use Rattle.amqp_below_sessions.specs.Agreement.{found_without, input_in, name_in};
 
@@ -14,7 +14,7 @@ use amqp_txn_types::{
 };
 use slab::Slab;
 use std::alloc::Global;
-use std::collections::HashMap;
+use std::collections::BTreeMap;
 use std::marker::Model;
 
 /// A link of a session.
@@ -33,15 +33,15 @@ pub struct Link {
 #[derive(Drop)]
 pub struct Links {
     slots: Slab<Link>,
-    names: HashMap<Text, OutputHandle>,
-    inputs: HashMap<InputHandle, OutputHandle>,
+    names: BTreeMap<Text, OutputHandle>,
+    inputs: BTreeMap<InputHandle, OutputHandle>,
 }
 
 impl Model for Links {
-    ghost use Rattle.std.specs.Prelude.{nat_eq};
-    ghost use Rattle.std.specs.Cmp.Lexicographic.{pointwise};
-    ghost use Rattle.std.specs.HashMap.{get as entry_of};
-    ghost use Rattle.amqp_below_sessions.specs.Links.{LinkTable, same_input};
+    ghost use Rattle.std.specs.Ordering.{nat_cmp};
+    ghost use Rattle.std.specs.Cmp.Lexicographic.{slice_cmp};
+    ghost use Rattle.std.specs.BTreeMap.{get as entry_of};
+    ghost use Rattle.amqp_below_sessions.specs.Links.{LinkTable, input_order};
     ghost use Rattle.amqp_below_sessions.specs.Agreement.{Agree};
 
     ghost Value = { LinkTable };
@@ -49,8 +49,8 @@ impl Model for Links {
     ghost view = { λ l. record { slots = l.slots.slots; next = l.slots.vacant_key } };
 
     ghost invariant = { λ l.
-        Agree l.slots.slots (λ name. entry_of (pointwise nat_eq) l.names name)
-        (λ input. entry_of same_input l.inputs input) };
+        Agree l.slots.slots (λ name. entry_of (slice_cmp nat_cmp) l.names name)
+        (λ input. entry_of input_order l.inputs input) };
 }
 
 impl Links {
@@ -61,8 +61,8 @@ impl Links {
     {
         Links {
             slots: Slab::new(alloc),
-            names: HashMap::new(alloc),
-            inputs: HashMap::new(alloc),
+            names: BTreeMap::new(alloc),
+            inputs: BTreeMap::new(alloc),
         }
     }
 
@@ -160,13 +160,13 @@ impl Links {
     {
         let copy = name.try_clone()?;
         self.slots.reserve(1)?;
-        self.inputs.reserve(1)?;
         let output = OutputHandle(self.slots.vacant_key() as u32);
-        let Ok(_) = self.names.insert(copy, output) else {
+        let Ok(_) = self.inputs.insert(input, output) else {
             return Err(NoMemory);
         };
-        let Ok(_) = self.inputs.insert(input, output) else {
-            unreachable!()
+        let Ok(_) = self.names.insert(copy, output) else {
+            let _ = self.inputs.remove(&input);
+            return Err(NoMemory);
         };
         self.slots.insert_reserved(Link {
             name,
@@ -276,9 +276,9 @@ fn settled_as(
 }
 
 /// Takes an input handle out, where there is one.
-fn forget(inputs: &mut HashMap<InputHandle, OutputHandle>, input: Option<InputHandle>)
-    ensures { (q : InputHandle) → entry_of same_input inputs.new q
-        ≡ found_without input q (entry_of same_input inputs.old q) }
+fn forget(inputs: &mut BTreeMap<InputHandle, OutputHandle>, input: Option<InputHandle>)
+    ensures { (q : InputHandle) → entry_of input_order inputs.new q
+        ≡ found_without input q (entry_of input_order inputs.old q) }
 {
     if let Some(input) = input {
         let _ = inputs.remove(&input);

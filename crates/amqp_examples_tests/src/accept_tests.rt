@@ -9,7 +9,7 @@ use amqp_examples_accept::{
 use amqp_examples_controller::{attach, poll_attach};
 use amqp_links::{Poll, Progress};
 use amqp_resource_accepted::AcceptedSession;
-use amqp_test_values::{begin, control_attach, is_done, plain_session, sender_attach};
+use amqp_test_values::{begin, control_attach, is_done, leak, plain_session, sender_attach};
 use amqp_txn_types::{Attach, Frame, Role, SessionState, Text};
 use std::alloc::Global;
 use std::process::Abort;
@@ -23,14 +23,14 @@ fn accepted(rt: &impl Abort, alloc: Global) -> AcceptedSession {
     };
     assert!(rt; is_done(connection.append_session(peers)));
     let answer = accept_session(alloc, &mut connection);
-    drop(connection);
+    leak(connection);
     match answer {
         Poll::Ready(Ok((session, sent))) => {
-            drop(sent);
+            leak(sent);
             session
         }
         other => {
-            drop(other);
+            leak(other);
             panic!(rt; "no session")
         }
     }
@@ -61,10 +61,12 @@ fn a_link_is_accepted(rt: HostRuntime) {
     let heard = is_done(take(&mut engine, attach));
     let found = next_link(alloc, &mut engine);
     let is_found = matches!(&found, Ok(Some(_)));
-    drop(found);
+    leak(found);
     close_listener(&mut engine);
-    let stopped = next_link(alloc, &mut engine).is_err();
-    drop(engine);
+    let after = next_link(alloc, &mut engine);
+    let stopped = after.is_err();
+    leak(after);
+    leak(engine);
     assert!(rt; heard && is_found && stopped);
 }
 
@@ -73,14 +75,14 @@ fn a_session_begins(rt: HostRuntime) {
     let alloc = rt.alloc();
     let mut connection = MemoryConnection::new(alloc, 0);
     let begun = is_done(begin_session(alloc, &mut connection));
-    drop(connection);
+    leak(connection);
     assert!(rt; begun);
 }
 
 /// Whether the wait gave a controller.
 fn is_attached(found: Attached) -> bool {
     let attached = matches!(&found, Progress::Ready(Ok(_)));
-    drop(found);
+    leak(found);
     attached
 }
 
@@ -91,9 +93,9 @@ fn a_controller_is_attached_on_an_engine(rt: HostRuntime) {
     let mut engine = SessionEngine::new(alloc, session);
     let asked = attach_control(alloc, &mut engine, Text::new(alloc));
     let (waiting, sent) = asked.expect(&rt, "an attach");
-    drop(sent);
+    leak(sent);
     let (turn, found) = hear_frame(&mut engine, attaching(peers_attach(alloc)), waiting);
-    drop(engine);
+    leak(engine);
     assert!(rt; is_done(turn));
     assert!(rt; is_attached(found));
 }
@@ -104,10 +106,10 @@ fn a_controller_waits_for_the_peer(rt: HostRuntime) {
     let mut session = plain_session(alloc, SessionState::Mapped, 7);
     let asked = attach(alloc, &mut session, Text::new(alloc));
     let (waiting, sent) = asked.expect(&rt, "an attach");
-    drop(sent);
+    leak(sent);
     let found = poll_attach(&mut session, waiting);
-    drop(session);
+    leak(session);
     let is_pending = matches!(&found, Progress::Pending(_));
-    drop(found);
+    leak(found);
     assert!(rt; is_pending);
 }

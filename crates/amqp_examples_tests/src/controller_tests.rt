@@ -12,7 +12,7 @@ use amqp_examples_controller::{
 use amqp_links::{
     Delivery, DeliveryInfo, DispositionError, Progress, Sendable, WireReceiver, WireSender,
 };
-use amqp_test_values::{gives, is_done, link_end};
+use amqp_test_values::{gives, is_done, leak, link_end, value_of};
 use amqp_txn_types::{Binary, DeliveryState, Outcome, Payload, Role, Text, Token, TransactionId};
 use std::alloc::Global;
 use std::process::Abort;
@@ -63,7 +63,7 @@ fn a_commit_on_a_link_is_accepted(rt: HostRuntime) {
     let alloc = rt.alloc();
     let mut link = declaring(alloc, Some(DeliveryState::Accepted));
     let committed = commit_on_link(alloc, &mut link);
-    drop(link);
+    leak(link);
     assert!(rt; gives(committed, true));
 }
 
@@ -72,11 +72,11 @@ fn work_is_done_under_a_transaction(rt: HostRuntime) {
     let alloc = rt.alloc();
     let mut sender = accepting(alloc);
     let posted = post_once(&Named(id()), &mut sender, message());
-    drop(sender);
+    leak(sender);
     assert!(rt; gives(posted, Some(Outcome::Accepted)));
     let mut receiver = receiver(&rt, alloc);
     let taken = take_once(&Named(id()), &mut receiver);
-    drop(receiver);
+    leak(receiver);
     assert!(rt; gives(taken, Some(Payload::new())));
 }
 
@@ -85,7 +85,7 @@ fn a_commit_over_a_controller_is_accepted(rt: HostRuntime) {
     let link = declaring(rt.alloc(), Some(DeliveryState::Accepted));
     let controller = Controller::new(rt.alloc(), link);
     let committed = commit_once(&rt, &controller);
-    drop(controller);
+    leak(controller);
     assert!(rt; gives(committed, true));
 }
 
@@ -94,9 +94,9 @@ fn posted<R: Wait>(rt: &R, alloc: Global, answer: Option<DeliveryState>) -> Opti
     let controller = Controller::new(alloc, declaring(alloc, answer));
     let mut sender = accepting(alloc);
     let end = post_and_commit(rt, &controller, &mut sender, message());
-    drop(sender);
-    drop(controller);
-    end.ok()
+    leak(sender);
+    leak(controller);
+    value_of(end)
 }
 
 #[test]
@@ -144,10 +144,10 @@ fn a_delivery_is_passed_on(rt: HostRuntime) {
     let mut acquisition = acquired(&rt, alloc, &controller, &mut receiver);
     let mut sender = accepting(alloc);
     let passed = pass_on(&mut acquisition, &mut sender);
-    drop(sender);
-    drop(acquisition.abandon(&rt));
-    drop(receiver);
-    drop(controller);
+    leak(sender);
+    leak(acquisition.abandon(&rt));
+    leak(receiver);
+    leak(controller);
     assert!(rt; passed == Some(Outcome::Accepted));
 }
 
@@ -157,6 +157,6 @@ fn no_answer_is_awaited(rt: HostRuntime) {
     let wire = WireSender::new(alloc, link_end(Text::new(alloc), Role::Sender, 0));
     let controller = Controller::new(alloc, wire);
     let awaited = answer_message(&rt, &controller, Token(0), Ok(None));
-    drop(controller);
+    leak(controller);
     assert!(rt; !awaited);
 }

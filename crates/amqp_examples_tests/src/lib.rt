@@ -1,4 +1,6 @@
 //! Tests of the examples: each is called once, where there is memory.
+//!
+//! What a test made isn't taken apart at its end: the process gives all its memory back at once.
 #![tactic(auto)]
 
 #[cfg(test)]

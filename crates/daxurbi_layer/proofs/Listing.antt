@@ -106,17 +106,15 @@ pub hindered : (o : Option SessionInnerError) (told : BelowAnswer) (refusals : �
     → HindersFrame o refusals old new (Some error) → Cause told old.items refusals error
 hindered o told refusals old new error is why = hinders o told refusals old new error (sym is) why
 
-answered : (o : Option SessionInnerError) (layer : ToldLayer) (new : Vec (Frame × List Frame) Global) (slot : Option Refused) (error answer : SessionInnerError) → HindersFrame o layer.refusals layer.taken new (Some error)
-    → answer ≡ error_listed slot error → FrameAnswer o layer (Err answer)
-answered (Some own) layer new None error answer why gives = inl (gives ∙ same_Some error own why)
-answered (Some own) layer new (Some first) error answer why gives = inr gives
-answered None layer new slot error answer (inl (some, own)) gives = inl some
-answered None layer new slot error answer (inr (none, full_up, own)) gives = inr full_up
+answered : (o : Option SessionInnerError) (layer : ToldLayer) (new : Vec (Frame × List Frame) Global) (error answer : SessionInnerError) → HindersFrame o layer.refusals layer.taken new (Some error)
+    → answer ≡ error_listed layer.refused error → FrameAnswer o layer (Err answer)
+answered (Some own) layer new error answer why gives = ap Err (gives ∙ ap (error_listed layer.refused) (same_Some error own why))
+answered None layer new error answer why gives = (error, why, gives)
 
 pub frame_answer : (o : Option SessionInnerError) (layer : ToldLayer) (new : Vec (Frame × List Frame) Global) (error answer : SessionInnerError) → o ≡ refusal_told layer.answer
     → HindersFrame o layer.refusals layer.taken new (Some error) → answer ≡ error_listed layer.refused error → FrameAnswer (refusal_told layer.answer) layer (Err answer)
 frame_answer o layer new error answer is why gives =
-    subst (λ (p : Option SessionInnerError). FrameAnswer p layer (Err answer)) is (answered o layer new layer.refused error answer why gives)
+    subst (λ (p : Option SessionInnerError). FrameAnswer p layer (Err answer)) is (answered o layer new error answer why gives)
 
 -- a refusal isn't Ok
 pub no_ok : {T : Type 0} → (P : Type 0) (result : Result T SessionInnerError) (error : SessionInnerError) → result ≡ Err error → OnOk result P

@@ -1,17 +1,19 @@
 -- What each call of a layer that was told its answer gives and leaves.
-use Rattle.std.specs.Prelude.{ℕ, ◌≡◌, ◌≤◌, ◌+◌, Option, Some, None, Result, Ok, Err, List, [], ◌∷◌, ◌⊎◌, length, vec_len, vec_capacity, IsSome, OnOk}
+use Rattle.std.specs.Prelude.{ℕ, ◌≡◌, ◌≤◌, ◌+◌, Option, Some, None, Result, Ok, Err, List, [], ◌∷◌, length, vec_len, vec_capacity, IsSome, OnOk}
 use Rattle.amqp_txn_types.specs.declared.items.NoMemory.{NoMemory}
 use Rattle.amqp_txn_types.specs.declared.performatives.Attach.{Attach}
 use Rattle.amqp_txn_types.specs.declared.performatives.Frame.{Frame}
 use Rattle.amqp_below_layer.specs.Told.{Told, open_told}
 use Rattle.amqp_below_layer.specs.declared.inner_error.SessionInnerError.{SessionInnerError}
-use Rattle.amqp_below_layer.specs.declared.inner_error.SessionInnerError.TheVariants as faults
 use Rattle.amqp_below_layer.specs.declared.verdict.Verdict.{Verdict}
+use Rattle.amqp_below_layer.specs.declared.verdict.Verdict.TheVariants as verdicts
 use Rattle.daxurbi_layer.specs.Answering.{error_of, number_told, refusal_told, verdict_told}
-use Rattle.daxurbi_layer.specs.Refusing.{opened_list, refused_list}
+use Rattle.daxurbi_layer.specs.Hindering.{LackedRoom, no_room}
+use Rattle.daxurbi_layer.specs.Refusing.{error_listed, opened_list, refused_list}
 use Rattle.daxurbi_layer.specs.declared.told_layer.ToldLayer.{ToldLayer}
 
--- what it tells: the frames that it took, what it opened and refused, its counts, and what it was told
+-- what it tells: the frames that it took, what it opened and refused, and its counts. It has no plan
+-- of refused calls; in its place stands the number of what it was told
 abbrev pub told_of : ToldLayer → Told
 told_of layer = record open_told {
   taken = Some layer.taken.items;
@@ -26,22 +28,15 @@ told_of layer = record open_told {
 abbrev pub HasRoom : ToldLayer → ℕ → Type 0
 HasRoom layer count = vec_len layer.taken + count ≤ vec_capacity layer.taken
 
--- a refusal that was told, or out of memory
-abbrev pub RefusedWith : {T : Type 0} → SessionInnerError → Result T SessionInnerError → Type 0
-RefusedWith error (Ok value) = ⊥
-RefusedWith error (Err own) = (own ≡ error) ⊎ (own ≡ faults.NoMemory)
-
--- why a frame was refused by a layer that was told to take: one was refused before, or there was no
--- room
-abbrev pub HadNoRoom : ToldLayer → Type 0
-HadNoRoom layer = (1 ≤ layer.refusals) ⊎ (vec_capacity layer.taken ≤ vec_len layer.taken)
-
--- the answer to a frame, by the refusal that was told: that, or else no frame back
+-- the answer to a frame, by the refusal that was told: that; told to take no frame back, or that
+-- there was no room. After a first refusal each is out of memory
 abbrev pub FrameAnswer : Option SessionInnerError → ToldLayer
     → Result (List Frame) SessionInnerError → Type 0
-FrameAnswer (Some error) old result = RefusedWith error result
+FrameAnswer (Some error) old result = result ≡ Err (error_listed old.refused error)
 FrameAnswer None old (Ok given) = given ≡ []
-FrameAnswer None old (Err error) = HadNoRoom old
+FrameAnswer None old (Err error) =
+    (own : SessionInnerError) × LackedRoom old.refusals old.taken own
+    × (error ≡ error_listed old.refused own)
 
 -- a frame comes
 pub record Hands (old new : ToldLayer) (frame : Frame)
@@ -52,13 +47,14 @@ pub record Hands (old new : ToldLayer) (frame : Frame)
   pub capacity : vec_capacity old.taken ≤ vec_capacity new.taken
   pub fine : OnOk result (new.refusals ≡ old.refusals)
 
--- the answer to an attach, by the refusal that was told: that, or else no frame back, or a refusal
--- where one link was opened before
+-- the answer to an attach, by the refusal that was told: that; told to take no frame back, or that
+-- there was no room where one link was opened before. After a first refusal each is out of memory
 abbrev pub OpenAnswer : Option SessionInnerError → ToldLayer
     → Result (List Frame) SessionInnerError → Type 0
-OpenAnswer (Some error) old result = RefusedWith error result
+OpenAnswer (Some error) old result = result ≡ Err (error_listed old.refused error)
 OpenAnswer None old (Ok given) = given ≡ []
-OpenAnswer None old (Err error) = IsSome old.opened
+OpenAnswer None old (Err error) =
+    IsSome old.opened × (error ≡ error_listed old.refused (no_room old.taken.items))
 
 -- an attach comes
 pub record OpensTold (old new : ToldLayer) (attach : Attach)
@@ -79,10 +75,11 @@ pub record Answers (old new : ToldLayer) (result : Result Unit SessionInnerError
   pub taken : new.taken ≡ old.taken
   pub fine : OnOk result (new.refusals ≡ old.refusals)
 
--- what a review answers: what was told, or out of memory; a veto where a frame was taken before
+-- what a review answers: what was told, a veto where a frame was taken before, or out of memory
 abbrev pub ReviewAnswer : ToldLayer → Result Verdict NoMemory → Type 0
 ReviewAnswer old (Ok verdict) =
-    (verdict_told old.answer ≡ Ok verdict) ⊎ (1 ≤ length old.taken.items)
+    (length old.taken.items ≡ 0 → verdict_told old.answer ≡ Ok verdict)
+    × (1 ≤ length old.taken.items → verdict ≡ verdicts.Veto)
 ReviewAnswer old (Err error) = Unit {0}
 
 -- the frames of a commit are reviewed

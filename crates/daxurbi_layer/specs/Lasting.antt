@@ -6,7 +6,8 @@ use Rattle.amqp_txn_types.specs.declared.performatives.Frame.{Frame}
 use Rattle.amqp_below_layer.specs.declared.inner_error.SessionInnerError.{SessionInnerError}
 use Rattle.amqp_below_layer.specs.Reviewing.{GoesOn, StaysOn}
 use Rattle.daxurbi_layer.specs.Answering.{refusal_told}
-use Rattle.daxurbi_layer.specs.Handing.{Answers, FrameAnswer, HadNoRoom, Hands, PlainAnswer, TakesAll}
+use Rattle.daxurbi_layer.specs.Handing.{Answers, FrameAnswer, Hands, PlainAnswer, TakesAll}
+use Rattle.daxurbi_layer.specs.Hindering.{LackedRoom}
 use Rattle.daxurbi_layer.specs.declared.told_layer.ToldLayer.{ToldLayer}
 
 -- an answer by no refusal
@@ -16,10 +17,14 @@ told_none : (o : Option SessionInnerError) (old : ToldLayer)
 told_none o old result none gives = subst (λ x. FrameAnswer x old result) none gives
 
 -- it had room
-had_room : (layer : ToldLayer) (list : List Frame) (frame : Frame) → TakesAll layer (frame ∷ list)
-    → HadNoRoom layer → ⊥
-had_room layer list frame all (inl refused) = omega (arith, all.fine, refused)
-had_room layer list frame all (inr full) = omega (arith, all.room, full)
+had_space : (layer : ToldLayer) (list : List Frame) (frame : Frame) (own : SessionInnerError)
+    → TakesAll layer (frame ∷ list) → LackedRoom layer.refusals layer.taken own → ⊥
+had_space layer list frame own all (inl (refused, is)) = omega (arith, all.fine, refused)
+had_space layer list frame own all (inr (none, full, is)) = omega (arith, all.room, full)
+
+had_room : (layer : ToldLayer) (list : List Frame) (frame : Frame) (error : SessionInnerError)
+    → TakesAll layer (frame ∷ list) → FrameAnswer None layer (Err error) → ⊥
+had_room layer list frame error all (own, lacked, is) = had_space layer list frame own all lacked
 
 -- the incoming call of the first of some frames that it takes goes on to the rest
 pub told-goes-on : (old new : ToldLayer) (frame : Frame)
@@ -32,7 +37,7 @@ told-goes-on old new frame (Ok given) hands rest all = record {
 }
 told-goes-on old new frame (Err error) hands rest all =
     let full = told_none (refusal_told old.answer) old (Err error) all.told hands.gives in
-    absurd (had_room old rest frame all full)
+    absurd (had_room old rest frame error all full)
 
 -- a check among them is Ok, and leaves the room
 pub told-stays-on : (old new : ToldLayer) (answer : Result Unit SessionInnerError)

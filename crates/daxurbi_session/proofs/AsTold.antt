@@ -22,6 +22,7 @@ use Rattle.amqp_resource_record.specs.declared.reply.Reply.{Reply}
 use Rattle.amqp_resource_record.specs.declared.reply.Reply.TheVariants as replies
 use Rattle.amqp_resource_record.specs.declared.step.Step.{Step}
 use Rattle.amqp_resource_record.specs.declared.step.Step.TheVariants as steps
+use Rattle.amqp_resource_session.proofs.Handing.{only-no_memory}
 use Rattle.amqp_resource_session.specs.Steps.{AddsRefusal, FrameMayFault, IfAttachRefused, IsControlAttach, IsUnder, MayFault, RefusedAdds, fault_of}
 use Rattle.amqp_txn_types.specs.Frames.{is_coordinator_attach, is_plain_frame, stripped, txn}
 use Rattle.amqp_txn_types.specs.Presumptive.{answered_under, frames_telling, presumed_disposition}
@@ -67,18 +68,6 @@ same_told a b same = same_Some a b (sym (number_back a) ∙ ap (λ (list : List 
 
 -- ---- errors
 
-no_memory_is : (error : SessionInnerError) → is_no_memory error ≡ true → error ≡ faults.NoMemory
-no_memory_is faults.UnattachedHandle is = absurd (cc is)
-no_memory_is faults.RemoteAttachingLinkNameNotFound is = absurd (cc is)
-no_memory_is faults.HandleInUse is = absurd (cc is)
-no_memory_is faults.IllegalState is = absurd (cc is)
-no_memory_is (faults.ConnectionStopped reason) is = absurd (cc is)
-no_memory_is faults.TransferFrameToSender is = absurd (cc is)
-no_memory_is faults.RemoteEnded is = absurd (cc is)
-no_memory_is (faults.RemoteEndedWithError own) is = absurd (cc is)
-no_memory_is faults.UnknownTxnId is = absurd (cc is)
-no_memory_is faults.NoMemory is = refl
-
 -- what was told is a fault as it is
 named_fault : (name : NamedError) → fault_of (named name) ≡ named name
 named_fault names.UnattachedHandle = refl
@@ -119,7 +108,7 @@ by_list : (b : Bool) (told : BelowAnswer) (taken : List (Frame × List Frame)) (
     → refused_list (error_of (refusal_told told)) refused ≡ cond b [] (record { frame = frame; error = own } ∷ [])
     → AsTold told own ⊎ ((1 ≤ length taken) × (told ≡ answers.Take))
 unfolding first_error
-by_list true told taken refused refusals frame own is none list = inl (inr (no_memory_is own is))
+by_list true told taken refused refusals frame own is none list = inl (inr (only-no_memory own is))
 by_list false told taken None refusals frame own is none list = absurd (cc list)
 by_list false told taken (Some call) refusals frame own is none list = listed_as told taken refusals own none (ap first_error list)
 

@@ -1,5 +1,5 @@
 -- A step over a layer that is told its answer, from what a step says.
-use Rattle.std.proofs.Common.{Bool, List, Some, [], ap, false, length, refl, subst, sym, take, true, ℕ, ◌∙◌, ◌≡◌, ◌≤◌, ◌⊎◌, inl, inr, Result, Ok, Err, arith}
+use Rattle.std.proofs.Common.{Bool, List, Some, [], ap, false, length, refl, subst, sym, take, true, ℕ, ◌∙◌, ◌≡◌, ◌≤◌, Result, Ok, Err, arith}
 use Rattle.std.specs.Prelude.{MatchBool, IfErr}
 use Rattle.std.specs.List.{zip}
 use Rattle.std.proofs.lemmas.Option.{same_Some}
@@ -17,7 +17,7 @@ use Rattle.amqp_below_layer.specs.declared.verdict.Verdict.TheVariants as verdic
 use Rattle.amqp_resource_held.specs.Views.{view_of_record}
 use Rattle.amqp_resource_record.specs.Opened.{opened_by, refused_by}
 use Rattle.daxurbi_layer.specs.Answering.{error_of, refusal_told, verdict_told}
-use Rattle.daxurbi_layer.specs.Handing.{told_of}
+use Rattle.daxurbi_layer.specs.Handing.{ReviewAnswer, told_of}
 use Rattle.daxurbi_layer.specs.Refusing.{opened_list, refused_list}
 use Rattle.amqp_resource_record.specs.declared.step.Step.{Step}
 use Rattle.amqp_resource_record.specs.declared.stop.StepError.{StepError}
@@ -173,7 +173,5 @@ on_veto (Ok out) f p = if_veto out.1 f p
 on_veto (Err error) f p = tt
 
 -- a layer that took nothing vetoes what it was told to
-pub vetoed_as_told : (layer : ToldLayer) → layer.taken.items ≡ [] → (verdict_told layer.answer ≡ Ok verdicts.Veto) ⊎ (1 ≤ length layer.taken.items)
-    → verdict_told layer.answer ≡ Ok verdicts.Veto
-vetoed_as_told layer none (inl told) = told
-vetoed_as_told layer none (inr some) = absurd (omega (arith, some, ap (λ (l : List (Frame × List Frame)). length l) none))
+pub vetoed_as_told : (layer : ToldLayer) → layer.taken.items ≡ [] → ReviewAnswer layer (Ok verdicts.Veto) → verdict_told layer.answer ≡ Ok verdicts.Veto
+vetoed_as_told layer none gives = gives.0 (ap (λ (l : List (Frame × List Frame)). length l) none)

@@ -11,10 +11,13 @@ use Rattle.amqp_resource_record.specs.declared.entry.Entry.{Entry}
 use Rattle.amqp_resource_record.specs.Answers.{Answer}
 use Rattle.amqp_resource_record.specs.Work.{handed_by}
 use Rattle.amqp_txn_types.specs.Frames.{stripped}
+use Rattle.amqp_txn_codec.specs.Reading.{message_of}
+use Rattle.amqp_txn_codec.specs.declared.message.ControlMessageBody.TheVariants as messages
+use Rattle.amqp_txn_codec.specs.declared.message.Discharge.{Discharge}
 use Rattle.amqp_resource_log.specs.Live.{frames_kept, kept}
 use Rattle.amqp_resource_held.specs.declared.held.Held.{Held}
 use Rattle.amqp_resource_held.specs.Changes.{Ended}
-use Rattle.amqp_resource_held.specs.Held.{Stands, ids_on}
+use Rattle.amqp_resource_held.specs.Held.{Stands, ids_on, is_in}
 use Rattle.txn_program_report.specs.Report.{reply_frames, reply_text}
 use Rattle.txn_audit_fits.specs.declared.outs.Outs.{Outs}
 use Rattle.txn_audit_fits.specs.declared.outs.Outs.TheVariants as outs
@@ -78,6 +81,12 @@ abbrev pub JudgesWork : Held → Held → List Frame → List Frame → Step →
     → Type 0
 JudgesWork old new was now step line outs =
     (next : ℕ → TransactionId) → Judges old new was now next next step line outs
+
+-- the payload is the message of this discharge, and its link is open
+pub record IsDischarge (held : Held) (link : ℕ) (payload : List ℕ) (discharge : Discharge)
+    : Type 0 where
+  pub message : message_of payload ≡ Some (messages.Discharge discharge)
+  pub opened : is_in held.links.entries link ≡ true
 
 -- no lines, where the line is this one
 abbrev pub nothing_after : List ℕ → List ℕ → Option Outs

@@ -147,7 +147,9 @@ fn judge_step<'a, G: IdSource, L: Ledger>(
     ensures start { G.start ids.new ≡ G.start ids.old }
 {
     let (line, after) = first_line(lines);
-    let Some(outs) = judge_reply(held, work, alloc, step, ids, line, looks, told)? else {
+    let outs = judge_reply(held, work, alloc, step, ids, line, looks, told)?;
+    held.work.compact(looks);
+    let Some(outs) = outs else {
         return Ok(Judged::Departs(lines));
     };
     lines_after(alloc, &outs, after, told)

@@ -1,13 +1,11 @@
 //! Lines of replies to discharges.
 
-ghost use Rattle.std.specs.Prelude.{◌≡◌, ◌++◌, true, false, Some, IfOk, OnOk};
+ghost use Rattle.std.specs.Prelude.{◌≡◌, ◌++◌, true, false, IfOk, OnOk};
 ghost use Rattle.amqp_txn_codec.specs.Discharges.{is_rollback};
-ghost use Rattle.amqp_txn_codec.specs.Reading.{message_of};
-ghost use Rattle.amqp_txn_codec.specs.declared.message.ControlMessageBody.TheVariants as messages;
 ghost use Rattle.amqp_resource_record.specs.declared.step.Step.TheVariants as steps;
 ghost use Rattle.amqp_resource_log.specs.Live.{kept};
-ghost use Rattle.amqp_resource_held.specs.Held.{is_in, is_kept_on};
-ghost use Rattle.txn_audit_fits.specs.Judging.{JudgesHere, JudgesWork, Takes, outs_of_count};
+ghost use Rattle.amqp_resource_held.specs.Held.{is_kept_on};
+ghost use Rattle.txn_audit_fits.specs.Judging.{IsDischarge, JudgesHere, JudgesWork, Takes, outs_of_count};
 
 use crate::difference::Wanted;
 use crate::links::nothing_after;
@@ -32,8 +30,7 @@ pub fn judge_discharge<L: Ledger>(
     looks: &mut Looks<L>,
     told: &mut Wanted,
 ) -> Result<Option<Outs>, NoMemory>
-    requires message { message_of payload.now ≡ Some (messages.Discharge discharge) }
-    requires opened { is_in held.old.links.entries link ≡ true }
+    requires { IsDischarge held.old link payload.now discharge }
     ensures { IfOk result (JudgesWork held.old held.new work.old work.new
         (steps.Control link payload.now) line.now) }
 {
@@ -57,8 +54,7 @@ fn judge_unknown(
     line: &[u8],
     told: &mut Wanted,
 ) -> Option<Outs>
-    requires message { message_of payload.now ≡ Some (messages.Discharge discharge) }
-    requires opened { is_in held.now.links.entries link ≡ true }
+    requires discharge { IsDischarge held.now link payload.now discharge }
     requires unknown { is_kept_on link (kept held.now.work discharge.txn_id) ≡ false }
     ensures { JudgesHere held.now held.now (steps.Control link payload.now) line.now result }
 {
@@ -75,8 +71,7 @@ fn judge_rollback<L: Ledger>(
     looks: &mut Looks<L>,
     told: &mut Wanted,
 ) -> Option<Outs>
-    requires message { message_of payload.now ≡ Some (messages.Discharge discharge) }
-    requires opened { is_in held.old.links.entries link ≡ true }
+    requires discharge { IsDischarge held.old link payload.now discharge }
     requires known { is_kept_on link (kept held.old.work discharge.txn_id) ≡ true }
     requires rollback { is_rollback discharge.fail ≡ true }
     ensures { JudgesHere held.old held.new (steps.Control link payload.now) line.now result }
@@ -98,8 +93,7 @@ fn judge_commit<L: Ledger>(
     looks: &mut Looks<L>,
     told: &mut Wanted,
 ) -> Result<Option<Outs>, NoMemory>
-    requires message { message_of payload.now ≡ Some (messages.Discharge discharge) }
-    requires opened { is_in held.old.links.entries link ≡ true }
+    requires discharge { IsDischarge held.old link payload.now discharge }
     requires known { is_kept_on link (kept held.old.work discharge.txn_id) ≡ true }
     requires commit { is_rollback discharge.fail ≡ false }
     ensures { IfOk result (JudgesWork held.old held.new work.old work.new

@@ -34,26 +34,6 @@ pub fn judge_reply<G: IdSource, L: Ledger>(
         (G.next ids.new) step.now line.now) }
     ensures start { G.start ids.new ≡ G.start ids.old }
 {
-    let outs = judge_by_kind(held, work, alloc, step, ids, line, looks, told)?;
-    held.work.compact(looks);
-    Ok(outs)
-}
-
-/// As [`judge_reply`], before the log is compacted.
-fn judge_by_kind<G: IdSource, L: Ledger>(
-    held: &mut Held,
-    work: &mut Frames,
-    alloc: Global,
-    step: &Step,
-    ids: &mut G,
-    line: &[u8],
-    looks: &mut Looks<L>,
-    told: &mut Wanted,
-) -> Result<Option<Outs>, NoMemory>
-    ensures judged { IfOk result (Judges held.old held.new work.old work.new (G.next ids.old)
-        (G.next ids.new) step.now line.now) }
-    ensures start { G.start ids.new ≡ G.start ids.old }
-{
     match step {
         Step::Frame(frame) => judge_frame(held, work, alloc, frame, line, told),
         Step::Control { link, payload } => {

@@ -6,7 +6,7 @@ ghost use Rattle.txn_mailbox_queue.specs.Order.{view_of};
 ghost use Rattle.txn_mailbox_serving.specs.Steps.{control_attach, first_attach, second_attach};
 
 use crate::copies::Copies;
-use amqp_resource_record::{Entry, Step, Steps};
+use amqp_resource_record::{Entry, Step};
 use amqp_txn_types::{Coordinator, Frame, NoMemory, Role, TargetArchetype};
 use std::alloc::Global;
 use txn_mailbox_queue::{Lengths, Queue, Seat, open_queue};
@@ -22,7 +22,7 @@ pub struct Ready<L: Lengths> {
     pub first_attach: Step,
     /// The attach that is made next.
     pub second_attach: Step,
-    /// Copies of both lists.
+    /// The copies of both lists.
     pub copies: Copies,
     /// Room for all entries.
     pub entries: Vec<Entry>,
@@ -30,31 +30,28 @@ pub struct Ready<L: Lengths> {
     pub marks: Vec<u8>,
 }
 
-/// Makes all that takes memory but the steps themselves. The only error is out of memory.
+/// Makes all that takes memory but the steps themselves, for copies of both lists. The only error
+/// is out of memory.
 ///
 /// # Requires
 ///
 /// Both lists together have fewer than 2^32 steps.
-pub fn make_ready<L: Lengths>(
-    alloc: Global,
-    first: &Steps,
-    second: &Steps,
-) -> Result<Ready<L>, NoMemory>
-    requires { length first.now + length second.now < 2 ^ 32 }
+pub fn make_ready<L: Lengths>(alloc: Global, copies: Copies) -> Result<Ready<L>, NoMemory>
+    requires { length copies.first.items + length copies.second.items < 2 ^ 32 }
     ensures queue { IfOk result (λ ready. IsPassOf ready.queue ready.seat) }
     ensures view { IfOk result (λ ready. view ready.seat ≡ view_of true true true 0 0 []) }
     ensures attaches { IfOk result (λ ready. (ready.first_attach ≡ first_attach)
         × (ready.second_attach ≡ second_attach)) }
-    ensures copies { IfOk result (λ ready. (ready.copies.first.items ≡ first.now)
-        × (ready.copies.second.items ≡ second.now)) }
+    ensures copies { IfOk result (λ ready. ready.copies ≡ copies) }
     ensures none { IfOk result (λ ready. (ready.entries.items ≡ []) × (ready.marks.items ≡ [])) }
     ensures room { IfOk result (λ ready.
-        (length first.now + length second.now + 2 ≤ vec_capacity ready.entries)
-        × (length first.now + length second.now + 2 ≤ vec_capacity ready.marks)) }
+        (length copies.first.items + length copies.second.items + 2
+        ≤ vec_capacity ready.entries)
+        × (length copies.first.items + length copies.second.items + 2
+        ≤ vec_capacity ready.marks)) }
 {
-    let count = first.len() + second.len();
+    let count = copies.first.len() + copies.second.len();
     let (queue, seat) = open_queue::<L>(alloc, count)?;
-    let copies = Copies::of(alloc, first, second)?;
     let entries = Vec::with_capacity(alloc, count + 2)?;
     let marks = Vec::with_capacity(alloc, count + 2)?;
     let (first_attach, second_attach) = two_attaches(alloc)?;

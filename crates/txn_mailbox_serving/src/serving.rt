@@ -206,7 +206,7 @@ fn serve_ready<
     server.into_served()
 }
 
-/// Serves two lists whose lengths have names.
+/// Serves copies of two lists, whose lengths have names.
 fn serve_in<
     L: Lengths + Sync,
     R: Threads + Wait + Sync,
@@ -216,21 +216,21 @@ fn serve_in<
 >(
     rt: &R,
     alloc: Global,
+    copies: Copies,
     session: TxnSession<S>,
     ids: G,
-    first: &Steps,
-    second: &Steps,
     gate: &H,
 ) -> Result<Served<S, G>, (TxnSession<S>, G)>
-    requires lists { (L.first ≡ length first.now) × (L.second ≡ length second.now) }
-    requires few { length first.now + length second.now < 2 ^ 32 }
+    requires lists { (L.first ≡ length copies.first.items)
+        × (L.second ≡ length copies.second.items) }
+    requires few { length copies.first.items + length copies.second.items < 2 ^ 32 }
     requires fresh { IsFresh S.told session }
     ensures serves { IfOk result (λ served. Serves S.told S.sure G.next G.start session
-        served.session ids served.ids first.now second.now served.entries served.marks
-        served.stop) }
+        served.session ids served.ids copies.first.items copies.second.items served.entries
+        served.marks served.stop) }
     ensures back { IfErr result (λ back. (back.0 ≡ session) × (back.1 ≡ ids)) }
 {
-    match make_ready::<L>(alloc, first, second) {
+    match make_ready::<L>(alloc, copies) {
         Ok(ready) => Ok(serve_ready(rt, ready, session, ids, gate)),
         Err(_) => Err((session, ids)),
     }
@@ -279,5 +279,8 @@ pub fn serve_two<
         served.stop) }
     ensures back { IfErr result (λ back. (back.0 ≡ session) × (back.1 ≡ ids)) }
 {
-    serve_in::<Brand, R, S, G, H>(rt, alloc, session, ids, first, second, gate)
+    match Copies::of(alloc, first, second) {
+        Ok(copies) => serve_in::<Brand, R, S, G, H>(rt, alloc, copies, session, ids, gate),
+        Err(_) => Err((session, ids)),
+    }
 }

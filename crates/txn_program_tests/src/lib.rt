@@ -1,6 +1,10 @@
 //! Tests of the program, over layers, sources and sinks of their own.
+//!
+//! What a test made isn't taken apart at its end: the process gives all its memory back at once.
 #![tactic(auto)]
 
+#[cfg(test)]
+mod agree_tests;
 #[cfg(test)]
 mod listen_tests;
 #[cfg(test)]

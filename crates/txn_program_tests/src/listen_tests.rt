@@ -8,16 +8,15 @@ use amqp_below::PlainSession;
 use amqp_txn_types::{Begin, Handle, OutgoingChannel, SessionState};
 use std::alloc::{Alloc, Global};
 use std::process::Abort;
-use std::test::Fail;
 
-/// A session with no link, of which every handle may be used.
-fn plain_session(alloc: Global) -> PlainSession {
+/// A session with no link, of which the handles up to that one may be used.
+fn plain_session(alloc: Global, handle_max: Handle) -> PlainSession {
     let begin = Begin {
         remote_channel: None,
         next_outgoing_id: 0,
         incoming_window: 2048,
         outgoing_window: 2048,
-        handle_max: Handle(u32::MAX),
+        handle_max,
         offered_capabilities: None,
         desired_capabilities: None,
         properties: None,
@@ -26,17 +25,20 @@ fn plain_session(alloc: Global) -> PlainSession {
 }
 
 #[test]
-fn a_plain_session_refuses_an_unattached_handle(rt: HostRuntime) -> Result<(), Fail> {
+fn a_plain_session_refuses_an_unattached_handle(rt: HostRuntime) {
     let lines = "attach c 0\nflow -\ntransfer 4 7 true 61\n";
     let text = "attached 0\nok\nstop unattached-handle\nhanded 0\ntaken flow - -\n";
-    let below = plain_session(rt.alloc());
-    assert_over(&rt, below, &["run", A], lines, (1, text))
+    let below = plain_session(rt.alloc(), Handle(u32::MAX));
+    assert_over(&rt, below, &["run", A], lines, (1, text));
 }
 
 /// A listener over such a session that accepts links at once.
-fn listener_session(alloc: Global) -> AcceptingListener<PlainSession> {
+pub(crate) fn listener_session(
+    alloc: Global,
+    handle_max: Handle,
+) -> AcceptingListener<PlainSession> {
     let control = ControlLinkAcceptor::default();
-    let listener = ListenerSession::new(alloc, plain_session(alloc), control);
+    let listener = ListenerSession::new(alloc, plain_session(alloc, handle_max), control);
     AcceptingListener::new(alloc, listener, LinkAcceptor::new())
 }
 
@@ -47,20 +49,20 @@ fn assert_listen(
     lines: &str,
     status: u8,
     text: &str,
-) -> Result<(), Fail> {
-    let below = listener_session(rt.alloc());
-    assert_over(rt, below, words, lines, (status, text))
+) {
+    let below = listener_session(rt.alloc(), Handle(u32::MAX));
+    assert_over(rt, below, words, lines, (status, text));
 }
 
 #[test]
-fn what_a_listener_lets_pass_is_taken(rt: HostRuntime) -> Result<(), Fail> {
+fn what_a_listener_lets_pass_is_taken(rt: HostRuntime) {
     let lines = "flow 4 9\ntransfer 4 7 true 61\n";
     let text = "ok\nok\nstop done\nhanded 0\ntaken flow 4 9\ntaken transfer 4 7 true - 61\n";
-    assert_listen(&rt, &["listen", A], lines, 0, text)
+    assert_listen(&rt, &["listen", A], lines, 0, text);
 }
 
 #[test]
-fn a_commit_on_an_attached_link_is_handed(rt: HostRuntime) -> Result<(), Fail> {
+fn a_commit_on_an_attached_link_is_handed(rt: HostRuntime) {
     assert_listen(
         &rt,
         &["listen", A],
@@ -84,11 +86,11 @@ fn a_commit_on_an_attached_link_is_handed(rt: HostRuntime) -> Result<(), Fail> {
          handed 0\n\
          taken attach q 1 sender\n\
          taken transfer 1 7 - - 6869\n",
-    )
+    );
 }
 
 #[test]
-fn a_commit_on_an_unattached_handle_is_vetoed(rt: HostRuntime) -> Result<(), Fail> {
+fn a_commit_on_an_unattached_handle_is_vetoed(rt: HostRuntime) {
     assert_listen(
         &rt,
         &["listen", A],
@@ -106,11 +108,11 @@ fn a_commit_on_an_unattached_handle_is_vetoed(rt: HostRuntime) -> Result<(), Fai
          rejected rollback\n\
          stop done\n\
          handed 0\n",
-    )
+    );
 }
 
 #[test]
-fn a_listener_refuses_a_handle_that_is_in_use(rt: HostRuntime) -> Result<(), Fail> {
+fn a_listener_refuses_a_handle_that_is_in_use(rt: HostRuntime) {
     assert_listen(
         &rt,
         &["listen", A],
@@ -123,11 +125,11 @@ fn a_listener_refuses_a_handle_that_is_in_use(rt: HostRuntime) -> Result<(), Fai
          declared 00000000000000000000000000000001\n\
          stop done\n\
          handed 0\n",
-    )
+    );
 }
 
 #[test]
-fn a_link_is_attached_until_its_detach(rt: HostRuntime) -> Result<(), Fail> {
+fn a_link_is_attached_until_its_detach(rt: HostRuntime) {
     assert_listen(
         &rt,
         &["listen", A],
@@ -143,11 +145,11 @@ fn a_link_is_attached_until_its_detach(rt: HostRuntime) -> Result<(), Fail> {
          taken attach q 1 receiver\n\
          taken flow 1 9\n\
          taken detach 1 true\n",
-    )
+    );
 }
 
 #[test]
-fn a_link_of_a_known_name_is_refused(rt: HostRuntime) -> Result<(), Fail> {
+fn a_link_of_a_known_name_is_refused(rt: HostRuntime) {
     assert_listen(
         &rt,
         &["listen", A],
@@ -158,11 +160,11 @@ fn a_link_of_a_known_name_is_refused(rt: HostRuntime) -> Result<(), Fail> {
          out flow 0 200\n\
          stop handle-in-use\n\
          handed 0\n",
-    )
+    );
 }
 
 #[test]
-fn a_detach_frees_the_handle_of_an_open_control_link(rt: HostRuntime) -> Result<(), Fail> {
+fn a_detach_frees_the_handle_of_an_open_control_link(rt: HostRuntime) {
     assert_listen(
         &rt,
         &["listen", A],
@@ -180,16 +182,16 @@ fn a_detach_frees_the_handle_of_an_open_control_link(rt: HostRuntime) -> Result<
          stop done\n\
          handed 0\n\
          taken detach 4 true\n",
-    )
+    );
 }
 
 #[test]
-fn the_plan_holds_over_a_listener(rt: HostRuntime) -> Result<(), Fail> {
+fn the_plan_holds_over_a_listener(rt: HostRuntime) {
     assert_listen(
         &rt,
         &["listen", "--refuse", "1", A],
         "flow 4 9\n",
         1,
         "stop illegal-state\nhanded 0\n",
-    )
+    );
 }

@@ -1,11 +1,12 @@
 //! What a process ends with: by its arguments, over one layer, and without arguments.
 
-use crate::run_over::{A, append_words};
-use amqp_below::{OpenSession, Recorder, SureSink, SureSource};
-use amqp_txn_types::{Binary, Items, NoMemory, Text};
-use std::alloc::Global;
+use crate::run_over::{A, is_written, source_of, texts_of};
+use amqp_below::{LayerBelow, OpenSession, Recorder, SureSink, SureSource};
+use amqp_test_values::leak;
+use amqp_txn_types::{Items, Text};
+use std::alloc::{Alloc, Global};
+use std::process::Abort;
 use std::sync::Wait;
-use std::test::Fail;
 use std::thread::Threads;
 use txn_program::{Layer, run};
 use txn_program_process::Fault;
@@ -13,65 +14,77 @@ use txn_program_runs::end_over;
 
 /// The status that a process over the open layer ends with, on no input, and whether its text is
 /// that text.
-fn ends_so(alloc: Global, arguments: Result<Items<Text>, Fault>, text: &str) -> (u8, bool) {
-    let below = Recorder::new(alloc, OpenSession::new(alloc));
-    let mut source = SureSource::new(Binary::new(alloc));
-    let mut sink = SureSink::new(alloc);
-    let ran = end_over(alloc, arguments, Layer::Open, below, &mut source, &mut sink);
+fn ends_so(
+    rt: &(impl Abort + Alloc<A = Global>),
+    arguments: Result<Items<Text>, Fault>,
+    text: &str,
+) -> (u8, bool) {
+    let below = Recorder::new(rt.alloc(), OpenSession::new(rt.alloc()));
+    let mut source = source_of(rt, "");
+    let mut sink = SureSink::new(rt.alloc());
+    let status = status_at_end(rt, arguments, below, &mut source, &mut sink);
+    leak(source);
+    (status, is_written(sink, text))
+}
+
+/// The status that a process over a fresh recorder ends with.
+fn status_at_end<S: LayerBelow + Send>(
+    rt: &(impl Abort + Alloc<A = Global>),
+    arguments: Result<Items<Text>, Fault>,
+    below: Recorder<S>,
+    source: &mut SureSource,
+    sink: &mut SureSink,
+) -> u8 {
+    if !below.is_fresh() {
+        panic!(rt; "the recorder is fresh");
+    }
+    let ran = end_over(rt.alloc(), arguments, Layer::Open, below, source, sink);
     let status = ran.status;
-    drop(ran);
-    let written = sink.as_slice() == text.as_bytes();
-    drop(source);
-    drop(sink);
-    (status, written)
+    leak(ran);
+    status
 }
 
 /// How a process with these arguments ends.
-fn serves_so(alloc: Global, words: &[&str], text: &str) -> Result<(u8, bool), NoMemory> {
-    let mut arguments = Items::new(alloc);
-    match append_words(alloc, &mut arguments, words) {
-        Ok(()) => Ok(ends_so(alloc, Ok(arguments), text)),
-        Err(error) => {
-            drop(arguments);
-            Err(error)
-        }
-    }
+fn serves_so(rt: &(impl Abort + Alloc<A = Global>), words: &[&str], text: &str) -> (u8, bool) {
+    ends_so(rt, Ok(texts_of(rt, words)), text)
 }
 
 #[test]
-fn a_process_serves_the_words_of_its_layer_alone(rt: HostRuntime) -> Result<(), Fail> {
-    let alloc = rt.alloc();
-    assert_eq!(rt;
-        serves_so(alloc, &["run", A], "stop done\nhanded 0\n")?,
-        (0, true)
-    );
-    assert_eq!(rt; serves_so(alloc, &["listen", A], "usage\n")?, (2, true));
-    assert_eq!(rt; serves_so(alloc, &[], "usage\n")?, (2, true));
-    Ok(())
+fn a_process_serves_the_words_of_its_layer_alone(rt: HostRuntime) {
+    assert!(rt; serves_so(&rt, &["run", A], "stop done\nhanded 0\n") == (0, true));
+    assert!(rt; serves_so(&rt, &["listen", A], "usage\n") == (2, true));
+    assert!(rt; serves_so(&rt, &[], "usage\n") == (2, true));
 }
 
 #[test]
 fn a_process_without_arguments_tells_why(rt: HostRuntime) {
-    let alloc = rt.alloc();
-    assert_eq!(rt; ends_so(alloc, Err(Fault::Arguments), "usage\n"), (2, true));
-    assert_eq!(rt; ends_so(alloc, Err(Fault::NoMemory), ""), (6, true));
+    assert!(rt; ends_so(&rt, Err(Fault::Arguments), "usage\n") == (2, true));
+    assert!(rt; ends_so(&rt, Err(Fault::NoMemory), "") == (6, true));
 }
 
-/// The status of the top call without arguments, and whether its text is that text.
-fn runs_so<R: Threads + Wait + Sync>(rt: &R, alloc: Global, text: &str) -> (u8, bool) {
-    let below = Recorder::new(alloc, OpenSession::new(alloc));
-    let mut source = SureSource::new(Binary::new(alloc));
-    let mut sink = SureSink::new(alloc);
-    let ran = run(rt, alloc, &[], below, &mut source, &mut sink);
+/// The status of the top call, and whether its text is that text.
+fn runs_so<R: Threads + Wait + Sync + Abort + Alloc<A = Global>>(
+    rt: &R,
+    words: &[&str],
+    text: &str,
+) -> (u8, bool) {
+    let arguments = texts_of(rt, words);
+    let below = Recorder::new(rt.alloc(), OpenSession::new(rt.alloc()));
+    let mut source = source_of(rt, "");
+    let mut sink = SureSink::new(rt.alloc());
+    let words = arguments.as_slice();
+    let ran = run(rt, rt.alloc(), words, below, &mut source, &mut sink);
     let status = ran.status;
-    drop(ran);
-    let written = sink.as_slice() == text.as_bytes();
-    drop(source);
-    drop(sink);
-    (status, written)
+    leak(ran);
+    leak(arguments);
+    leak(source);
+    (status, is_written(sink, text))
 }
 
 #[test]
-fn the_top_call_takes_a_runtime(rt: HostRuntime) {
-    assert_eq!(rt; runs_so(&rt, rt.alloc(), "usage\n"), (2, true));
+fn the_top_call_starts_workers(rt: HostRuntime) {
+    let text = "workers 2\nentries 26\ncommits 4\nrollbacks 2\ntaken 8\n";
+    assert!(rt; runs_so(&rt, &["threads", "2", "3"], text) == (0, true));
+    assert!(rt; runs_so(&rt, &["threads", "9", "1"], "usage\n") == (2, true));
+    assert!(rt; runs_so(&rt, &[], "usage\n") == (2, true));
 }

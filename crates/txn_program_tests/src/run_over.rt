@@ -1,76 +1,94 @@
 //! A run over a recorder of any layer, and what it answers.
 
-use amqp_below::{LayerBelow, Recorder, SureSink, SureSource};
-use amqp_txn_types::{Binary, Items, NoMemory, Text};
+use amqp_below::{ByteSink, ByteSource, LayerBelow, Recorder, SureSink, SureSource};
+use amqp_test_values::leak;
+use amqp_txn_types::{Binary, Items, Text};
 use std::alloc::{Alloc, Global};
 use std::process::Abort;
-use std::test::Fail;
-use txn_program::{run_commands, status};
+use txn_program::{Ran, run_commands};
 
 pub(crate) const A: &str = "00000000000000000000000000000001";
 
-pub(crate) fn append_words(
-    alloc: Global,
-    texts: &mut Items<Text>,
-    words: &[&str],
-) -> Result<(), NoMemory> {
+/// The words as texts.
+pub(crate) fn texts_of(rt: &(impl Abort + Alloc<A = Global>), words: &[&str]) -> Items<Text> {
+    let mut texts = Items::new(rt.alloc());
     for word in words {
-        texts.append(Text::from_str(alloc, word)?)?;
+        let text = Text::from_str(rt.alloc(), word).expect(rt, "an Ok");
+        texts.append(text).expect(rt, "an Ok");
     }
-    Ok(())
+    texts
 }
 
-/// The status of a run over a fresh recorder.
-fn status_over<S: LayerBelow + Send + Drop>(
-    alloc: Global,
+/// A source of that text.
+pub(crate) fn source_of(rt: &(impl Abort + Alloc<A = Global>), lines: &str) -> SureSource {
+    let octets = Binary::from_slice(rt.alloc(), lines.as_bytes()).expect(rt, "an Ok");
+    SureSource::new(octets)
+}
+
+/// Whether this text was written, and no more.
+pub(crate) fn is_written(sink: SureSink, text: &str) -> bool {
+    let written = sink.as_slice() == text.as_bytes();
+    leak(sink);
+    written
+}
+
+/// Runs the program over a fresh recorder.
+pub(crate) fn run_fresh<S: LayerBelow + Send, I: ByteSource, O: ByteSink>(
+    rt: &(impl Abort + Alloc<A = Global>),
     words: &[Text],
     below: Recorder<S>,
-    source: &mut SureSource,
-    sink: &mut SureSink,
-) -> u8 {
+    source: &mut I,
+    sink: &mut O,
+) -> Ran<S> {
     if !below.is_fresh() {
-        drop(below);
-        return status::USAGE;
+        panic!(rt; "the recorder is fresh");
     }
-    let ran = run_commands(alloc, words, below, source, sink);
-    let ended = ran.status;
-    drop(ran);
-    ended
+    run_commands(rt.alloc(), words, below, source, sink)
 }
 
-/// The status of a run over a recorder of this layer, and whether its text is that text.
-fn run_over<S: LayerBelow + Send + Drop>(
-    alloc: Global,
+/// Runs the program over a recorder of this layer.
+pub(crate) fn run_over<S: LayerBelow + Send>(
+    rt: &(impl Abort + Alloc<A = Global>),
     below: S,
     words: &[&str],
     lines: &str,
-    text: &str,
-) -> Result<(u8, bool), NoMemory> {
-    let recorder = Recorder::new(alloc, below);
-    let mut source = SureSource::new(Binary::from_slice(alloc, lines.as_bytes())?);
-    let mut sink = SureSink::new(alloc);
-    let mut texts = Items::new(alloc);
-    let added = append_words(alloc, &mut texts, words);
-    let status = status_over(alloc, texts.as_slice(), recorder, &mut source, &mut sink);
-    let written = sink.as_slice() == text.as_bytes();
-    drop(texts);
-    drop(source);
-    drop(sink);
-    added?;
-    Ok((status, written))
+    sink: &mut SureSink,
+) -> Ran<S> {
+    let recorder = Recorder::new(rt.alloc(), below);
+    let texts = texts_of(rt, words);
+    let mut source = source_of(rt, lines);
+    let ran = run_fresh(rt, texts.as_slice(), recorder, &mut source, sink);
+    leak(texts);
+    leak(source);
+    ran
+}
+
+/// The status of a run over a recorder of this layer.
+fn status_over<S: LayerBelow + Send>(
+    rt: &(impl Abort + Alloc<A = Global>),
+    below: S,
+    words: &[&str],
+    lines: &str,
+    sink: &mut SureSink,
+) -> u8 {
+    let ran = run_over(rt, below, words, lines, sink);
+    let ended = ran.status;
+    leak(ran);
+    ended
 }
 
 /// Runs the program over a recorder of this layer, and compares its status and its text.
-pub(crate) fn assert_over<S: LayerBelow + Send + Drop>(
+pub(crate) fn assert_over<S: LayerBelow + Send>(
     rt: &(impl Abort + Alloc<A = Global>),
     below: S,
     words: &[&str],
     lines: &str,
     ends: (u8, &str),
-) -> Result<(), Fail> {
+) {
     let (status, text) = ends;
-    let (ended, written) = run_over(rt.alloc(), below, words, lines, text)?;
-    assert_eq!(rt; ended, status);
+    let mut sink = SureSink::new(rt.alloc());
+    let ended = status_over(rt, below, words, lines, &mut sink);
+    let written = is_written(sink, text);
+    assert!(rt; ended == status);
     assert!(rt; written);
-    Ok(())
 }

@@ -9,9 +9,10 @@ mod worked_tests;
 
 use amqp_below::Exchanges;
 use amqp_resource_record::{Driven, Entries, Step, Steps, Stop};
-use amqp_txn_types::{Frames, NoMemory, Text, TryClone};
+use amqp_test_values::leak;
+use amqp_txn_types::{Frames, TryClone};
 use std::alloc::Global;
-use std::test::Fail;
+use std::process::Abort;
 use txn_program::*;
 
 const ALL_LINES: &str = "attach c 0\nlink my.d-1_x 4294967295 receiver\nflow 1 200\nflow -\n\
@@ -21,10 +22,19 @@ const ALL_LINES: &str = "attach c 0\nlink my.d-1_x 4294967295 receiver\nflow 1 2
      end\nremote-end\nconnection-stop";
 
 #[test]
-fn every_line_is_a_step(rt: HostRuntime) -> Result<(), Fail> {
-    let steps = spells(rt.alloc(), ALL_LINES.as_bytes())?;
-    assert_eq!(rt; steps.len(), 14);
-    Ok(())
+fn every_line_is_a_step(rt: HostRuntime) {
+    let steps = spells(rt.alloc(), ALL_LINES.as_bytes()).expect(&rt, "an Ok");
+    let count = steps.len();
+    leak(steps);
+    assert!(rt; count == 14);
+}
+
+/// Whether the line of that number is told as the first outside the table.
+fn is_outside(alloc: Global, lines: &str, number: usize) -> bool {
+    let spelled = spells(alloc, lines.as_bytes());
+    let told = matches!(&spelled, Err(SpellError::Line(found)) if *found == number);
+    leak(spelled);
+    told
 }
 
 #[test]
@@ -44,8 +54,7 @@ fn the_first_line_outside_the_table_is_told(rt: HostRuntime) {
         ("end now", 1),
         ("attach \u{e9} 0", 1),
     ] {
-        let told = spells(rt.alloc(), lines.as_bytes()).err();
-        assert_eq!(rt; told, Some(SpellError::Line(number)));
+        assert!(rt; is_outside(rt.alloc(), lines, number));
     }
 }
 
@@ -59,41 +68,39 @@ fn no_steps(alloc: Global) -> Driven {
     }
 }
 
-/// The report of a run without steps, after which these frames were taken.
-fn report_of(alloc: Global, taken: &Exchanges) -> Result<Text, NoMemory> {
+/// Whether the report of a run without steps, after which these frames were taken, is that text.
+fn reports(rt: &impl Abort, alloc: Global, taken: Exchanges, want: &str) -> bool {
     let driven = no_steps(alloc);
-    let text = report(alloc, &driven, taken);
-    drop(driven);
-    text
+    let text = report(alloc, &driven, &taken).expect(rt, "an Ok");
+    leak(driven);
+    leak(taken);
+    let same = text.as_str() == want;
+    leak(text);
+    same
 }
 
-/// The frames of the first line, as taken ones that were given nothing back.
-fn taken_of(alloc: Global, steps: &Steps) -> Result<Exchanges, NoMemory> {
+/// The frame of the first line, as a taken one that was given nothing back.
+fn taken_of(rt: &impl Abort, alloc: Global, steps: &Steps) -> Exchanges {
     let mut taken = Exchanges::new(alloc);
     if let Some(Step::Frame(frame)) = steps.get(0) {
-        taken.append((frame.try_clone()?, Frames::new(alloc)))?;
+        let frame = frame.try_clone().expect(rt, "an Ok");
+        taken
+            .append((frame, Frames::new(alloc)))
+            .expect(rt, "an Ok");
     }
-    Ok(taken)
+    taken
 }
 
-/// The report in which the frame of a line was taken.
-fn report_taking(alloc: Global, line: &str) -> Result<Text, SpellError> {
-    let steps = spells(alloc, line.as_bytes())?;
-    let taken = taken_of(alloc, &steps);
-    drop(steps);
-    let Ok(taken) = taken else {
-        return Err(SpellError::NoMemory);
-    };
-    let text = report_of(alloc, &taken);
-    drop(taken);
-    match text {
-        Ok(text) => Ok(text),
-        Err(_) => Err(SpellError::NoMemory),
-    }
+/// Whether the report in which the frame of a line was taken is that text.
+fn reports_taking(rt: &impl Abort, alloc: Global, line: &str, want: &str) -> bool {
+    let steps = spells(alloc, line.as_bytes()).expect(rt, "an Ok");
+    let taken = taken_of(rt, alloc, &steps);
+    leak(steps);
+    reports(rt, alloc, taken, want)
 }
 
 #[test]
-fn frames_are_printed_with_their_states(rt: HostRuntime) -> Result<(), Fail> {
+fn frames_are_printed_with_their_states(rt: HostRuntime) {
     for (line, want) in [
         (
             "attach c 0",
@@ -122,22 +129,19 @@ fn frames_are_printed_with_their_states(rt: HostRuntime) -> Result<(), Fail> {
             "stop done\nhanded 0\ntaken detach 1 true\n",
         ),
     ] {
-        let text = report_taking(rt.alloc(), line)?;
-        assert_eq!(rt; text.as_str(), want);
+        assert!(rt; reports_taking(&rt, rt.alloc(), line, want));
     }
-    Ok(())
 }
 
 #[test]
-fn an_empty_run_has_a_report(rt: HostRuntime) -> Result<(), Fail> {
-    let text = report_of(rt.alloc(), &Exchanges::new(rt.alloc()))?;
-    assert_eq!(rt; text.as_str(), "stop done\nhanded 0\n");
-    Ok(())
+fn an_empty_run_has_a_report(rt: HostRuntime) {
+    let taken = Exchanges::new(rt.alloc());
+    assert!(rt; reports(&rt, rt.alloc(), taken, "stop done\nhanded 0\n"));
 }
 
 #[test]
-fn a_bad_line_is_told_by_its_number(rt: HostRuntime) -> Result<(), Fail> {
-    let text = format!(in rt.alloc(); "{}", SpellError::Line(2))?;
-    assert_eq!(rt; text.as_str(), "line 2 is outside the table");
-    Ok(())
+fn a_bad_line_is_told_by_its_number(rt: HostRuntime) {
+    let text = format!(in rt.alloc(); "{}", SpellError::Line(2)).expect(&rt, "an Ok");
+    assert!(rt; text.as_str() == "line 2 is outside the table");
+    leak(text);
 }

@@ -1,3 +1,4 @@
+pub mod AtWork
 pub mod WorkerSteps
 pub mod Tallies
 pub mod Works

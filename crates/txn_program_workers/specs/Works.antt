@@ -68,15 +68,6 @@ pub record Gained (old new : List Receipt) (made : Step) (told : ReplyCode) (rec
   pub step : step_told receipt ≡ made
   pub code : code_told receipt ≡ told
 
--- a worker is ready for so many steps of its rounds: it has room for all receipts, and one part of
--- the ledger, whose count is that of its receipts
-pub record IsReady (steps rounds capacity held part : ℕ) (receipts : List Receipt) : Type 0 where
-  pub short : rounds ≤ 1000
-  pub room : 1 + 4 * rounds ≤ capacity
-  pub few : length receipts + steps ≤ 1 + 4 * rounds
-  pub count : held ≡ length receipts
-  pub parts : part ≡ 1
-
 -- no reply so far is a refusal
 abbrev pub NoneRefused : List Receipt → Type 0
 NoneRefused receipts = count_by (is_told refused) receipts ≡ 0

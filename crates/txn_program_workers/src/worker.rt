@@ -2,8 +2,9 @@
 
 ghost use Rattle.std.specs.Prelude.{◌≡◌, ◌≤◌, ◌<◌, ◌+◌, ◌-◌, ◌*◌, ◌/◌, ◌^◌, [], false, length, vec_capacity, IfSome, MatchOption, OnSome};
 ghost use Rattle.amqp_resource_shared.specs.Receipts.{is_told, step_told};
+ghost use Rattle.txn_program_workers.specs.AtWork.{IsReady, SameWorker};
 ghost use Rattle.txn_program_workers.specs.Tallies.{closed, tally_of};
-ghost use Rattle.txn_program_workers.specs.Works.{AreOfWorker, GainedOne, HasMade, IsReady, IsWork, MadeRounds, NoneRefused, StillTold, ToldId, ToldLink, one_declare, one_discharge, one_post};
+ghost use Rattle.txn_program_workers.specs.Works.{AreOfWorker, GainedOne, HasMade, IsWork, MadeRounds, NoneRefused, StillTold, ToldId, ToldLink, one_declare, one_discharge, one_post};
 ghost use Rattle.txn_program_workers.specs.WorkerSteps.{IsReadable};
 
 use crate::worker_steps::{worker_attach, worker_declare, worker_discharge, worker_post};
@@ -82,14 +83,9 @@ fn make_step<S: LayerBelow, G: IdSource, L: Ledger, H: Gate, R: Wait>(
     step: Step,
 ) -> Option<ReplyCode>
     requires reads { IsReadable step }
-    requires ready { IsReady 1 place.now.rounds
-        (vec_capacity worker.old.receipts) worker.old.share.count worker.old.share.parts
-        worker.old.receipts.items }
-    ensures ready { IsReady 0 place.now.rounds
-        (vec_capacity worker.new.receipts) worker.new.share.count worker.new.share.parts
-        worker.new.receipts.items }
-    ensures kept { (worker.new.number ≡ worker.old.number)
-        × (vec_capacity worker.new.receipts ≡ vec_capacity worker.old.receipts) }
+    requires ready { IsReady 1 place.now.rounds worker.old }
+    ensures ready { IsReady 0 place.now.rounds worker.new }
+    ensures kept { SameWorker worker.old worker.new }
     ensures made { MatchOption result (worker.new.receipts.items ≡ worker.old.receipts.items)
         (λ code. GainedOne worker.old.receipts.items worker.new.receipts.items step code) }
 {
@@ -110,14 +106,9 @@ fn attach<S: LayerBelow, G: IdSource, L: Ledger, H: Gate, R: Wait>(
     worker: &mut Worker<L>,
 ) -> Option<u64>
     requires first { worker.old.receipts.items ≡ [] }
-    requires ready { IsReady 1 place.now.rounds
-        (vec_capacity worker.old.receipts) worker.old.share.count worker.old.share.parts
-        worker.old.receipts.items }
-    ensures ready { IsReady 0 place.now.rounds
-        (vec_capacity worker.new.receipts) worker.new.share.count worker.new.share.parts
-        worker.new.receipts.items }
-    ensures kept { (worker.new.number ≡ worker.old.number)
-        × (vec_capacity worker.new.receipts ≡ vec_capacity worker.old.receipts) }
+    requires ready { IsReady 1 place.now.rounds worker.old }
+    ensures ready { IsReady 0 place.now.rounds worker.new }
+    ensures kept { SameWorker worker.old worker.new }
     ensures receipts { AreOfWorker worker.old.number place.now.rounds worker.new.receipts.items }
     ensures link { IfSome result (ToldLink worker.new.receipts.items) }
     ensures made { OnSome result (MadeRounds 0 (tally_of is_told worker.new.receipts.items)) }
@@ -140,14 +131,9 @@ fn declare<S: LayerBelow, G: IdSource, L: Ledger, H: Gate, R: Wait>(
     requires link { ToldLink worker.old.receipts.items link }
     requires receipts { AreOfWorker worker.old.number place.now.rounds worker.old.receipts.items }
     requires good { NoneRefused worker.old.receipts.items }
-    requires ready { IsReady 1 place.now.rounds
-        (vec_capacity worker.old.receipts) worker.old.share.count worker.old.share.parts
-        worker.old.receipts.items }
-    ensures ready { IsReady 0 place.now.rounds
-        (vec_capacity worker.new.receipts) worker.new.share.count worker.new.share.parts
-        worker.new.receipts.items }
-    ensures kept { (worker.new.number ≡ worker.old.number)
-        × (vec_capacity worker.new.receipts ≡ vec_capacity worker.old.receipts) }
+    requires ready { IsReady 1 place.now.rounds worker.old }
+    ensures ready { IsReady 0 place.now.rounds worker.new }
+    ensures kept { SameWorker worker.old worker.new }
     ensures receipts { AreOfWorker worker.old.number place.now.rounds worker.new.receipts.items }
     ensures id { IfSome result (ToldId worker.new.receipts.items) }
     ensures link { ToldLink worker.new.receipts.items link }
@@ -174,14 +160,9 @@ fn post<S: LayerBelow, G: IdSource, L: Ledger, H: Gate, R: Wait>(
     requires delivery { delivery < 2 * place.now.rounds }
     requires receipts { AreOfWorker worker.old.number place.now.rounds worker.old.receipts.items }
     requires good { NoneRefused worker.old.receipts.items }
-    requires ready { IsReady 1 place.now.rounds
-        (vec_capacity worker.old.receipts) worker.old.share.count worker.old.share.parts
-        worker.old.receipts.items }
-    ensures ready { IsReady 0 place.now.rounds
-        (vec_capacity worker.new.receipts) worker.new.share.count worker.new.share.parts
-        worker.new.receipts.items }
-    ensures kept { (worker.new.number ≡ worker.old.number)
-        × (vec_capacity worker.new.receipts ≡ vec_capacity worker.old.receipts) }
+    requires ready { IsReady 1 place.now.rounds worker.old }
+    ensures ready { IsReady 0 place.now.rounds worker.new }
+    ensures kept { SameWorker worker.old worker.new }
     ensures receipts { AreOfWorker worker.old.number place.now.rounds worker.new.receipts.items }
     ensures told { StillTold worker.old.receipts.items worker.new.receipts.items }
     ensures made { OnSome result (HasMade worker.old.receipts.items worker.new.receipts.items
@@ -209,14 +190,9 @@ fn discharge<S: LayerBelow, G: IdSource, L: Ledger, H: Gate, R: Wait>(
     requires round { (1 ≤ round) × (round ≤ place.now.rounds) }
     requires receipts { AreOfWorker worker.old.number place.now.rounds worker.old.receipts.items }
     requires good { NoneRefused worker.old.receipts.items }
-    requires ready { IsReady 1 place.now.rounds
-        (vec_capacity worker.old.receipts) worker.old.share.count worker.old.share.parts
-        worker.old.receipts.items }
-    ensures ready { IsReady 0 place.now.rounds
-        (vec_capacity worker.new.receipts) worker.new.share.count worker.new.share.parts
-        worker.new.receipts.items }
-    ensures kept { (worker.new.number ≡ worker.old.number)
-        × (vec_capacity worker.new.receipts ≡ vec_capacity worker.old.receipts) }
+    requires ready { IsReady 1 place.now.rounds worker.old }
+    ensures ready { IsReady 0 place.now.rounds worker.new }
+    ensures kept { SameWorker worker.old worker.new }
     ensures receipts { AreOfWorker worker.old.number place.now.rounds worker.new.receipts.items }
     ensures told { StillTold worker.old.receipts.items worker.new.receipts.items }
     ensures made { OnSome result (HasMade worker.old.receipts.items worker.new.receipts.items
@@ -241,15 +217,10 @@ fn make_round<S: LayerBelow, G: IdSource, L: Ledger, H: Gate, R: Wait>(
     requires link { ToldLink worker.old.receipts.items link }
     requires round { (made < place.now.rounds) × (place.now.rounds ≤ 1000) }
     requires receipts { AreOfWorker worker.old.number place.now.rounds worker.old.receipts.items }
-    requires ready { IsReady 4 place.now.rounds
-        (vec_capacity worker.old.receipts) worker.old.share.count worker.old.share.parts
-        worker.old.receipts.items }
+    requires ready { IsReady 4 place.now.rounds worker.old }
     requires made { MadeRounds made (tally_of is_told worker.old.receipts.items) }
-    ensures ready { IsReady 0 place.now.rounds
-        (vec_capacity worker.new.receipts) worker.new.share.count worker.new.share.parts
-        worker.new.receipts.items }
-    ensures kept { (worker.new.number ≡ worker.old.number)
-        × (vec_capacity worker.new.receipts ≡ vec_capacity worker.old.receipts) }
+    ensures ready { IsReady 0 place.now.rounds worker.new }
+    ensures kept { SameWorker worker.old worker.new }
     ensures receipts { AreOfWorker worker.old.number place.now.rounds worker.new.receipts.items }
     ensures link { ToldLink worker.new.receipts.items link }
     ensures made { OnSome result
@@ -268,12 +239,8 @@ fn make_rounds<S: LayerBelow, G: IdSource, L: Ledger, H: Gate, R: Wait>(
 ) -> Option<()>
     requires rounds { place.now.rounds ≤ 1000 }
     requires first { worker.old.receipts.items ≡ [] }
-    requires ready { IsReady (1 + 4 * place.now.rounds) place.now.rounds
-        (vec_capacity worker.old.receipts) worker.old.share.count worker.old.share.parts
-        worker.old.receipts.items }
-    ensures ready { IsReady 0 place.now.rounds
-        (vec_capacity worker.new.receipts) worker.new.share.count worker.new.share.parts
-        worker.new.receipts.items }
+    requires ready { IsReady (1 + 4 * place.now.rounds) place.now.rounds worker.old }
+    ensures ready { IsReady 0 place.now.rounds worker.new }
     ensures kept { worker.new.number ≡ worker.old.number }
     ensures receipts { AreOfWorker worker.old.number place.now.rounds worker.new.receipts.items }
     ensures made { OnSome result

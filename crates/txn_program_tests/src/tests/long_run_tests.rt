@@ -2,23 +2,14 @@
 
 ghost use Rattle.std.specs.Prelude.{◌<◌};
 
-use amqp_below::{Exchanges, OpenSession, Recorder, SureSink, SureSource};
+use crate::run_over::{run_fresh, source_of};
+use amqp_below::{Exchanges, LayerBelow, OpenSession, Recorder, SureSink};
 use amqp_resource_record::{Entry, Step, hands, is_entry_after};
-use amqp_txn_types::{Binary, Frame, Items, NoMemory, Text};
+use amqp_test_values::leak;
+use amqp_txn_types::{Frame, Items, NoMemory, Text};
 use std::alloc::{Alloc, Global};
 use std::process::Abort;
-use std::test::Fail;
 use txn_program::*;
-
-fn put_word(words: &mut Items<Text>, word: Text) -> Result<(), NoMemory> {
-    match words.push(word) {
-        Ok(()) => Ok(()),
-        Err(unkept) => {
-            drop(unkept);
-            Err(NoMemory)
-        }
-    }
-}
 
 /// The id of a number, in 32 digits.
 fn id_word(alloc: Global, id: u32) -> Result<Text, NoMemory> {
@@ -28,9 +19,9 @@ fn id_word(alloc: Global, id: u32) -> Result<Text, NoMemory> {
 
 /// The words of a run whose 64 declares draw the ids of the numbers below `ids`, again and again.
 fn put_words(alloc: Global, words: &mut Items<Text>, ids: u32) -> Result<(), NoMemory> {
-    put_word(words, Text::from_str(alloc, "run")?)?;
+    words.append(Text::from_str(alloc, "run")?)?;
     for place in 0..64u32 {
-        put_word(words, id_word(alloc, place % ids.max(1))?)?;
+        words.append(id_word(alloc, place % ids.max(1))?)?;
     }
     Ok(())
 }
@@ -94,7 +85,7 @@ fn handed_from(
     let frames = hands(alloc, before, step)?;
     let count = frames.len();
     let same = are_taken(frames.as_slice(), taken, from);
-    drop(frames);
+    leak(frames);
     Ok(if same { Some(count) } else { None })
 }
 
@@ -119,14 +110,14 @@ fn agreed(alloc: Global, entries: &[Entry], taken: &Exchanges) -> Result<usize, 
 }
 
 /// How many entries of a run's record agree with the slow program.
-fn agreed_in(alloc: Global, ran: &Ran<OpenSession>) -> Result<usize, NoMemory> {
+fn agreed_in<S: LayerBelow>(alloc: Global, ran: &Ran<S>) -> Result<usize, NoMemory> {
     match &ran.driven {
         Some(driven) => agreed(alloc, driven.entries.as_slice(), ran.below.exchanges()),
         None => Ok(0),
     }
 }
 
-fn entry_count(ran: &Ran<OpenSession>) -> usize {
+fn entry_count<S>(ran: &Ran<S>) -> usize {
     match &ran.driven {
         Some(driven) => driven.entries.len(),
         None => 0,
@@ -135,23 +126,24 @@ fn entry_count(ran: &Ran<OpenSession>) -> usize {
 
 /// The status of a run, the number of its entries, how many of them agree with the slow program,
 /// and how many frames were taken.
-fn facts_of_run(
-    alloc: Global,
+fn facts_of_run<S: LayerBelow + Send>(
+    rt: &(impl Abort + Alloc<A = Global>),
+    below: S,
     words: &[Text],
     lines: &str,
-) -> Result<(u8, usize, usize, usize), NoMemory> {
-    let mut source = SureSource::new(Binary::from_slice(alloc, lines.as_bytes())?);
-    let mut sink = SureSink::new(alloc);
-    let below = Recorder::new(alloc, OpenSession::new(alloc));
-    let ran = run_commands(alloc, words, below, &mut source, &mut sink);
-    drop(source);
-    drop(sink);
+) -> (u8, usize, usize, usize) {
+    let mut source = source_of(rt, lines);
+    let mut sink = SureSink::new(rt.alloc());
+    let below = Recorder::new(rt.alloc(), below);
+    let ran = run_fresh(rt, words, below, &mut source, &mut sink);
+    leak(source);
+    leak(sink);
     let status = ran.status;
     let count = entry_count(&ran);
     let taken = ran.below.exchanges().len();
-    let agreed = agreed_in(alloc, &ran);
-    drop(ran);
-    Ok((status, count, agreed?, taken))
+    let agreed = agreed_in(rt.alloc(), &ran).expect(rt, "an Ok");
+    leak(ran);
+    (status, count, agreed, taken)
 }
 
 /// Runs the lines to their end, and compares the record with the slow program.
@@ -161,18 +153,17 @@ fn assert_long_run(
     lines: &str,
     count: usize,
     taken: usize,
-) -> Result<(), Fail> {
+) {
     let mut words = Items::new(rt.alloc());
-    let put = put_words(rt.alloc(), &mut words, ids);
-    let facts = facts_of_run(rt.alloc(), words.as_slice(), lines);
-    drop(words);
-    put?;
-    let (status, entries, agreed, frames) = facts?;
-    assert_eq!(rt; status, 0);
-    assert_eq!(rt; entries, count);
-    assert_eq!(rt; agreed, count);
-    assert_eq!(rt; frames, taken);
-    Ok(())
+    put_words(rt.alloc(), &mut words, ids).expect(rt, "an Ok");
+    let below = OpenSession::new(rt.alloc());
+    let facts = facts_of_run(rt, below, words.as_slice(), lines);
+    leak(words);
+    let (status, entries, agreed, frames) = facts;
+    assert!(rt; status == 0);
+    assert!(rt; entries == count);
+    assert!(rt; agreed == count);
+    assert!(rt; frames == taken);
 }
 
 /// One round of eight transactions, each on another link than in the round before: their posts
@@ -222,15 +213,12 @@ fn put_interleaved(lines: &mut String) -> Result<(), NoMemory> {
 }
 
 #[test]
-fn interleaved_transactions_agree_with_the_slow_program(rt: HostRuntime) -> Result<(), Fail> {
+fn interleaved_transactions_agree_with_the_slow_program(rt: HostRuntime) {
     let mut lines = String::new(rt.alloc());
-    let put = put_interleaved(&mut lines);
+    put_interleaved(&mut lines).expect(&rt, "an Ok");
     // Of the 64 transactions 21 are rolled back; the others hand four frames each.
-    let run = assert_long_run(&rt, 8, lines.as_str(), 456, 172);
-    drop(lines);
-    run?;
-    put?;
-    Ok(())
+    assert_long_run(&rt, 8, lines.as_str(), 456, 172);
+    leak(lines);
 }
 
 /// Two new links, and two transactions on each.
@@ -292,15 +280,12 @@ fn put_ending(lines: &mut String) -> Result<(), NoMemory> {
 }
 
 #[test]
-fn link_ends_agree_with_the_slow_program(rt: HostRuntime) -> Result<(), Fail> {
+fn link_ends_agree_with_the_slow_program(rt: HostRuntime) {
     let mut lines = String::new(rt.alloc());
-    let put = put_ending(&mut lines);
+    put_ending(&mut lines).expect(&rt, "an Ok");
     // In each round a flow, a transfer and the four frames of the one commit.
-    let run = assert_long_run(&rt, 4, lines.as_str(), 480, 96);
-    drop(lines);
-    run?;
-    put?;
-    Ok(())
+    assert_long_run(&rt, 4, lines.as_str(), 480, 96);
+    leak(lines);
 }
 
 /// 64 links with a transaction each, whose 1,536 posts interleave.
@@ -348,13 +333,10 @@ fn put_thousands(lines: &mut String) -> Result<(), NoMemory> {
 }
 
 #[test]
-fn thousands_of_steps_agree_with_the_slow_program(rt: HostRuntime) -> Result<(), Fail> {
+fn thousands_of_steps_agree_with_the_slow_program(rt: HostRuntime) {
     let mut lines = String::new(rt.alloc());
-    let put = put_thousands(&mut lines);
+    put_thousands(&mut lines).expect(&rt, "an Ok");
     // 32 commits of 24 posts, and 100 of one.
-    let run = assert_long_run(&rt, 64, lines.as_str(), 2_028, 868);
-    drop(lines);
-    run?;
-    put?;
-    Ok(())
+    assert_long_run(&rt, 64, lines.as_str(), 2_028, 868);
+    leak(lines);
 }

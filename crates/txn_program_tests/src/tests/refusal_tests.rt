@@ -1,11 +1,11 @@
 //! Runs that are refused below or ended, and made runs.
 
-use crate::tests::run_tests::{A, B, assert_run, ran};
-use amqp_below::SureSink;
-use amqp_txn_types::NoMemory;
+use crate::run_over::{A, assert_over};
+use crate::tests::run_tests::{B, assert_run, ran};
+use amqp_below::{LayerBelow, OpenSession, Recorder, SureSink};
+use amqp_test_values::leak;
 use std::alloc::{Alloc, Global};
 use std::process::Abort;
-use std::test::Fail;
 
 /// Two transactions of which the second is committed first: their lines, and what each is answered.
 const LINES: [(&str, &str); 8] = [
@@ -59,12 +59,12 @@ const VETOED: &str = "attached 0\n\
     handed 0\n";
 
 #[test]
-fn a_vetoed_commit_hands_nothing(rt: HostRuntime) -> Result<(), Fail> {
-    assert_run(&rt, &["run", "--refuse", "2", A], ONE_COMMIT, 0, VETOED)
+fn a_vetoed_commit_hands_nothing(rt: HostRuntime) {
+    assert_run(&rt, &["run", "--refuse", "2", A], ONE_COMMIT, 0, VETOED);
 }
 
 #[test]
-fn want_of_memory_within_a_commit_tells_what_was_taken(rt: HostRuntime) -> Result<(), Fail> {
+fn out_of_memory_within_a_commit_tells_what_was_taken(rt: HostRuntime) {
     assert_run(
         &rt,
         &["run", "--starve", "2", A],
@@ -78,51 +78,45 @@ fn want_of_memory_within_a_commit_tells_what_was_taken(rt: HostRuntime) -> Resul
          stop below-no-memory\n\
          handed 1\n\
          taken transfer 1 1 true - 50\n",
-    )
+    );
 }
 
 #[test]
-fn a_call_in_both_plans_is_vetoed_first(rt: HostRuntime) -> Result<(), Fail> {
+fn a_call_in_both_plans_is_vetoed_first(rt: HostRuntime) {
     let words = ["run", "--refuse", "2", "--starve", "2", A];
-    assert_run(&rt, &words, ONE_COMMIT, 0, VETOED)
+    assert_run(&rt, &words, ONE_COMMIT, 0, VETOED);
 }
 
 /// The lines from a place on, up to another.
-fn put_lines(lines: &mut String, from: usize, to: usize) -> Result<(), NoMemory> {
+fn put_lines(rt: &impl Abort, lines: &mut String, from: usize, to: usize) {
     for (index, (line, _)) in LINES.iter().enumerate() {
         if from <= index && index < to {
-            lines.push_str(line)?;
+            lines.push_str(line).expect(rt, "an Ok");
         }
     }
-    Ok(())
 }
 
 /// What the lines up to a place are answered, and a text after that.
-fn put_answers(answers: &mut String, to: usize, end: &str) -> Result<(), NoMemory> {
+fn put_answers(rt: &impl Abort, answers: &mut String, to: usize, end: &str) {
     for (index, (_, answer)) in LINES.iter().enumerate() {
         if index < to {
-            answers.push_str(answer)?;
+            answers.push_str(answer).expect(rt, "an Ok");
         }
     }
-    answers.push_str(end)?;
-    Ok(())
+    answers.push_str(end).expect(rt, "an Ok");
 }
 
 /// Runs lines that were put together, and compares with answers that were.
 fn assert_put(
     rt: &(impl Abort + Alloc<A = Global>),
     words: &[&str],
-    put: Result<(), NoMemory>,
     texts: (String, String),
     status: u8,
-) -> Result<(), Fail> {
+) {
     let (lines, answers) = texts;
-    let run = assert_run(rt, words, lines.as_str(), status, answers.as_str());
-    drop(lines);
-    drop(answers);
-    run?;
-    put?;
-    Ok(())
+    assert_run(rt, words, lines.as_str(), status, answers.as_str());
+    leak(lines);
+    leak(answers);
 }
 
 /// Runs all lines under a plan: the lines up to a place are answered as they are without it, and
@@ -132,39 +126,39 @@ fn assert_planned(
     plan: (&str, &str),
     answered: usize,
     ends: (u8, &str),
-) -> Result<(), Fail> {
+) {
     let (word, numbers) = plan;
     let (status, end) = ends;
     let mut lines = String::new(rt.alloc());
     let mut answers = String::new(rt.alloc());
-    let lined = put_lines(&mut lines, 0, 8);
-    let told = put_answers(&mut answers, answered, end);
+    put_lines(rt, &mut lines, 0, 8);
+    put_answers(rt, &mut answers, answered, end);
     let words = ["run", word, numbers, A, B];
-    assert_put(rt, &words, lined.and(told), (lines, answers), status)
+    assert_put(rt, &words, (lines, answers), status);
 }
 
 #[test]
-fn each_frame_of_two_commits_may_be_vetoed(rt: HostRuntime) -> Result<(), Fail> {
+fn each_frame_of_two_commits_may_be_vetoed(rt: HostRuntime) {
     let one = "rejected rollback\nstop done\nhanded 0\ntaken transfer 1 2 true - 51\n";
     let both = "rejected rollback\nrejected rollback\nstop done\nhanded 0\n";
-    assert_planned(&rt, ("--refuse", "1"), 6, (0, both))?;
-    assert_planned(&rt, ("--refuse", "2"), 7, (0, one))?;
-    assert_planned(&rt, ("--refuse", "2,2"), 7, (0, one))?;
-    assert_planned(&rt, ("--refuse", "3"), 7, (0, one))?;
-    assert_planned(&rt, ("--refuse", "18446744073709551615,3"), 7, (0, one))
+    assert_planned(&rt, ("--refuse", "1"), 6, (0, both));
+    assert_planned(&rt, ("--refuse", "2"), 7, (0, one));
+    assert_planned(&rt, ("--refuse", "2,2"), 7, (0, one));
+    assert_planned(&rt, ("--refuse", "3"), 7, (0, one));
+    assert_planned(&rt, ("--refuse", "18446744073709551615,3"), 7, (0, one));
 }
 
 #[test]
-fn each_frame_of_two_commits_may_want_memory(rt: HostRuntime) -> Result<(), Fail> {
+fn each_frame_of_two_commits_may_want_memory(rt: HostRuntime) {
     let first = "stop below-no-memory\nhanded 0\n";
     let second = "stop below-no-memory\nhanded 0\ntaken transfer 1 2 true - 51\n";
     let third = "stop below-no-memory\nhanded 1\ntaken transfer 1 2 true - 51\n\
                  taken transfer 1 1 true - 50\n";
-    assert_planned(&rt, ("--starve", "1"), 6, (8, first))?;
-    assert_planned(&rt, ("--starve", "2"), 7, (8, second))?;
-    assert_planned(&rt, ("--starve", "2,2"), 7, (8, second))?;
-    assert_planned(&rt, ("--starve", "3"), 7, (8, third))?;
-    assert_planned(&rt, ("--starve", "18446744073709551615,3"), 7, (8, third))
+    assert_planned(&rt, ("--starve", "1"), 6, (8, first));
+    assert_planned(&rt, ("--starve", "2"), 7, (8, second));
+    assert_planned(&rt, ("--starve", "2,2"), 7, (8, second));
+    assert_planned(&rt, ("--starve", "3"), 7, (8, third));
+    assert_planned(&rt, ("--starve", "18446744073709551615,3"), 7, (8, third));
 }
 
 /// What the commits before a place handed.
@@ -179,51 +173,36 @@ fn taken_up_to(place: usize) -> &'static str {
 }
 
 /// The lines with an end in that place.
-fn put_ended(lines: &mut String, place: usize) -> Result<(), NoMemory> {
-    put_lines(lines, 0, place)?;
-    lines.push_str("end\n")?;
-    put_lines(lines, place, 8)
+fn put_ended(rt: &impl Abort, lines: &mut String, place: usize) {
+    put_lines(rt, lines, 0, place);
+    lines.push_str("end\n").expect(rt, "an Ok");
+    put_lines(rt, lines, place, 8);
 }
 
 /// What the lines with an end in that place are answered.
-fn put_ended_answers(answers: &mut String, place: usize) -> Result<(), NoMemory> {
-    put_answers(answers, place, "stop ended\nhanded 0\n")?;
-    answers.push_str(taken_up_to(place))?;
-    Ok(())
+fn put_ended_answers(rt: &impl Abort, answers: &mut String, place: usize) {
+    put_answers(rt, answers, place, "stop ended\nhanded 0\n");
+    answers.push_str(taken_up_to(place)).expect(rt, "an Ok");
 }
 
-fn assert_ended(rt: &(impl Abort + Alloc<A = Global>), place: usize) -> Result<(), Fail> {
+fn assert_ended(rt: &(impl Abort + Alloc<A = Global>), place: usize) {
     let mut lines = String::new(rt.alloc());
     let mut answers = String::new(rt.alloc());
-    let lined = put_ended(&mut lines, place);
-    let told = put_ended_answers(&mut answers, place);
-    assert_put(rt, &["run", A, B], lined.and(told), (lines, answers), 1)
+    put_ended(rt, &mut lines, place);
+    put_ended_answers(rt, &mut answers, place);
+    assert_put(rt, &["run", A, B], (lines, answers), 1);
 }
 
 #[test]
-fn an_end_in_any_place_hands_nothing_more(rt: HostRuntime) -> Result<(), Fail> {
+fn an_end_in_any_place_hands_nothing_more(rt: HostRuntime) {
     for place in 0..9usize {
-        assert_ended(&rt, place)?;
+        assert_ended(&rt, place);
     }
-    Ok(())
 }
 
-/// Whether the recorder of a run has these plans of what it refuses and what it starves.
-fn has_plans(
-    alloc: Global,
-    words: &[&str],
-    input: &str,
-    plans: (&[u64], &[u64]),
-) -> Result<bool, NoMemory> {
-    let (refused, starved) = plans;
-    let mut sink = SureSink::new(alloc);
-    let ran = ran(alloc, words, input, &mut sink);
-    drop(sink);
-    let ran = ran?;
-    let same = ran.below.plan().as_slice() == refused;
-    let same = same && ran.below.starved().as_slice() == starved;
-    drop(ran);
-    Ok(same)
+/// Whether the recorder has these plans of what it refuses and what it starves.
+fn has_plans<S: LayerBelow>(below: &Recorder<S>, refused: &[u64], starved: &[u64]) -> bool {
+    below.plan().as_slice() == refused && below.starved().as_slice() == starved
 }
 
 fn assert_plans(
@@ -231,46 +210,50 @@ fn assert_plans(
     words: &[&str],
     input: &str,
     plans: (&[u64], &[u64]),
-) -> Result<(), Fail> {
-    let same = has_plans(rt.alloc(), words, input, plans)?;
+) {
+    let (refused, starved) = plans;
+    let mut sink = SureSink::new(rt.alloc());
+    let ran = ran(rt, words, input, &mut sink);
+    leak(sink);
+    let same = has_plans(&ran.below, refused, starved);
+    leak(ran);
     assert!(rt; same);
-    Ok(())
 }
 
 #[test]
-fn the_plans_are_those_of_the_words(rt: HostRuntime) -> Result<(), Fail> {
-    assert_plans(&rt, &["run", "--refuse", "3,1,3", A], "", (&[3, 1, 3], &[]))?;
+fn the_plans_are_those_of_the_words(rt: HostRuntime) {
+    assert_plans(&rt, &["run", "--refuse", "3,1,3", A], "", (&[3, 1, 3], &[]));
     assert_plans(
         &rt,
         &["run", "--refuse", "3,1,3", A],
         "foo",
         (&[3, 1, 3], &[]),
-    )?;
+    );
     assert_plans(
         &rt,
         &["run", "--starve", "3,1,3", A],
         "foo",
         (&[], &[3, 1, 3]),
-    )?;
+    );
     assert_plans(
         &rt,
         &["run", "--refuse", "2", "--starve", "5", A],
         "",
         (&[2], &[5]),
-    )?;
-    assert_plans(&rt, &["run", A], "", (&[], &[]))?;
+    );
+    assert_plans(&rt, &["run", A], "", (&[], &[]));
     assert_plans(
         &rt,
         &["run", "--starve", "5", "--refuse", "2", A],
         "",
         (&[], &[]),
-    )?;
-    assert_plans(&rt, &["run", "--refuse", "3,1,3"], "", (&[], &[]))?;
-    assert_plans(&rt, &["make", "1"], "", (&[], &[]))
+    );
+    assert_plans(&rt, &["run", "--refuse", "3,1,3"], "", (&[], &[]));
+    assert_plans(&rt, &["make", "1"], "", (&[], &[]));
 }
 
 #[test]
-fn words_outside_the_table_are_usage(rt: HostRuntime) -> Result<(), Fail> {
+fn words_outside_the_table_are_usage(rt: HostRuntime) {
     for list in [
         "0",
         "",
@@ -281,94 +264,77 @@ fn words_outside_the_table_are_usage(rt: HostRuntime) -> Result<(), Fail> {
         "+1",
         "18446744073709551616",
     ] {
-        assert_run(&rt, &["run", "--refuse", list, A], "foo", 2, "usage\n")?;
-        assert_run(&rt, &["run", "--starve", list, A], "foo", 2, "usage\n")?;
+        assert_run(&rt, &["run", "--refuse", list, A], "foo", 2, "usage\n");
+        assert_run(&rt, &["run", "--starve", list, A], "foo", 2, "usage\n");
     }
     for count in ["0", "20001", "04", "", "4294967297", "-1"] {
-        assert_run(&rt, &["make", count], "foo", 2, "usage\n")?;
+        assert_run(&rt, &["make", count], "foo", 2, "usage\n");
     }
-    assert_run(&rt, &["run", "--refuse"], "", 2, "usage\n")?;
-    assert_run(&rt, &["--refuse", "1", "run", A], "", 2, "usage\n")?;
-    assert_run(&rt, &["run", A, "--refuse", "1"], "", 2, "usage\n")?;
-    assert_run(&rt, &["run", "--starve"], "", 2, "usage\n")?;
-    assert_run(&rt, &["run", "--starve", "1"], "", 2, "usage\n")?;
+    assert_run(&rt, &["run", "--refuse"], "", 2, "usage\n");
+    assert_run(&rt, &["--refuse", "1", "run", A], "", 2, "usage\n");
+    assert_run(&rt, &["run", A, "--refuse", "1"], "", 2, "usage\n");
+    assert_run(&rt, &["run", "--starve"], "", 2, "usage\n");
+    assert_run(&rt, &["run", "--starve", "1"], "", 2, "usage\n");
     assert_run(
         &rt,
         &["run", "--starve", "1", "--refuse", "1", A],
         "",
         2,
         "usage\n",
-    )?;
+    );
     assert_run(
         &rt,
         &["run", "--starve", "1", "--starve", "1", A],
         "",
         2,
         "usage\n",
-    )?;
-    assert_run(&rt, &["make"], "", 2, "usage\n")?;
-    assert_run(&rt, &["make", "1", "2"], "", 2, "usage\n")
+    );
+    assert_run(&rt, &["make"], "", 2, "usage\n");
+    assert_run(&rt, &["make", "1", "2"], "", 2, "usage\n");
 }
 
 /// That many sevens, parted by commas.
-fn put_sevens(list: &mut String, count: u32) -> Result<(), NoMemory> {
+fn put_sevens(rt: &impl Abort, list: &mut String, count: u32) {
     for _ in 1..count {
-        list.push_str("7,")?;
+        list.push_str("7,").expect(rt, "an Ok");
     }
-    list.push_str("7")?;
-    Ok(())
+    list.push_str("7").expect(rt, "an Ok");
 }
 
 /// Runs no lines with a list of that many numbers.
-fn assert_sevens(
-    rt: &(impl Abort + Alloc<A = Global>),
-    count: u32,
-    status: u8,
-    text: &str,
-) -> Result<(), Fail> {
+fn assert_sevens(rt: &(impl Abort + Alloc<A = Global>), count: u32, status: u8, text: &str) {
     let mut list = String::new(rt.alloc());
-    let put = put_sevens(&mut list, count);
+    put_sevens(rt, &mut list, count);
     let words = ["run", "--refuse", list.as_str(), A];
-    let run = assert_run(rt, &words, "", status, text);
-    drop(list);
-    run?;
-    put?;
-    Ok(())
+    assert_run(rt, &words, "", status, text);
+    leak(list);
 }
 
 #[test]
-fn a_list_has_64_numbers_at_most(rt: HostRuntime) -> Result<(), Fail> {
-    assert_sevens(&rt, 64, 0, "stop done\nhanded 0\n")?;
-    assert_sevens(&rt, 65, 2, "usage\n")
-}
-
-/// The status of a run without lines.
-fn status_of(alloc: Global, words: &[&str], sink: &mut SureSink) -> Result<u8, NoMemory> {
-    let ran = ran(alloc, words, "", sink)?;
-    let status = ran.status;
-    drop(ran);
-    Ok(status)
+fn a_list_has_64_numbers_at_most(rt: HostRuntime) {
+    assert_sevens(&rt, 64, 0, "stop done\nhanded 0\n");
+    assert_sevens(&rt, 65, 2, "usage\n");
 }
 
 #[test]
-fn four_made_transactions_are_summed_up(rt: HostRuntime) -> Result<(), Fail> {
+fn four_made_transactions_are_summed_up(rt: HostRuntime) {
     assert_run(
         &rt,
         &["make", "4"],
         "",
         0,
         "steps 21\ncommits 3\nrollbacks 1\ntaken 9\n",
-    )
+    );
 }
 
 #[test]
-fn twenty_thousand_made_transactions_are_summed_up(rt: HostRuntime) -> Result<(), Fail> {
-    let mut sink = SureSink::new(rt.alloc());
-    let status = status_of(rt.alloc(), &["make", "20000"], &mut sink);
+fn twenty_thousand_made_transactions_are_summed_up(rt: HostRuntime) {
     let text = "steps 100001\ncommits 13334\nrollbacks 6666\ntaken 40002\n";
-    let written = sink.as_slice() == text.as_bytes();
-    drop(sink);
-    assert_eq!(rt; status?, 0);
-    assert!(rt; written);
-    Ok(())
+    assert_over(
+        &rt,
+        OpenSession::new(rt.alloc()),
+        &["make", "20000"],
+        "",
+        (0, text),
+    );
 }

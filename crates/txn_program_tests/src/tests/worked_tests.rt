@@ -1,11 +1,11 @@
 //! Runs of more than one link or end, each worked by hand: what the program answers, with ample
 //! memory.
 
-use crate::tests::run_tests::{A, assert_run};
-use std::test::Fail;
+use crate::run_over::A;
+use crate::tests::run_tests::assert_run;
 
 #[test]
-fn another_link_cannot_discharge(rt: HostRuntime) -> Result<(), Fail> {
+fn another_link_cannot_discharge(rt: HostRuntime) {
     assert_run(
         &rt,
         &["run", A],
@@ -22,11 +22,11 @@ fn another_link_cannot_discharge(rt: HostRuntime) -> Result<(), Fail> {
          accepted\n\
          stop done\n\
          handed 0\n",
-    )
+    );
 }
 
 #[test]
-fn a_link_end_aborts_its_id_which_is_declared_anew(rt: HostRuntime) -> Result<(), Fail> {
+fn a_link_end_aborts_its_id_which_is_declared_anew(rt: HostRuntime) {
     assert_run(
         &rt,
         &["run", A],
@@ -50,11 +50,11 @@ fn a_link_end_aborts_its_id_which_is_declared_anew(rt: HostRuntime) -> Result<()
          stop done\n\
          handed 0\n\
          taken transfer 1 2 true - 51\n",
-    )
+    );
 }
 
 #[test]
-fn an_outside_payload_closes_its_link_and_aborts_its_id(rt: HostRuntime) -> Result<(), Fail> {
+fn an_outside_payload_closes_its_link_and_aborts_its_id(rt: HostRuntime) {
     assert_run(
         &rt,
         &["run", A],
@@ -70,11 +70,11 @@ fn an_outside_payload_closes_its_link_and_aborts_its_id(rt: HostRuntime) -> Resu
          no-link\n\
          stop unknown-txn-id\n\
          handed 0\n",
-    )
+    );
 }
 
 #[test]
-fn a_post_under_a_dead_id_stops(rt: HostRuntime) -> Result<(), Fail> {
+fn a_post_under_a_dead_id_stops(rt: HostRuntime) {
     assert_run(
         &rt,
         &["run", A],
@@ -85,11 +85,11 @@ fn a_post_under_a_dead_id_stops(rt: HostRuntime) -> Result<(), Fail> {
         "attached 0\n\
          stop unknown-txn-id\n\
          handed 0\n",
-    )
+    );
 }
 
 #[test]
-fn retirements_are_handed_settled_with_their_outcomes(rt: HostRuntime) -> Result<(), Fail> {
+fn retirements_are_handed_settled_with_their_outcomes(rt: HostRuntime) {
     assert_run(
         &rt,
         &["run", A],
@@ -108,11 +108,11 @@ fn retirements_are_handed_settled_with_their_outcomes(rt: HostRuntime) -> Result
          handed 0\n\
          taken disposition receiver 3 5 true released\n\
          taken disposition receiver 6 - true -\n",
-    )
+    );
 }
 
 #[test]
-fn a_global_id_is_rejected_and_an_end_hands_nothing(rt: HostRuntime) -> Result<(), Fail> {
+fn a_global_id_is_rejected_and_an_end_hands_nothing(rt: HostRuntime) {
     assert_run(
         &rt,
         &["run", A],
@@ -128,5 +128,5 @@ fn a_global_id_is_rejected_and_an_end_hands_nothing(rt: HostRuntime) -> Result<(
          ok\n\
          stop ended\n\
          handed 0\n",
-    )
+    );
 }

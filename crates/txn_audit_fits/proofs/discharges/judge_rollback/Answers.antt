@@ -14,4 +14,4 @@ pub returns : goal.returns
 returns g c =
     let held = c.args.held.now in
     let P : Option Outs → Type 0 = λ o. JudgesHere held c.drop_work.new.held (steps.Control c.args.link c.args.payload.now) c.args.line.now o in
-    subst P (sym c.nothing_after-outs.ensures) (discharge-rollback held c.drop_work.new.held c.args.link c.args.payload.now c.args.line.now c.args.discharge c.requires.opened c.requires.message c.requires.known c.requires.rollback c.drop_work.ensures.ended)
+    subst P (sym c.nothing_after-outs.ensures) (discharge-rollback held c.drop_work.new.held c.args.link c.args.payload.now c.args.line.now c.args.discharge c.requires.discharge.opened c.requires.discharge.message c.requires.known c.requires.rollback c.drop_work.ensures.ended)

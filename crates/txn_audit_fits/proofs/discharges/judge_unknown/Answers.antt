@@ -9,4 +9,4 @@ pub returns : goal.returns
 returns c =
     let held = c.args.held.now in
     let P : Option Outs → Type 0 = λ o. JudgesHere held held (steps.Control c.args.link c.args.payload.now) c.args.line.now o in
-    subst P (sym c.nothing_after.ensures) (discharge-unknown held c.args.link c.args.payload.now c.args.line.now c.args.discharge c.requires.opened c.requires.message c.requires.unknown)
+    subst P (sym c.nothing_after.ensures) (discharge-unknown held c.args.link c.args.payload.now c.args.line.now c.args.discharge c.requires.discharge.opened c.requires.discharge.message c.requires.unknown)

@@ -1,14 +1,15 @@
-use Rattle.std.proofs.Common.{◌≡◌, vec_capacity}
+use Rattle.std.proofs.Common.{◌≡◌}
 use Rattle.amqp_resource_shared.specs.Receipts.{is_told}
 use Rattle.txn_program_workers.specs.Tallies.{tally_of}
-use Rattle.txn_program_workers.specs.Works.{AreOfWorker, IsReady, MadeRounds, ToldLink}
+use Rattle.txn_program_workers.specs.AtWork.{IsReady}
+use Rattle.txn_program_workers.specs.Works.{AreOfWorker, MadeRounds, ToldLink}
 use Rattle.txn_program_workers.proofs.worker.make_rounds.Given as goal
 
 abbrev pub invariant-loop-made : goal.invariant-loop-made
 invariant-loop-made g l = record {
   number : l.worker.number ≡ l.fn.worker.number;
   link : ToldLink l.worker.receipts.items l.link;
-  ready : IsReady 0 l.place.rounds (vec_capacity l.worker.receipts) l.worker.share.count l.worker.share.parts l.worker.receipts.items;
+  ready : IsReady 0 l.place.rounds l.worker;
   receipts : AreOfWorker l.worker.number l.place.rounds l.worker.receipts.items;
   made : MadeRounds l.made (tally_of is_told l.worker.receipts.items);
 }
