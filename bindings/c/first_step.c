@@ -2,7 +2,6 @@
 #include "daxurbi.h"
 
 #include <stdio.h>
-#include <string.h>
 #include <sys/random.h>
 
 int main(void) {
@@ -11,8 +10,8 @@ int main(void) {
     daxurbi_slot slot = {0};
     if (getrandom(seed, sizeof seed, 0) != sizeof seed) return 1;
     if (daxurbi_open(&slot, seed, sizeof seed) != DAXURBI_OK) return 1;
-    const uint8_t *line = (const uint8_t *)"attach c 0";
-    uint32_t answer = daxurbi_step(&slot, line, strlen("attach c 0"), DAXURBI_TAKE);
+    const uint8_t line[] = "attach c 0";
+    uint32_t answer = daxurbi_step(&slot, line, sizeof line - 1, DAXURBI_TAKE);
     if (answer == DAXURBI_OK) answer = daxurbi_report(&slot, report, sizeof report, &len);
     if (answer == DAXURBI_OK) fwrite(report, 1, len, stdout);
     daxurbi_close(&slot);

@@ -33,12 +33,8 @@ fn main() -> Result<(), Box<dyn Error>> {
 
     session.step(&post, Below::Takes)?;
     let work = session.pending(&txn_id)?.unwrap_or_default();
-    let has_room = queue.len() + work.len() <= 100;
-    let below = if has_room {
-        Below::Takes
-    } else {
-        Below::Vetoes
-    };
+    let fits = queue.len() + work.len() <= 100;
+    let below = if fits { Below::Takes } else { Below::Vetoes };
     let answer = session.step(&commit, below)?;
     queue.extend(answer.handed);
     println!("{} {}", answer.reply, queue[0]);
