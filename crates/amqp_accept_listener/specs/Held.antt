@@ -3,13 +3,11 @@ use Rattle.std.specs.Prelude.{◌≡◌, ◌<◌, ◌++◌, ◌∷◌, [], if◌
 use Rattle.std.specs.Option.{option_map}
 use Rattle.std.specs.declared.vec.Vec.{Vec}
 use Rattle.std.specs.declared.alloc.Global.{Global}
-use Rattle.std.specs.declared.hash.FoldHasher.{FoldHasher}
-use Rattle.std.specs.declared.hash.BuildHasherDefault.{BuildHasherDefault}
-use Rattle.std.specs.HashMap.{HashMap, get as entry_of}
+use Rattle.std.specs.BTreeMap.{BTreeMap, get as entry_of}
 use Rattle.amqp_txn_types.specs.declared.small.InputHandle.{InputHandle}
 use Rattle.amqp_txn_types.specs.declared.performatives.Flow.{Flow}
 use Rattle.amqp_txn_types.specs.declared.performatives.LinkFlow.{LinkFlow}
-use Rattle.amqp_below_sessions.specs.Links.{same_input}
+use Rattle.amqp_below_sessions.specs.Links.{input_order, same_input}
 use Rattle.amqp_below_sessions.specs.LinkMoves.{link_flow}
 use Rattle.amqp_below_sessions.specs.Plain.{input_of}
 use Rattle.amqp_below_sessions.specs.declared.relay.Relay.{Relay}
@@ -22,17 +20,17 @@ list_in (Some flows) = flows.items
 
 -- the flows that are held for a handle, in the order in which they came
 abbrev pub flows_for : HeldFlows → InputHandle → List LinkFlow
-flows_for held input = list_in (entry_of same_input held.flows input)
+flows_for held input = list_in (entry_of input_order held.flows input)
 
 -- a list of flows for each handle that had one
 abbrev pub FlowsByHandle : Type 0
-FlowsByHandle = HashMap InputHandle (Vec LinkFlow Global) (BuildHasherDefault FoldHasher)
+FlowsByHandle = BTreeMap InputHandle (Vec LinkFlow Global)
 
 -- for every handle the same flows
 abbrev pub SameLists : FlowsByHandle → FlowsByHandle → Type 0
 SameLists old new =
     (input : InputHandle)
-    → list_in (entry_of same_input new input) ≡ list_in (entry_of same_input old input)
+    → list_in (entry_of input_order new input) ≡ list_in (entry_of input_order old input)
 
 -- there is room for one more flow
 abbrev pub ListHasRoom : Option (Vec LinkFlow Global) → Type 0
@@ -41,7 +39,7 @@ ListHasRoom (Some flows) = vec_len flows < vec_capacity flows
 
 -- there is room for one more flow of a handle
 abbrev pub HasRoom : HeldFlows → InputHandle → Type 0
-HasRoom held input = ListHasRoom (entry_of same_input held.flows input)
+HasRoom held input = ListHasRoom (entry_of input_order held.flows input)
 
 -- there is room for this flow, if it is one of a link
 abbrev pub HasRoomFor : HeldFlows → Option LinkFlow → Type 0

@@ -1,18 +1,18 @@
 //! Flows of links that wait for the link's handle to be allocated.
 
 ghost use Rattle.std.specs.Prelude.{◌≡◌, ◌++◌, [], None, IsSome, OnOk, IfOk};
-ghost use Rattle.std.specs.HashMap.{get as entry_of};
-ghost use Rattle.amqp_below_sessions.specs.Links.{same_input};
+ghost use Rattle.std.specs.BTreeMap.{get as entry_of};
+ghost use Rattle.amqp_below_sessions.specs.Links.{input_order};
 ghost use Rattle.amqp_txn_types.specs.declared.small.InputHandle.{InputHandle};
 ghost use Rattle.amqp_accept_listener.specs.Held.{HasRoom, HasRoomFor, ListHasRoom, SameHeld, SameLists, flows_for, link_flow_in, replaying, with_flows, with_held};
 
 use amqp_below_sessions::{Relay, link_flow};
 use amqp_txn_types::{Flow, InputHandle, LinkFlow, LinkFlows, NoMemory, TryClone};
 use std::alloc::Global;
-use std::collections::HashMap;
+use std::collections::BTreeMap;
 
 /// A list of flows for each handle that had one.
-type FlowsByHandle = HashMap<InputHandle, Vec<LinkFlow>>;
+type FlowsByHandle = BTreeMap<InputHandle, Vec<LinkFlow>>;
 
 /// The flows that are held for each handle, in the order in which they came.
 #[derive(Drop)]
@@ -27,7 +27,7 @@ impl HeldFlows {
         ensures { (input : InputHandle) → flows_for result input ≡ [] }
     {
         HeldFlows {
-            flows: HashMap::new(alloc),
+            flows: BTreeMap::new(alloc),
             alloc,
         }
     }
@@ -105,9 +105,9 @@ impl HeldFlows {
 
 /// Room for one more flow in the list of a handle that has one. The only error is out of memory.
 fn grow_list(flows: &mut FlowsByHandle, input: InputHandle) -> Result<(), NoMemory>
-    requires { IsSome (entry_of same_input flows.old input) }
+    requires { IsSome (entry_of input_order flows.old input) }
     ensures same { SameLists flows.old flows.new }
-    ensures room { OnOk result (ListHasRoom (entry_of same_input flows.new input)) }
+    ensures room { OnOk result (ListHasRoom (entry_of input_order flows.new input)) }
 {
     if let Some(list) = flows.get_mut(&input) {
         list.reserve(1)?;
@@ -117,9 +117,9 @@ fn grow_list(flows: &mut FlowsByHandle, input: InputHandle) -> Result<(), NoMemo
 
 /// A list with room for one flow, for a handle that has none. The only error is out of memory.
 fn start_list(flows: &mut FlowsByHandle, alloc: Global, input: InputHandle) -> Result<(), NoMemory>
-    requires { entry_of same_input flows.old input ≡ None }
+    requires { entry_of input_order flows.old input ≡ None }
     ensures same { SameLists flows.old flows.new }
-    ensures room { OnOk result (ListHasRoom (entry_of same_input flows.new input)) }
+    ensures room { OnOk result (ListHasRoom (entry_of input_order flows.new input)) }
 {
     let list = Vec::with_capacity(alloc, 1)?;
     flows.insert(input, list)?;
