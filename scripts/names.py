@@ -21,7 +21,8 @@ TOP = pathlib.Path(__file__).resolve().parent.parent
 SOURCES = ["crates/*/src/**/*.rt", "crates/*/specs/**/*.antt", "crates/*/proofs/**/*.antt"]
 SOURCES += ["crates.txt", "scripts/*", "txn_program", "examples/**/*", "bindings/**/*", ".ci/run"]
 WORD = r"[A-Za-z0-9_-]+"
-OTHERS = set("fe2o3-amqp rt plant ci check must-fail edit logic NAME LIST ulong AMQPSymbol AMQPuLong".split())
+OTHERS = set("fe2o3-amqp rt RT_JOBS plant ci check must-fail edit logic NAME LIST ulong".split())
+OTHERS |= {"AMQPSymbol", "AMQPuLong"}
 ENDS = ("_none", "_last", "_WORD")
 
 
