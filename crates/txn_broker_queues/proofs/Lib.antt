@@ -5,6 +5,7 @@ pub mod Naming
 pub mod Listing
 pub mod Copying
 pub mod Refusing
+pub mod Handles
 pub mod Linking
 pub mod Removing
 pub mod Replying

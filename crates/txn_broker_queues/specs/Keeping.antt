@@ -2,7 +2,9 @@
 use Rattle.std.specs.Prelude.{ℕ, ◌≡◌, ◌≤◌, ◌<◌, ◌+◌, ◌||◌, Bool, false, not, cond, Option, Some, None, Result, Ok, Err, List, is_some, [], ◌∷◌, length, map, nat_eq, slice_get}
 use Rattle.std.specs.List.{enumerate_from, filter_map}
 use Rattle.std.specs.Option.{option_map}
+use Rattle.std.specs.Ordering.{nat_cmp}
 use Rattle.std.specs.Cmp.Lexicographic.{pointwise}
+use Rattle.std.specs.declared.cmp.Ordering.{Ordering}
 use Rattle.indexmap.specs.IndexSet.{insert_all}
 use Rattle.amqp_txn_types.specs.declared.performatives.Frame.{Frame}
 use Rattle.amqp_txn_types.specs.declared.performatives.Frame.TheVariants as frames
@@ -92,6 +94,10 @@ pub record Fades (frame : Frame) (old new : List Mark) : Type 0 where
 -- two handles are one
 abbrev pub same_handle : Handle → Handle → Bool
 same_handle a b = nat_eq a.0 b.0
+
+-- handles in the order of their numbers
+abbrev pub handle_order : Handle → Handle → Ordering
+handle_order a b = nat_cmp a.0 b.0
 
 -- what is kept is so of the frames that were taken: the links, by handle, the names of the queues,
 -- and the messages, of which no more came than are numbered

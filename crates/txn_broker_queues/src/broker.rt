@@ -1,14 +1,14 @@
 //! A layer with queues.
 
-ghost use Rattle.std.specs.Prelude.{ℕ, ◌≡◌, ◌≤◌, List, [], IfErr, IfOk, OnOk, OnErr, Some, None, cond, length, map, nat_eq, option_copied, slice_get};
-ghost use Rattle.std.specs.HashMap.{get};
+ghost use Rattle.std.specs.Prelude.{ℕ, ◌≡◌, ◌≤◌, List, [], IfErr, IfOk, IsSome, OnOk, OnErr, Some, None, cond, length, map, nat_eq, option_copied, slice_get};
+ghost use Rattle.std.specs.BTreeMap.{get, is_at};
 ghost use Rattle.std.specs.Cmp.Lexicographic.{pointwise};
 ghost use Rattle.indexmap.specs.IndexSet.{insert_key};
 ghost use Rattle.amqp_txn_types.specs.declared.performatives.Frame.TheVariants as frames;
 ghost use Rattle.amqp_txn_types.specs.declared.small.Handle.{Handle as H};
 ghost use Rattle.txn_broker_queues.specs.Queues.{messages, queue_found};
 ghost use Rattle.txn_broker_queues.specs.Given.{answered, given_back, refusal};
-ghost use Rattle.txn_broker_queues.specs.Keeping.{queue_names, same_handle};
+ghost use Rattle.txn_broker_queues.specs.Keeping.{handle_order, queue_names, same_handle};
 ghost use Rattle.txn_broker_queues.specs.Taking.{Admitted, Answered, NotTook, SameCounts, taken_of};
 
 mod frame_calls;
@@ -25,7 +25,7 @@ use amqp_txn_types::{
     Transfer, TryClone, refuse,
 };
 use std::alloc::Global;
-use std::collections::HashMap;
+use std::collections::BTreeMap;
 use std::marker::Model;
 
 /// A layer below a transactional session that keeps messages in queues.
@@ -47,7 +47,7 @@ use std::marker::Model;
 #[derive(Drop)]
 pub struct Broker {
     journal: Vec<(Frame, Frames)>,
-    links: HashMap<Handle, Link>,
+    links: BTreeMap<Handle, Link>,
     queues: Queues,
     refusals: u64,
     vetoes: u64,
@@ -57,9 +57,9 @@ pub struct Broker {
 impl Model for Broker {
     ghost use Rattle.std.specs.Prelude.{◌-◌};
     ghost use Rattle.std.specs.Vec.{vec_capacity, vec_len};
-    ghost use Rattle.std.specs.HashMap.{get};
+    ghost use Rattle.std.specs.BTreeMap.{get};
     ghost use Rattle.txn_broker_queues.specs.Taking.{Board, Stands};
-    ghost use Rattle.txn_broker_queues.specs.Keeping.{same_handle};
+    ghost use Rattle.txn_broker_queues.specs.Keeping.{handle_order};
 
     ghost Value = { Board };
 
@@ -72,7 +72,7 @@ impl Model for Broker {
     } };
 
     ghost invariant = { λ b. Stands b.journal.items
-        (λ handle. get same_handle b.links handle) b.queues };
+        (λ handle. get handle_order b.links handle) b.queues };
 }
 
 impl Broker {
@@ -84,7 +84,7 @@ impl Broker {
     {
         Broker {
             journal: Vec::new(alloc),
-            links: HashMap::new(alloc),
+            links: BTreeMap::new(alloc),
             queues: Queues::new(alloc),
             refusals: 0,
             vetoes: 0,
@@ -263,7 +263,7 @@ impl Broker {
 /// Links a handle to the queue of an address. Where memory runs out, the only error, nothing
 /// changes.
 fn attach_link(
-    links: &mut HashMap<Handle, Link>,
+    links: &mut BTreeMap<Handle, Link>,
     queues: &mut Queues,
     handle: Handle,
     peer: Role,
@@ -275,18 +275,38 @@ fn attach_link(
         (queues.new.names ≡ insert_key (pointwise nat_eq) queues.old.names address.now) }
     ensures linked { OnOk result ((queue : ℕ)
         × (slice_get queues.new.names queue ≡ Some address.now)
-        × ((h : H) → get same_handle links.new h ≡ cond (same_handle handle h)
-        (Some (record { queue = queue; peer = peer })) (get same_handle links.old h))) }
+        × ((h : H) → get handle_order links.new h ≡ cond (same_handle handle h)
+        (Some (record { queue = queue; peer = peer })) (get handle_order links.old h))) }
     ensures err { OnErr result (queues.new.names ≡ queues.old.names) }
-    ensures unlinked { OnErr result ((h : H) → get same_handle links.new h
-        ≡ get same_handle links.old h) }
+    ensures unlinked { OnErr result ((h : H) → get handle_order links.new h
+        ≡ get handle_order links.old h) }
 {
-    links.reserve(1)?;
-    let queue = queues.find_or_add(address)?;
-    let Ok(_) = links.insert(handle, Link { queue, peer }) else {
-        unreachable!()
-    };
-    Ok(())
+    let before = links.insert(handle, Link { queue: 0, peer })?;
+    match queues.find_or_add(address) {
+        Ok(queue) => {
+            put_link(links, handle, Some(Link { queue, peer }));
+            Ok(())
+        }
+        Err(error) => {
+            put_link(links, handle, before);
+            Err(error)
+        }
+    }
+}
+
+/// Changes the link of a handle that has one, or takes it out. It takes no memory.
+fn put_link(links: &mut BTreeMap<Handle, Link>, handle: Handle, link: Option<Link>)
+    requires { IsSome (get handle_order links.old handle) }
+    ensures { (h : H) → get handle_order links.new h
+        ≡ cond (is_at (handle_order handle) h) link (get handle_order links.old h) }
+{
+    if let Some(link) = link {
+        let Ok(_) = links.insert(handle, link) else {
+            unreachable!()
+        };
+    } else {
+        let _ = links.remove(&handle);
+    }
 }
 
 impl Tells for Broker {

@@ -1,14 +1,14 @@
 use Rattle.std.proofs.Common.{ap, arith, drop, sym, ◌+◌, ◌∙◌}
-use Rattle.std.specs.HashMap.{get}
+use Rattle.std.specs.BTreeMap.{get}
 use Rattle.amqp_txn_types.specs.declared.small.Handle.{Handle}
-use Rattle.txn_broker_queues.specs.Keeping.{refused_by, same_handle}
+use Rattle.txn_broker_queues.specs.Keeping.{handle_order, refused_by}
 use Rattle.txn_broker_queues.proofs.Refusing.{refused_at, refused_next, refused_other}
 use Rattle.txn_broker_queues.proofs.reviewing.any_refused.Goals as goal
 use Rattle.txn_broker_queues.proofs.reviewing.any_refused.Goals.{in-Transfer+else-is_refused, in_default}
 
 pub loop-frame-preserved : goal.loop-frame-preserved
 loop-frame-preserved c =
-    let link = λ (h : Handle). get same_handle c.args.links.now h in
+    let link = λ (h : Handle). get handle_order c.args.links.now h in
     let rest = drop (c.loop-frame.frame-index + 1) c.args.frames.now in
     let here = refused_at link c.loop-frame.number c.loop-frame.frame-index c.args.frames.now c.frame-item.result c.loop-frame-test.true c.frame-item.is in
     elim c.match-frame.branch [

@@ -1,8 +1,8 @@
 use Rattle.std.proofs.Common.{ap, subst, sym, ◌∙◌}
-use Rattle.std.specs.HashMap.{get}
+use Rattle.std.specs.BTreeMap.{get}
 use Rattle.amqp_txn_types.specs.declared.performatives.Frame.TheVariants as frames
 use Rattle.txn_broker_queues.specs.Given.{given_back}
-use Rattle.txn_broker_queues.specs.Keeping.{Keeps, same_handle}
+use Rattle.txn_broker_queues.specs.Keeping.{Keeps, handle_order}
 use Rattle.txn_broker_queues.specs.Taking.{frames_of}
 use Rattle.txn_broker_queues.proofs.Answered.{answered_more}
 use Rattle.txn_broker_queues.proofs.Kept.{keeps_attach}
@@ -20,8 +20,8 @@ invariant_of-self-in-Ok-attach_link c =
           answered_more journal c.push_reserved.new.self.items frame c.in-Ok.answers.1 c.self.invariant.answers
           (c.in-Ok.ensures.ok.copy_is ∙ ap (λ j. given_back (frames_of j) frame) (sym same)) c.push_reserved.ensures.items;
       keeps =
-          subst (λ fs. Keeps fs (λ handle. get same_handle c.attach_link.new.links handle) c.attach_link.new.queues)
+          subst (λ fs. Keeps fs (λ handle. get handle_order c.attach_link.new.links handle) c.attach_link.new.queues)
           (sym (frames_more journal c.push_reserved.new.self.items frame c.in-Ok.answers.1 c.push_reserved.ensures.items))
-          (keeps_attach (frames_of journal) c.args.attach c.in-Some.address.now links.linked.0 (λ handle. get same_handle c.self.inside.links handle) (λ handle. get same_handle c.attach_link.new.links handle) c.self.inside.queues c.attach_link.new.queues
+          (keeps_attach (frames_of journal) c.args.attach c.in-Some.address.now links.linked.0 (λ handle. get handle_order c.self.inside.links handle) (λ handle. get handle_order c.attach_link.new.links handle) c.self.inside.queues c.attach_link.new.queues
           (sym c.in-Some.ensures) links.linked.2 links.names links.marks links.linked.1 c.self.invariant.keeps);
     }

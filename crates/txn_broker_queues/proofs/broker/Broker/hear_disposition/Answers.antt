@@ -1,9 +1,9 @@
 use Rattle.std.proofs.Common.{List, [], ap, subst, sym, ◌++◌, ◌∙◌, ◌∷◌}
-use Rattle.std.specs.HashMap.{get}
+use Rattle.std.specs.BTreeMap.{get}
 use Rattle.amqp_txn_types.specs.declared.small.Handle.{Handle}
 use Rattle.amqp_txn_types.specs.declared.performatives.Frame.{Frame}
 use Rattle.amqp_txn_types.specs.declared.performatives.Frame.TheVariants as frames
-use Rattle.txn_broker_queues.specs.Keeping.{Keeps, same_handle}
+use Rattle.txn_broker_queues.specs.Keeping.{Keeps, handle_order}
 use Rattle.txn_broker_queues.specs.Taking.{frames_of}
 use Rattle.txn_broker_queues.proofs.Answered.{answered_more}
 use Rattle.txn_broker_queues.proofs.Kept.{keeps_disposition}
@@ -13,7 +13,7 @@ use Rattle.txn_broker_queues.proofs.broker.Broker.hear_disposition.Goals as goal
 pub invariant_of-self-2 : goal.invariant_of-self-2
 invariant_of-self-2 c =
     let journal = c.self.inside.journal.items in
-    let link = λ (handle : Handle). get same_handle c.self.inside.links handle in
+    let link = λ (handle : Handle). get handle_order c.self.inside.links handle in
     let frame = frames.Disposition c.args.disposition in
     let grown = c.push_reserved.ensures.items ∙ ap (λ (j : List (Frame × List Frame)). j ++ (frame, c.new.result) ∷ []) c.reserve.ensures.items in
     record {

@@ -1,8 +1,8 @@
 use Rattle.std.proofs.Common.{ap, subst, sym, ◌∙◌}
-use Rattle.std.specs.HashMap.{get}
+use Rattle.std.specs.BTreeMap.{get}
 use Rattle.amqp_txn_types.specs.declared.performatives.Frame.TheVariants as frames
 use Rattle.txn_broker_queues.specs.Given.{given_back}
-use Rattle.txn_broker_queues.specs.Keeping.{Keeps, same_handle}
+use Rattle.txn_broker_queues.specs.Keeping.{Keeps, handle_order}
 use Rattle.txn_broker_queues.specs.Taking.{frames_of}
 use Rattle.txn_broker_queues.proofs.Answered.{answered_more}
 use Rattle.txn_broker_queues.proofs.Kept.{keeps_flow}
@@ -19,7 +19,7 @@ invariant_of-self c =
           answered_more journal c.push_reserved.new.self.items frame c.in-Ok.kept c.self.invariant.answers
           (c.in-Ok.ensures.ok.copy_is ∙ ap (λ j. given_back (frames_of j) frame) (sym same)) c.push_reserved.ensures.items;
       keeps =
-          subst (λ fs. Keeps fs (λ handle. get same_handle c.self.inside.links handle) c.self.inside.queues)
+          subst (λ fs. Keeps fs (λ handle. get handle_order c.self.inside.links handle) c.self.inside.queues)
           (sym (frames_more journal c.push_reserved.new.self.items frame c.in-Ok.kept c.push_reserved.ensures.items))
-          (keeps_flow (frames_of journal) c.args.flow (λ handle. get same_handle c.self.inside.links handle) c.self.inside.queues c.self.invariant.keeps);
+          (keeps_flow (frames_of journal) c.args.flow (λ handle. get handle_order c.self.inside.links handle) c.self.inside.queues c.self.invariant.keeps);
     }

@@ -1,8 +1,8 @@
 use Rattle.std.proofs.Common.{ap, arith, subst, sym, ◌∙◌, ◌≡◌}
-use Rattle.std.specs.HashMap.{get}
+use Rattle.std.specs.BTreeMap.{get}
 use Rattle.amqp_txn_types.specs.Counts.{one_more}
 use Rattle.amqp_txn_types.specs.declared.performatives.Frame.TheVariants as frames
-use Rattle.txn_broker_queues.specs.Keeping.{Keeps, same_handle}
+use Rattle.txn_broker_queues.specs.Keeping.{Keeps, handle_order}
 use Rattle.txn_broker_queues.proofs.Admitting.{keeps_admitted}
 use Rattle.txn_broker_queues.proofs.Answered.{answered_more}
 use Rattle.txn_broker_queues.proofs.Telling.{frames_more, refused_gives, refused_told}
@@ -16,9 +16,9 @@ invariant_of-self c =
     record {
       answers = answered_more journal c.push_reserved.new.self.items frame c.new.result c.self.invariant.answers c.new.ensures c.push_reserved.ensures.items;
       keeps =
-          subst (λ fs. Keeps fs (λ handle. get same_handle c.self.inside.links handle) c.push.new.self)
+          subst (λ fs. Keeps fs (λ handle. get handle_order c.self.inside.links handle) c.push.new.self)
           (sym (frames_more journal c.push_reserved.new.self.items frame c.new.result c.push_reserved.ensures.items))
-          (keeps_admitted c.args.self.now journal (λ handle. get same_handle c.self.inside.links handle) c.self.inside.queues same c.self.invariant.keeps c.admit.new.self c.args.transfer c.args.payload c.len.result c.in-Ok.queue c.push.new.self
+          (keeps_admitted c.args.self.now journal (λ handle. get handle_order c.self.inside.links handle) c.self.inside.queues same c.self.invariant.keeps c.admit.new.self c.args.transfer c.args.payload c.len.result c.in-Ok.queue c.push.new.self
           c.in-Ok.ensures.ok (omega (arith, c.len.ensures, c.self.inside.journal.ok.0)) c.push.ensures.names c.push.ensures.marks);
     }
 

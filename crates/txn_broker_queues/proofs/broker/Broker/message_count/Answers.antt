@@ -1,6 +1,6 @@
 use Rattle.std.proofs.Common.{ap, arith, length, ◌∙◌}
-use Rattle.std.specs.HashMap.{get}
-use Rattle.txn_broker_queues.specs.Keeping.{same_handle}
+use Rattle.std.specs.BTreeMap.{get}
+use Rattle.txn_broker_queues.specs.Keeping.{handle_order}
 use Rattle.txn_broker_queues.specs.Queues.{messages}
 use Rattle.txn_broker_queues.specs.Taking.{frames_of}
 use Rattle.txn_broker_queues.proofs.Linking.{count_kept}
@@ -15,5 +15,5 @@ overflow_cast-result c =
 pub returns : goal.returns
 returns c =
     c.message_count.ensures
-    ∙ count_kept (frames_of c.self.inside.journal.items) (λ h. get same_handle c.self.inside.links h) c.self.inside.queues c.self.invariant.keeps
+    ∙ count_kept (frames_of c.self.inside.journal.items) (λ h. get handle_order c.self.inside.links h) c.self.inside.queues c.self.invariant.keeps
     ∙ ap (λ j. length (messages (frames_of j))) (ap (λ v. v.journal) c.self.view_is)

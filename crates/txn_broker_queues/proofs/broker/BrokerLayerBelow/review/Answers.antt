@@ -1,10 +1,10 @@
 use Rattle.std.proofs.Common.{ap, arith, cond, false, sym, true, ◌∙◌, ◌≡◌}
-use Rattle.std.specs.HashMap.{get}
+use Rattle.std.specs.BTreeMap.{get}
 use Rattle.std.proofs.lemmas.List.Sums.{count_by-le-length}
 use Rattle.amqp_txn_types.specs.Counts.{one_more}
 use Rattle.amqp_txn_types.specs.Frames.{is_transfer}
 use Rattle.txn_broker_queues.specs.Given.{any_refused}
-use Rattle.txn_broker_queues.specs.Keeping.{same_handle}
+use Rattle.txn_broker_queues.specs.Keeping.{handle_order}
 use Rattle.txn_broker_queues.specs.Taking.{frames_of, taken_of, verdict_of}
 use Rattle.txn_broker_queues.proofs.Admitting.{review_is}
 use Rattle.txn_broker_queues.proofs.Linking.{bare_work}
@@ -14,7 +14,7 @@ pub returns-then-any_refused-clause-gives : goal.returns-then-any_refused-clause
 returns-then-any_refused-clause-gives c =
     let old = c.args.self.now in
     let found : any_refused (taken_of old) c.args.frames.now ≡ true =
-    review_is old c.self.inside.journal.items (λ h. get same_handle c.self.inside.links h) c.self.inside.queues (ap (λ v. v.journal) c.self.view_is) c.self.invariant.keeps
+    review_is old c.self.inside.journal.items (λ h. get handle_order c.self.inside.links h) c.self.inside.queues (ap (λ v. v.journal) c.self.view_is) c.self.invariant.keeps
     c.message_count-count.result c.args.frames.now true c.message_count-count.ensures c.requires (rw c.as_slice.ensures at c.if-any_refused.ensures) in
     record {
       verdict_is = sym (ap verdict_of found);
@@ -29,7 +29,7 @@ pub returns-in-Ok-clause-takes : goal.returns-in-Ok-clause-takes
 returns-in-Ok-clause-takes c =
     let old = c.args.self.now in
     let none : any_refused (taken_of old) c.args.frames.now ≡ false =
-    review_is old c.self.inside.journal.items (λ h. get same_handle c.self.inside.links h) c.self.inside.queues (ap (λ v. v.journal) c.self.view_is) c.self.invariant.keeps
+    review_is old c.self.inside.journal.items (λ h. get handle_order c.self.inside.links h) c.self.inside.queues (ap (λ v. v.journal) c.self.view_is) c.self.invariant.keeps
     c.message_count-count.result c.args.frames.now false c.message_count-count.ensures c.requires (rw c.as_slice.ensures at c.if-any_refused.ensures) in
     record {
       work = bare_work c.args.frames.now c.requires;
@@ -42,7 +42,7 @@ pub returns-in-Ok-clause-gives : goal.returns-in-Ok-clause-gives
 returns-in-Ok-clause-gives c =
     let old = c.args.self.now in
     let none : any_refused (taken_of old) c.args.frames.now ≡ false =
-    review_is old c.self.inside.journal.items (λ h. get same_handle c.self.inside.links h) c.self.inside.queues (ap (λ v. v.journal) c.self.view_is) c.self.invariant.keeps
+    review_is old c.self.inside.journal.items (λ h. get handle_order c.self.inside.links h) c.self.inside.queues (ap (λ v. v.journal) c.self.view_is) c.self.invariant.keeps
     c.message_count-count.result c.args.frames.now false c.message_count-count.ensures c.requires (rw c.as_slice.ensures at c.if-any_refused.ensures) in
     record {
       verdict_is = sym (ap verdict_of none);
@@ -55,7 +55,7 @@ pub returns-in-Err-clause-gives : goal.returns-in-Err-clause-gives
 returns-in-Err-clause-gives c =
     let old = c.args.self.now in
     let none : any_refused (taken_of old) c.args.frames.now ≡ false =
-    review_is old c.self.inside.journal.items (λ h. get same_handle c.self.inside.links h) c.self.inside.queues (ap (λ v. v.journal) c.self.view_is) c.self.invariant.keeps
+    review_is old c.self.inside.journal.items (λ h. get handle_order c.self.inside.links h) c.self.inside.queues (ap (λ v. v.journal) c.self.view_is) c.self.invariant.keeps
     c.message_count-count.result c.args.frames.now false c.message_count-count.ensures c.requires (rw c.as_slice.ensures at c.if-any_refused.ensures) in
     rw c.refuse.ensures.answer (record {
       unrefused = none;
