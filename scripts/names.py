@@ -22,7 +22,7 @@ SOURCES = ["crates/*/src/**/*.rt", "crates/*/specs/**/*.antt", "crates/*/proofs/
 SOURCES += ["crates.txt", "scripts/*", "txn_program", "examples/**/*", "bindings/**/*", ".ci/run"]
 WORD = r"[A-Za-z0-9_-]+"
 OTHERS = set("fe2o3-amqp rt RT_JOBS plant ci check must-fail edit logic NAME LIST ulong".split())
-OTHERS |= {"AMQPSymbol", "AMQPuLong"}
+OTHERS |= {"AMQPSymbol", "AMQPuLong", "perf"}
 ENDS = ("_none", "_last", "_WORD")
 
 
