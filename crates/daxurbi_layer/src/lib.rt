@@ -14,8 +14,8 @@
 //!
 //! Who has a layer of their own asks it first, and then tells this one what it answered. Below
 //! stand the layer of `amqp_below_layer` and the types of `amqp_txn_types`. The promise that this
-//! crate carries: a layer that was told to take refuses only where memory runs out, and one that
-//! was told anything else takes nothing.
+//! crate carries: a layer that was told to take refuses a frame only where memory runs out, and an
+//! attach only after another; one that was told anything else takes nothing.
 #![tactic(auto)]
 
 mod below_answer;
