@@ -5,7 +5,8 @@ pub mod Naming
 pub mod Listing
 pub mod Copying
 pub mod Refusing
-pub mod Handles
+pub mod Ordered
+pub mod Numbering
 pub mod Linking
 pub mod Removing
 pub mod Replying

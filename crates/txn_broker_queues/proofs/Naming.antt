@@ -152,16 +152,18 @@ none_from (x ∷ names) name i e = by_case (same_name name x) (λ later. none_fr
 pub name_missing : (names : List (List ℕ)) (name : List ℕ) → position (same_name name) names ≡ None → list_any (same_name name) names ≡ false
 name_missing names name e = none_from names name 0 (sym (position_from-zero (same_name name) names) ∙ e)
 
-added_here : (names : List (List ℕ)) (name : List ℕ) → slice_get (names ++ name ∷ []) (length names) ≡ Some name
+-- a name that is there isn't added
+pub name_stays : (names : List (List ℕ)) (name : List ℕ) → list_any (same_name name) names ≡ true → names ≡ insert_key same_name names name
+name_stays names name so = ap (λ b. cond b names (names ++ name ∷ [])) (sym so)
+
+-- a name that isn't is added at the end
+pub name_added : (names : List (List ℕ)) (name : List ℕ) → position (same_name name) names ≡ None → names ++ name ∷ [] ≡ insert_key same_name names name
+name_added names name none = ap (λ b. cond b names (names ++ name ∷ [])) (sym (name_missing names name none))
+
+-- there it stands
+pub added_here : (names : List (List ℕ)) (name : List ℕ) → slice_get (names ++ name ∷ []) (length names) ≡ Some name
 added_here [] name = refl
 added_here (x ∷ names) name = added_here names name
-
--- a name that wasn't there is added at the end
-pub name_added : (names new : List (List ℕ)) (name copy : List ℕ) (q : ℕ) → position (same_name name) names ≡ None → copy ≡ name → q ≡ length names
-    → new ≡ insert_key same_name names copy → slice_get new q ≡ Some name
-name_added names new name copy q none same at is =
-    ap (λ ns. slice_get ns q) (is ∙ ap (insert_key same_name names) same ∙ ap (λ b. cond b names (names ++ name ∷ [])) (name_missing names name none))
-    ∙ ap (slice_get (names ++ name ∷ [])) at ∙ added_here names name
 
 -- the queue of a name that was found
 pub found_queue : (taken : List Frame) (names : List (List ℕ)) (name : List ℕ) → names ≡ queue_names taken → list_any (same_name name) names ≡ true

@@ -1,5 +1,5 @@
 -- What a broker keeps of the frames that it took.
-use Rattle.std.specs.Prelude.{ℕ, ◌≡◌, ◌≤◌, ◌<◌, ◌+◌, ◌||◌, Bool, false, not, cond, Option, Some, None, Result, Ok, Err, List, is_some, [], ◌∷◌, length, map, nat_eq, slice_get}
+use Rattle.std.specs.Prelude.{ℕ, ◌≡◌, ◌≤◌, ◌<◌, ◌+◌, ◌||◌, Bool, false, not, cond, Option, Some, None, Result, Ok, Err, List, is_some, [], ◌∷◌, length, map, nat_eq, position, slice_get}
 use Rattle.std.specs.List.{enumerate_from, filter_map}
 use Rattle.std.specs.Option.{option_map}
 use Rattle.std.specs.Ordering.{nat_cmp}
@@ -24,6 +24,11 @@ pub record Lines : Type 0 where
   pub names : List (List ℕ)
   pub marks : List Mark
   pub room : ℕ
+
+-- the number that is kept for each name is its place among the names
+abbrev pub AreNumbered : List (List ℕ) → (List ℕ → Option ℕ) → Type 0
+AreNumbered names number =
+    (name : List ℕ) → number name ≡ position (pointwise nat_eq name) names
 
 -- the address of an attach
 abbrev pub attached_address : Frame → Option (List ℕ)

@@ -9,35 +9,40 @@ ghost use Rattle.txn_broker_queues.specs.Keeping.{Fades};
 
 use crate::link::removed_numbers;
 use amqp_txn_types::{Disposition, NoMemory, Text, TryClone};
-use indexmap::IndexSet;
 use std::alloc::Global;
+use std::collections::BTreeMap;
 use std::marker::Model;
 use txn_broker_table::{Mark, MessageTable};
 
 /// The names of the queues, by first attach, and their messages. A contract sees the names and
 /// what is kept of each message.
+///
+/// A name is kept twice: once where the names are listed, and once in the order of names, so that
+/// it is found in logarithmic time whichever names a peer picks.
 #[derive(Drop)]
 pub struct Queues {
-    names: IndexSet<Text>,
+    names: Vec<Text>,
+    numbers: BTreeMap<Text, usize>,
     table: MessageTable,
 }
 
 impl Model for Queues {
-    ghost use Rattle.std.specs.Prelude.{◌≡◌, nat_eq, length};
-    ghost use Rattle.std.specs.List.{IsDistinct};
-    ghost use Rattle.std.specs.Cmp.Lexicographic.{pointwise};
-    ghost use Rattle.txn_broker_queues.specs.Keeping.{Lines};
+    ghost use Rattle.std.specs.Prelude.{◌≡◌, length};
+    ghost use Rattle.std.specs.Ordering.{nat_cmp};
+    ghost use Rattle.std.specs.Cmp.Lexicographic.{slice_cmp};
+    ghost use Rattle.std.specs.BTreeMap.{get};
+    ghost use Rattle.txn_broker_queues.specs.Keeping.{AreNumbered, Lines};
 
     ghost Value = { Lines };
 
     ghost view = { λ q. record {
-      names = q.names.keys;
+      names = q.names.items;
       marks = q.table.marks;
       room = q.table.room;
     } };
 
-    ghost invariant = { λ q. (q.table.queues ≡ length q.names.keys)
-        × IsDistinct (pointwise nat_eq) q.names.keys };
+    ghost invariant = { λ q. (q.table.queues ≡ length q.names.items)
+        × AreNumbered q.names.items (λ name. get (slice_cmp nat_cmp) q.numbers name) };
 }
 
 impl Queues {
@@ -47,7 +52,8 @@ impl Queues {
         ensures marks { result.marks ≡ [] }
     {
         Queues {
-            names: IndexSet::new(alloc),
+            names: Vec::new(alloc),
+            numbers: BTreeMap::new(alloc),
             table: MessageTable::new(alloc),
         }
     }
@@ -63,14 +69,14 @@ impl Queues {
     pub fn name(&self, queue: usize) -> Option<&Text>
         ensures { option_copied result ≡ slice_get self.now.names queue }
     {
-        self.names.get_index(queue)
+        self.names.get(queue)
     }
 
     /// The number of the queue of a name.
     pub fn find(&self, name: &Text) -> Option<usize>
         ensures { result ≡ position (pointwise nat_eq name.now) self.now.names }
     {
-        self.names.get_index_of(name)
+        self.numbers.get(name).copied()
     }
 
     /// The number of the queue of a name, which is made where there is none. The only error is out
@@ -83,15 +89,19 @@ impl Queues {
             (self.new.names ≡ insert_key (pointwise nat_eq) self.old.names name.now) }
         ensures err { OnErr result (self.new.names ≡ self.old.names) }
     {
-        if let Some(queue) = self.names.get_index_of(name) {
+        if let Some(queue) = self.numbers.get(name).copied() {
             return Ok(queue);
         }
-        let copy = name.try_clone()?;
+        let queue = self.names.len();
+        let key = name.try_clone()?;
+        let listed = name.try_clone()?;
         self.names.reserve(1)?;
-        let queue = self.table.add_queue()?;
-        let Ok(_) = self.names.insert(copy) else {
-            unreachable!()
+        self.numbers.insert(key, queue)?;
+        let Ok(_) = self.table.add_queue() else {
+            let _ = self.numbers.remove(name);
+            return Err(NoMemory);
         };
+        self.names.push_reserved(listed);
         Ok(queue)
     }
 

@@ -5,8 +5,8 @@ use Rattle.txn_broker_queues.specs.Given.{given_back}
 use Rattle.txn_broker_queues.specs.Keeping.{Keeps, handle_order}
 use Rattle.txn_broker_queues.specs.Taking.{frames_of}
 use Rattle.txn_broker_queues.proofs.Answered.{answered_more}
-use Rattle.txn_broker_queues.proofs.Handles.{handle-changed}
 use Rattle.txn_broker_queues.proofs.Kept.{keeps_detach}
+use Rattle.txn_broker_queues.proofs.Ordered.{changed-at, handles_exact}
 use Rattle.txn_broker_queues.proofs.Telling.{frames_more}
 use Rattle.txn_broker_queues.proofs.broker.Broker.hear_detach.Goals as goal
 
@@ -23,5 +23,5 @@ invariant_of-self c =
           subst (λ fs. Keeps fs (λ handle. get handle_order c.remove-link.new.self handle) c.self.inside.queues)
           (sym (frames_more journal c.push_reserved.new.self.items frame c.in-Ok.kept c.push_reserved.ensures.items))
           (keeps_detach (frames_of journal) c.args.detach (λ handle. get handle_order c.self.inside.links handle) (λ handle. get handle_order c.remove-link.new.self handle) c.self.inside.queues
-          (handle-changed _ _ c.args.detach.handle None c.remove-link.ensures.updates.0) c.self.invariant.keeps);
+          (changed-at handles_exact _ _ c.args.detach.handle None c.remove-link.ensures.updates.0) c.self.invariant.keeps);
     }
