@@ -2,8 +2,9 @@
 # Makes each allocation of a run fail in turn, and counts how the runs end.
 # Words: a file of step lines, and the words of the program, as in
 #   scripts/want_of_memory.sh examples/one-commit.steps run 00000000000000000000000000000001
-# With no words, all examples are run so, a line each, and then commits of which each frame in turn is
-# refused or starved below, an input that is too long, and a folder as input.
+# With no words, all examples but those of threads, mailbox and audit are run so, a line each, and then
+# commits of which each frame in turn is refused or starved below, an input that is too long, and a
+# folder as input.
 # An allocation is a call of malloc or of realloc. A run may end as the one in which none fails; with
 # status 6 and nothing written; with status 8 and the stop below-no-memory; or with a report in which an
 # attach is refused as below-no-memory; make, which writes no report, with its summary and status 8, or
@@ -98,6 +99,7 @@ fi
 failed=0
 for example in "$top"/examples/*.words; do
   mapfile -t word <"$example"
+  case ${word[0]} in threads | mailbox | audit) continue ;; esac
   printf '%s: ' "$(basename "$example" .words)"
   try_all "${example%.words}.steps" "${word[@]}" || failed=1
 done
