@@ -2,7 +2,10 @@
 use Rattle.std.proofs.Common.{◌≡◌, Bool, true, false, ◌&&◌, List, [], ◌∷◌, Option, Some, None, nat_eq, refl, sym, ◌∙◌, ap}
 use mathlib.Core.Bool.{true≢false}
 use mathlib.Core.Logic.{inl, inr}
+use denote.Struct.Cover.{Cover-one}
+use denote.Struct.Declared.{Declared as DeclaredStruct}
 use denote.Struct.Field.{Field}
+use denote.Struct.Values.{Values}
 use denote.Enum.Declared.{Record, Declared, Choice, values_one}
 use denote.Enum.Bare.{Bare, sameb, same_true, true_same}
 use denote.Enum.Compared.{Each, by}
@@ -76,7 +79,7 @@ module _ {A B : Type 0} {E : A → A → Bool} {F : B → B → Bool} (e : IsEqu
     same = λ x. joined (e.same x.0) (f.same x.1);
   }
 
--- ---- the fields of a variant, as a tuple that ends with nothing
+-- ---- the fields of a variant or a struct, as a tuple that ends with nothing: the last is one field
 
 pub no_field : IsEquality (λ (x y : Unit {0}). true)
 no_field = record { one = λ x y h. refl; same = λ x. refl }
@@ -94,6 +97,15 @@ module _ {A B : Type 0} {E : A → A → Bool} {F : B → B → Bool} (e : IsEqu
     one = λ x y h. let b = both (E x.0 y.0) (F x.1.0 y.1.0) h in λ i. (e.one x.0 y.0 b.0 i, (f.one x.1.0 y.1.0 b.1 i, tt));
     same = λ x. joined (e.same x.0) (f.same x.1.0);
   }
+
+-- ---- structs
+
+-- by a test of the fields' values, as a tuple that ends with nothing
+pub structure : (T : DeclaredStruct) {E : Values T.parts → Values T.parts → Bool} → IsEquality E → IsEquality (λ (x y : T.D). E (T.as_values x) (T.as_values y))
+structure T e = record {
+  one = λ x y h. Cover-one T.cover T.propositions x y (e.one (T.as_values x) (T.as_values y) h);
+  same = λ x. e.same (T.as_values x);
+}
 
 -- ---- enums
 

@@ -2,6 +2,7 @@
 use Rattle.amqp_below_layer.specs.contracts.inner_error.SessionInnerErrorPartialEq.TheImpl as fault_same
 use Rattle.amqp_below_layer.specs.contracts.inner_error.SessionInnerError as fault_type
 use Rattle.amqp_below_layer.specs.contracts.answers.AnswersPartialEq.TheImpl as answers_same
+use Rattle.amqp_below_layer.specs.contracts.answers.Answers as answers_type
 use Rattle.amqp_resource_record.specs.contracts.step.StepPartialEq.TheImpl as step_same
 use Rattle.amqp_resource_record.specs.contracts.step.Step as step_type
 use Rattle.amqp_resource_record.specs.contracts.reply.RejectTextPartialEq.TheImpl as reject_text_same
@@ -16,7 +17,7 @@ use Rattle.amqp_resource_record.specs.declared.entry.Entry.{Entry}
 use Rattle.amqp_resource_record.specs.contracts.entry.EntryPartialEq.TheImpl as entry_same
 use Rattle.std.proofs.Common.{◌≡◌}
 use Rattle.std.specs.Bool.{Decides}
-use Rattle.amqp_resource_equality.proofs.Deciding.{IsEquality, bare, both, decides, enumeration, joined, list, no_field, number, one_field, option, two_fields}
+use Rattle.amqp_resource_equality.proofs.Deciding.{IsEquality, bare, both, decides, enumeration, joined, list, no_field, number, one_field, option, pair, structure, two_fields}
 use Rattle.amqp_resource_equality.proofs.Values.{amqp_error, octets, transaction_error}
 use Rattle.amqp_resource_equality.proofs.States.{connection_stop, error}
 use Rattle.amqp_resource_equality.proofs.Performatives.{flow, frame}
@@ -25,15 +26,7 @@ pub fault : IsEquality fault_same.eq-value.it
 fault = enumeration fault_type.enum _ (no_field, (no_field, (no_field, (no_field, (one_field connection_stop, (no_field, (no_field, (one_field error, (no_field, (no_field, tt))))))))))
 
 pub answers : IsEquality answers_same.eq-value.it
-answers = record {
-  one = λ x y h.
-      let h0 = both _ _ h in
-      λ i. record {
-        given = (list frame).one x.given y.given h0.0 i;
-        window = (option flow).one x.window y.window h0.1 i;
-      };
-  same = λ x. joined ((list frame).same x.given) ((option flow).same x.window);
-}
+answers = structure answers_type.the_type (pair (list frame) (one_field (option flow)))
 
 pub step : IsEquality step_same.eq-value.it
 step = enumeration step_type.enum _ (one_field frame, (two_fields number octets, (one_field number, (one_field (option error), (one_field (option error), (one_field connection_stop, tt))))))

@@ -19,10 +19,11 @@ use Rattle.amqp_txn_types.specs.declared.small.LinkError.TheVariants as link_err
 use Rattle.amqp_txn_types.specs.contracts.small.TransactionErrorPartialEq.TheImpl as transaction_error_same
 use Rattle.amqp_txn_types.specs.contracts.small.TransactionError as transaction_error_type
 use Rattle.amqp_txn_types.specs.contracts.small.HandlePartialEq.TheImpl as handle_same
+use Rattle.amqp_txn_types.specs.contracts.small.Handle as handle_type
 use Rattle.amqp_txn_types.specs.contracts.fields.ValuePartialEq.TheImpl as value_same
 use Rattle.amqp_txn_types.specs.contracts.fields.Value as value_type
 use Rattle.amqp_txn_types.specs.contracts.fields.FieldsPartialEq.TheImpl as fields_same
-use Rattle.amqp_resource_equality.proofs.Deciding.{IsEquality, bare, boolean, enumeration, list, no_field, number, one_field, pair}
+use Rattle.amqp_resource_equality.proofs.Deciding.{IsEquality, bare, boolean, enumeration, list, no_field, number, one_field, pair, structure}
 
 pub role : IsEquality role_same.eq-value.it
 role = bare role_type.the_type tt
@@ -52,10 +53,7 @@ pub transaction_error : IsEquality transaction_error_same.eq-value.it
 transaction_error = bare transaction_error_type.the_type tt
 
 pub handle : IsEquality handle_same.eq-value.it
-handle = record {
-  one = λ x y h. λ i. record { 0 = number.one x.0 y.0 h i };
-  same = λ x. number.same x.0;
-}
+handle = structure handle_type.the_type (one_field number)
 
 -- octets, and what is seen as octets: text, symbols, binaries, payloads and ids
 pub octets : IsEquality (pointwise nat_eq)
