@@ -1,7 +1,6 @@
 //! One step of a session that hasn't stopped.
 
-ghost use Rattle.std.specs.Prelude.{◌≤◌, ◌<◌, ◌-◌, ◌^◌};
-ghost use Rattle.amqp_resource_log.specs.Live.{frame_count, owed};
+ghost use Rattle.std.specs.Prelude.{◌<◌, ◌-◌, ◌^◌};
 ghost use Rattle.amqp_resource_record.specs.declared.step.Step.TheVariants as steps;
 ghost use Rattle.amqp_resource_session.specs.Leaving.{StepDraws, StepLeaves};
 ghost use Rattle.amqp_resource_held.specs.Looks.{Pays, frames_added, frames_ended, unless_no_memory};
@@ -58,8 +57,8 @@ fn control_step<S: LayerBelow, G: IdSource, L: Ledger>(
     }
 }
 
-/// What a step does, before the log is compacted.
-fn step_by_kind<S: LayerBelow, G: IdSource, L: Ledger>(
+/// One step of a session that hasn't stopped, before the log is compacted.
+pub fn take_step<S: LayerBelow, G: IdSource, L: Ledger>(
     held: &mut Held,
     below: &mut S,
     alloc: Global,
@@ -84,26 +83,4 @@ fn step_by_kind<S: LayerBelow, G: IdSource, L: Ledger>(
         Step::RemoteEnd(error) => Err(end_remotely(error)),
         Step::ConnectionStop(reason) => Err(end_with_connection(reason)),
     }
-}
-
-/// One step of a session that hasn't stopped.
-pub fn take_step<S: LayerBelow, G: IdSource, L: Ledger>(
-    held: &mut Held,
-    below: &mut S,
-    alloc: Global,
-    step: &Step,
-    ids: &mut G,
-    looks: &mut Looks<L>,
-) -> Result<(Drawn, Reply), StepError>
-    requires room { held.old.opened < 2 ^ 64 - 1 }
-    ensures leaves { StepLeaves S.told S.sure S.review_gives S.check_gives held.old held.new
-        below.old below.new step.now result }
-    ensures draws { StepDraws G.next G.start ids.old ids.new result }
-    ensures pays { Pays held.old.work held.new.work looks.old looks.new
-        (unless_no_memory result (frames_ended held.old step.now)) (frames_added step.now) }
-    ensures few { owed held.new.work ≤ frame_count held.new.work }
-{
-    let result = step_by_kind(held, below, alloc, step, ids, looks);
-    held.work.compact(looks);
-    result
 }

@@ -264,6 +264,7 @@ impl<S: LayerBelow> TxnSession<S> {
             ids,
             looks,
         );
+        self.held.work.compact(looks);
         self.stop = stop_after(&result);
         result
     }

@@ -3,6 +3,8 @@ use Rattle.std.proofs.lemmas.Grind.{common_steps}
 use Rattle.amqp_resource_session.proofs.Parts.{step_unknown, cause_attach, cause_rose, cause_veto, cause_ended, cause_first}
 use Rattle.amqp_resource_session.proofs.Complete.{drew_next}
 use Rattle.amqp_resource_session.proofs.Saying.{step_records}
+use Rattle.amqp_resource_session.proofs.Leaving.{leaves-moved}
+use Rattle.amqp_resource_held.proofs.Looked.{pays_compacted}
 use Rattle.amqp_resource_session.proofs.session.TxnSession.step_counted.Goals as goal
 
 -- a session that had stopped
@@ -40,27 +42,30 @@ pub returns-clause-says : goal.returns-clause-says
 returns-clause-says g c =
     let old = g.S.Tells.told c.args.self.now.below in
     let new = g.S.Tells.told c.take_step-result.new.below in
+    let leaves = leaves-moved g.S.Tells.told g.S.LayerBelow.sure g.S.LayerBelow.review_gives g.S.LayerBelow.check_gives c.args.self.now.held c.take_step-result.new.held
+    (record c.take_step-result.new.held { work = c.compact.new.self }) c.args.self.now.below c.take_step-result.new.below c.args.step.now c.take_step-result.result
+    (record { live = c.compact.ensures.same.kept; links = λ k. refl; opened = refl }) c.take_step-result.ensures.leaves in
     record {
       stopped = first_of (search rules, grind (arith, common_steps));
-      by_record = λ e r s. step_records _ _ _ _ _ _ c.args.self.now.below c.take_step-result.new.below r _ _ _ s c.take_step-result.ensures.leaves (drew_next _ _ _ c.take_step-result.ensures.draws.drew);
-      runs = λ e. cause_first old new _ _ c.take_step-result.ensures.leaves.cause;
-      surely = c.take_step-result.ensures.leaves.surely;
-      veto_rose = cause_veto old new _ _ c.take_step-result.ensures.leaves.cause;
-      reviewed = c.take_step-result.ensures.leaves.reviewed;
-      counted = c.take_step-result.ensures.leaves.counted;
-      refusal_rose = cause_rose old new _ _ c.take_step-result.ensures.leaves.cause;
-      ended = λ e. c.take_step-result.ensures.leaves.ended;
-      ended_only = cause_ended old new _ _ c.take_step-result.ensures.leaves.cause;
-      same = first_of (search rules, grind (arith, common_steps));
-      untouched = c.take_step-result.ensures.leaves.untouched;
-      later = c.take_step-result.ensures.leaves.later;
-      fixed = c.take_step-result.ensures.leaves.fixed;
-      fits = λ f. let kept = c.take_step-result.ensures.leaves.keeps f.0 in (kept.fits, c.take_step-result.ensures.few);
-      keeps = λ e f. let kept = c.take_step-result.ensures.leaves.keeps f.0 in kept.answer;
-      checked = λ e. c.take_step-result.ensures.leaves.checked;
-      left = λ e. c.take_step-result.ensures.leaves.left;
-      dead = λ e f u. let kept = c.take_step-result.ensures.leaves.keeps f.0 in step_unknown _ _ old new _ _ kept.answer u;
-      attach_rose = cause_attach old new _ _ c.take_step-result.ensures.leaves.cause;
+      by_record = λ e r s. step_records _ _ _ _ _ _ c.args.self.now.below c.take_step-result.new.below r _ _ _ s leaves (drew_next _ _ _ c.take_step-result.ensures.draws.drew);
+      runs = λ e. cause_first old new _ _ leaves.cause;
+      surely = leaves.surely;
+      veto_rose = cause_veto old new _ _ leaves.cause;
+      reviewed = leaves.reviewed;
+      counted = leaves.counted;
+      refusal_rose = cause_rose old new _ _ leaves.cause;
+      ended = λ e. leaves.ended;
+      ended_only = cause_ended old new _ _ leaves.cause;
+      same = first_of (search (rules, leaves.same, leaves.untouched), grind (arith, common_steps, leaves.same, leaves.untouched));
+      untouched = leaves.untouched;
+      later = leaves.later;
+      fixed = leaves.fixed;
+      fits = λ f. let kept = leaves.keeps f.0 in (kept.fits, c.compact.ensures.few);
+      keeps = λ e f. let kept = leaves.keeps f.0 in kept.answer;
+      checked = λ e. leaves.checked;
+      left = λ e. leaves.left;
+      dead = λ e f u. let kept = leaves.keeps f.0 in step_unknown _ _ old new _ _ kept.answer u;
+      attach_rose = cause_attach old new _ _ leaves.cause;
       refusals = refl;
       vetoes = refl;
       stops = λ e. c.stop_after-self.ensures;
@@ -70,10 +75,16 @@ returns-clause-says g c =
     }
 
 pub returns-clause-looks : goal.returns-clause-looks
-returns-clause-looks g c = c.take_step-result.ensures.pays.ended
+returns-clause-looks g c =
+    let pays = pays_compacted c.args.self.now.held.work c.take_step-result.new.held.work c.compact.new.self c.args.looks.now c.take_step-result.new.looks c.compact.new.looks _ _
+    c.take_step-result.ensures.pays c.compact.ensures.same.frames c.compact.ensures.looks in
+    pays.ended
 
 pub returns-clause-few : goal.returns-clause-few
-returns-clause-few g c e = c.take_step-result.ensures.few
+returns-clause-few g c e = c.compact.ensures.few
 
 pub returns-clause-dues : goal.returns-clause-dues
-returns-clause-dues g c = c.take_step-result.ensures.pays.all
+returns-clause-dues g c =
+    let pays = pays_compacted c.args.self.now.held.work c.take_step-result.new.held.work c.compact.new.self c.args.looks.now c.take_step-result.new.looks c.compact.new.looks _ _
+    c.take_step-result.ensures.pays c.compact.ensures.same.frames c.compact.ensures.looks in
+    pays.all
