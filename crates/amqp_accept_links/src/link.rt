@@ -140,7 +140,7 @@ impl<FS, FT> LinkAcceptor<FS, FT> {
 impl<FS: OnDynamic<Source>, FT: OnDynamic<Target>> LinkAcceptor<FS, FT> {
     ghost use Rattle.amqp_accept_links.specs.Acceptance.{AcceptLeaves, AcceptStoppedBy};
     ghost use Rattle.amqp_accept_links.specs.Handles.{AcceptsNext, NextLeaves, NextStoppedBy, NextTold, next_incoming};
-    ghost use Rattle.amqp_accept_links.specs.LinkAcceptors.{AcceptsEnd, AcceptsLink, LinkTold, LinkToldStop, link_output};
+    ghost use Rattle.amqp_accept_links.specs.LinkAcceptors.{AcceptsLink, LinkTold, LinkToldStop, link_output};
     ghost use Rattle.amqp_accept_links.specs.OpenLinks.{OpensThrough};
     ghost use Rattle.amqp_below_sessions.specs.Queues.{without_first};
     ghost use Rattle.amqp_below_sessions.specs.Sessions.{with_queue};
@@ -189,7 +189,20 @@ impl<FS: OnDynamic<Source>, FT: OnDynamic<Target>> LinkAcceptor<FS, FT> {
                 ReceiverAttachError::CoordinatorIsNotImplemented,
             ));
         }
-        self.accept_by_role(alloc, remote, session)
+        match remote.role {
+            Role::Sender => {
+                let (receiver, frames) = self
+                    .local_receiver_acceptor
+                    .accept_incoming_attach(alloc, &self.shared, remote, session)?;
+                Ok((LinkEndpoint::Receiver(receiver), frames))
+            }
+            Role::Receiver => {
+                let (sender, frames) = self
+                    .local_sender_acceptor
+                    .accept_incoming_attach(alloc, &self.shared, remote, session)?;
+                Ok((LinkEndpoint::Sender(sender), frames))
+            }
+        }
     }
 
     /// Takes the attach that came first out of the session's queue, and accepts it. It is `Pending`
@@ -240,42 +253,6 @@ impl<FS: OnDynamic<Source>, FT: OnDynamic<Target>> LinkAcceptor<FS, FT> {
             Poll::Ready(Some(remote)) => {
                 let answer = self.accept_incoming_attach(alloc, remote, &mut *handle.session);
                 Poll::Ready(answer)
-            }
-        }
-    }
-
-    /// Accepts a link by the peer's role.
-    fn accept_by_role<S: Session>(
-        &self,
-        alloc: Global,
-        remote: Attach,
-        session: &mut S,
-    ) -> Result<(LinkEndpoint, Frames), AcceptorAttachError>
-        requires source { FS.can_decide self.now.local_sender_acceptor.on_dynamic_source }
-        requires target { FT.can_decide self.now.local_receiver_acceptor.on_dynamic_target }
-        ensures told { LinkTold (S.told session.old) (S.told session.new) result }
-        ensures kept { S.kept session.new ≡ S.kept session.old }
-        ensures stopped { AcceptStoppedBy LinkToldStop (S.kept session.old).stop result }
-        ensures names { AcceptLeaves link_output (S.names session.old) (S.names session.new)
-            remote.name result }
-        ensures accepts { AcceptsEnd
-            (FS.decides self.now.local_sender_acceptor.on_dynamic_source)
-            (FT.decides self.now.local_receiver_acceptor.on_dynamic_target)
-            self.now remote (OpensThrough S.allocate_incoming_link_gives S.outgoing_flow_gives
-            S.deallocate_link_gives) session.old session.new result }
-    {
-        match remote.role {
-            Role::Sender => {
-                let (receiver, frames) = self
-                    .local_receiver_acceptor
-                    .accept_incoming_attach(alloc, &self.shared, remote, session)?;
-                Ok((LinkEndpoint::Receiver(receiver), frames))
-            }
-            Role::Receiver => {
-                let (sender, frames) = self
-                    .local_sender_acceptor
-                    .accept_incoming_attach(alloc, &self.shared, remote, session)?;
-                Ok((LinkEndpoint::Sender(sender), frames))
             }
         }
     }
