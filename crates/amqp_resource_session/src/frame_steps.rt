@@ -53,11 +53,13 @@ fn presumed(alloc: Global, transfer: &Transfer, id: TransactionId) -> Result<Fra
     ensures { IfOk result (λ given. given ≡ presumed transfer.now.settled transfer.now.delivery_id
         id) }
 {
-    let mut given = Frames::new(alloc);
-    if let Some(disposition) = presumptive(&id, transfer) {
-        given.append(Frame::Disposition(disposition))?;
-    }
-    Ok(given)
+    let Some(disposition) = presumptive(&id, transfer) else {
+        return Ok(Frames::new(alloc));
+    };
+    // Room for the one frame, where a list that grows takes room for four.
+    let mut given = Vec::with_capacity(alloc, 1)?;
+    given.push_reserved(Frame::Disposition(disposition));
+    Ok(Frames::from_vec(given))
 }
 
 /// What a frame under a live id is answered at once.
