@@ -1,10 +1,11 @@
 //! Strings of octets.
 
-ghost use Rattle.std.specs.Prelude.{◌≡◌, ◌↔◌, ◌++◌, ◌∷◌, [], length, slice_get, IsTrue, OnOk, OnErr, IfOk, IfErr, nat_eq};
+ghost use Rattle.std.specs.Prelude.{◌≡◌, ◌++◌, ◌∷◌, [], OnOk, OnErr, IfOk, IfErr, nat_eq};
 ghost use Rattle.std.specs.Cmp.Lexicographic.{pointwise, nat_list_eq_equiv};
 ghost use Rattle.std.specs.Cmp.{partial_equiv_from_equiv};
 
 use crate::items::{Items, NoMemory, TryClone};
+use crate::octets::AsOctets;
 use crate::short_octets::ShortOctets;
 use std::alloc::Global;
 use std::marker::Model;
@@ -69,27 +70,6 @@ impl Binary {
         }
     }
 
-    /// How many octets there are.
-    pub fn len(&self) -> usize
-        ensures { result ≡ length self.now }
-    {
-        self.as_slice().len()
-    }
-
-    /// Whether there are none.
-    pub fn is_empty(&self) -> bool
-        ensures { IsTrue result ↔ (self.now ≡ []) }
-    {
-        self.as_slice().is_empty()
-    }
-
-    /// The octet at `index`, counted from 0; `None` from the length on.
-    pub fn get(&self, index: usize) -> Option<u8>
-        ensures { result ≡ slice_get self.now index }
-    {
-        self.as_slice().get(index).copied()
-    }
-
     /// The octets, in order.
     pub fn as_slice(&self) -> &[u8]
         ensures { result.now ≡ self.now }
@@ -132,6 +112,14 @@ impl Binary {
             Ok(()) => Ok(()),
             Err((_, error)) => Err(error),
         }
+    }
+}
+
+impl AsOctets for Binary {
+    ghost octets = { λ b. b };
+
+    fn as_octets(&self) -> &[u8] {
+        self.as_slice()
     }
 }
 

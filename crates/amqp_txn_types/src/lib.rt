@@ -36,6 +36,7 @@ mod fields;
 mod frames;
 mod id;
 mod items;
+mod octets;
 mod payload;
 mod performatives;
 mod presumptive;
@@ -56,6 +57,7 @@ pub use fields::{Fields, Value};
 pub use frames::{TxnWorkFrame, frame_of, is_coordinator, strip, strip_frame, txn_of};
 pub use id::{IdTooLong, TransactionId};
 pub use items::{CallNumbers, Items, NoMemory, TryClone};
+pub use octets::AsOctets;
 pub use payload::Payload;
 pub use performatives::{
     Attach, Begin, Coordinator, Detach, Disposition, End, Flow, Frame, Frames, LinkEnd, LinkFlow,

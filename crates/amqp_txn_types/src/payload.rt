@@ -1,10 +1,11 @@
 //! The octets of a message.
 
-ghost use Rattle.std.specs.Prelude.{◌≡◌, ◌↔◌, [], length, slice_get, IsTrue, IfOk, nat_eq};
+ghost use Rattle.std.specs.Prelude.{◌≡◌, [], IfOk, nat_eq};
 ghost use Rattle.std.specs.Cmp.Lexicographic.{pointwise, nat_list_eq_equiv};
 ghost use Rattle.std.specs.Cmp.{partial_equiv_from_equiv};
 
 use crate::items::{NoMemory, TryClone};
+use crate::octets::AsOctets;
 use crate::short_octets::ShortOctets;
 use bytes::Bytes;
 use std::alloc::Global;
@@ -58,27 +59,6 @@ impl Payload {
         Ok(Payload { octets })
     }
 
-    /// How many octets there are.
-    pub fn len(&self) -> usize
-        ensures { result ≡ length self.now }
-    {
-        self.as_slice().len()
-    }
-
-    /// Whether there are none.
-    pub fn is_empty(&self) -> bool
-        ensures { IsTrue result ↔ (self.now ≡ []) }
-    {
-        self.as_slice().is_empty()
-    }
-
-    /// The octet at `index`, counted from 0; `None` from the length on.
-    pub fn get(&self, index: usize) -> Option<u8>
-        ensures { result ≡ slice_get self.now index }
-    {
-        self.as_slice().get(index).copied()
-    }
-
     /// The octets, in order.
     pub fn as_slice(&self) -> &[u8]
         ensures { result.now ≡ self.now }
@@ -87,6 +67,14 @@ impl Payload {
             Octets::InPlace(short) => short.as_slice(),
             Octets::Shared(shared) => shared.as_slice(),
         }
+    }
+}
+
+impl AsOctets for Payload {
+    ghost octets = { λ p. p };
+
+    fn as_octets(&self) -> &[u8] {
+        self.as_slice()
     }
 }
 

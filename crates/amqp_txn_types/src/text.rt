@@ -1,6 +1,6 @@
 //! Text and symbols, which a contract sees as their octets in UTF-8.
 
-ghost use Rattle.std.specs.Prelude.{refl, Some, ◌≡◌, ◌↔◌, List, [], ◌++◌, ℕ, length, slice_get, IsTrue, OnOk, OnErr, IfOk, IfErr, nat_eq, string_bytes};
+ghost use Rattle.std.specs.Prelude.{refl, Some, ◌≡◌, List, [], ◌++◌, ℕ, OnOk, OnErr, IfOk, IfErr, nat_eq, string_bytes};
 ghost use Rattle.std.specs.Char.{encode_utf8};
 ghost use Rattle.std.specs.Hash as fed;
 ghost use Rattle.std.specs.Ordering.{nat_cmp};
@@ -10,6 +10,7 @@ ghost use Rattle.std.specs.Cmp.Rules.{hashing};
 ghost use Rattle.std.proofs.Common.{ap, rules};
 
 use crate::items::{NoMemory, TryClone};
+use crate::octets::AsOctets;
 use std::alloc::Global;
 use std::cmp::Ordering;
 use std::fmt;
@@ -58,27 +59,6 @@ impl Text {
         }
         let text = Thin::some(alloc, String::from_str(alloc, text)?)?;
         Ok(Text { text })
-    }
-
-    /// How many octets the text has in UTF-8.
-    pub fn len(&self) -> usize
-        ensures { result ≡ length self.now }
-    {
-        self.as_str().len()
-    }
-
-    /// Whether the text is empty.
-    pub fn is_empty(&self) -> bool
-        ensures { IsTrue result ↔ (self.now ≡ []) }
-    {
-        self.as_str().is_empty()
-    }
-
-    /// The octet at `index`, counted from 0; `None` from the length on.
-    pub fn get(&self, index: usize) -> Option<u8>
-        ensures { result ≡ slice_get self.now index }
-    {
-        self.as_str().as_bytes().get(index).copied()
     }
 
     /// The text as a string slice.
@@ -134,6 +114,14 @@ impl fmt::Debug for Text {
         f.debug_struct("Text")
             .field("text", &self.as_str())
             .finish()
+    }
+}
+
+impl AsOctets for Text {
+    ghost octets = { λ t. t };
+
+    fn as_octets(&self) -> &[u8] {
+        self.as_str().as_bytes()
     }
 }
 
@@ -225,27 +213,6 @@ impl Symbol {
         })
     }
 
-    /// How many octets the symbol has in UTF-8.
-    pub fn len(&self) -> usize
-        ensures { result ≡ length self.now }
-    {
-        self.text.len()
-    }
-
-    /// Whether the symbol is empty.
-    pub fn is_empty(&self) -> bool
-        ensures { IsTrue result ↔ (self.now ≡ []) }
-    {
-        self.text.is_empty()
-    }
-
-    /// The octet at `index`, counted from 0; `None` from the length on.
-    pub fn get(&self, index: usize) -> Option<u8>
-        ensures { result ≡ slice_get self.now index }
-    {
-        self.text.get(index)
-    }
-
     /// The symbol as a string slice.
     pub fn as_str(&self) -> &str
         ensures { result.now ≡ self.now }
@@ -275,6 +242,14 @@ impl Symbol {
             Ok(()) => Ok(()),
             Err((_, error)) => Err(error),
         }
+    }
+}
+
+impl AsOctets for Symbol {
+    ghost octets = { λ s. s };
+
+    fn as_octets(&self) -> &[u8] {
+        self.as_str().as_bytes()
     }
 }
 

@@ -6,7 +6,8 @@ ghost use Rattle.txn_program_report.specs.Report.{bool_word, error_word, handle_
 
 use amqp_resource_record::{RejectText, StopCode};
 use amqp_txn_types::{
-    DeliveryState, Handle, NoMemory, Outcome, Payload, Role, TransactionError, TransactionId,
+    AsOctets, DeliveryState, Handle, NoMemory, Outcome, Payload, Role, TransactionError,
+    TransactionId,
 };
 use std::alloc::Global;
 
