@@ -1,6 +1,6 @@
 -- What an acceptor answers to the attach of a peer. Part 2 of the standard, sections 2.6.3
 -- (establishing a link), 2.7.3 (attach) and 2.7.4 (flow).
-use Rattle.std.specs.Prelude.{ℕ, ◌≡◌, Bool, false, Option, Some, None, Result, Ok, Err, List, [], ◌∷◌, unwrap_or}
+use Rattle.std.specs.Prelude.{ℕ, ◌≡◌, Bool, Option, Some, None, Result, Ok, Err, List, [], ◌∷◌, unwrap_or}
 use Rattle.amqp_txn_types.specs.declared.small.OutputHandle.{OutputHandle}
 use Rattle.amqp_txn_types.specs.declared.small.Role.{Role}
 use Rattle.amqp_txn_types.specs.declared.performatives.Attach.{Attach}
@@ -8,6 +8,7 @@ use Rattle.amqp_txn_types.specs.declared.performatives.Flow.{Flow}
 use Rattle.amqp_txn_types.specs.declared.performatives.Frame.{Frame}
 use Rattle.amqp_txn_types.specs.declared.performatives.Frame.TheVariants as frames
 use Rattle.amqp_txn_types.specs.declared.performatives.LinkFlow.{LinkFlow}
+use Rattle.amqp_txn_types.specs.Plain.{plain_link_flow}
 use Rattle.amqp_below_layer.specs.declared.inner_error.SessionInnerError.{SessionInnerError}
 use Rattle.amqp_below_sessions.specs.Names.{FreesLink, Names, SameNames}
 use Rattle.amqp_accept_links.specs.declared.credit.CreditMode.{CreditMode}
@@ -46,14 +47,9 @@ reply_of shared remote role delivery_count = record remote {
 -- the flow that grants the peer credit, under the peer's handle: from its first delivery count,
 -- which is 0 where it names none
 abbrev pub credit_of : CreditMode → Attach → Option LinkFlow
-credit_of (credits.Auto credit) remote = Some (record {
-  handle = remote.handle;
+credit_of (credits.Auto credit) remote = Some (record (plain_link_flow remote.handle) {
   delivery_count = Some (unwrap_or remote.initial_delivery_count 0);
   link_credit = Some credit;
-  available = None;
-  drain = false;
-  echo = false;
-  properties = None;
 })
 credit_of credits.Manual remote = None
 

@@ -144,13 +144,9 @@ pub(crate) fn credit_flow(mode: CreditMode, remote: &Attach) -> Option<LinkFlow>
 {
     match mode {
         CreditMode::Auto(credit) => Some(LinkFlow {
-            handle: remote.handle,
             delivery_count: Some(remote.initial_delivery_count.unwrap_or(0)),
             link_credit: Some(credit),
-            available: None,
-            drain: false,
-            echo: false,
-            properties: None,
+            ..LinkFlow::new(remote.handle)
         }),
         CreditMode::Manual => None,
     }

@@ -17,13 +17,8 @@ use std::process::Abort;
 
 fn link_flow(handle: u32) -> LinkFlow {
     LinkFlow {
-        handle: Handle(handle),
-        delivery_count: None,
         link_credit: Some(10),
-        available: None,
-        drain: false,
-        echo: false,
-        properties: None,
+        ..LinkFlow::new(Handle(handle))
     }
 }
 

@@ -237,13 +237,8 @@ fn numbered_flow() -> Flow {
 #[test]
 fn a_flow_gets_the_sessions_numbers(rt: HostRuntime) {
     let frame = LinkFrame::Flow(LinkFlow {
-        handle: Handle(0),
-        delivery_count: None,
         link_credit: Some(10),
-        available: None,
-        drain: false,
-        echo: false,
-        properties: None,
+        ..LinkFlow::new(Handle(0))
     });
     assert!(rt; sends(&rt, rt.alloc(), frame, Frame::Flow(numbered_flow())));
 }

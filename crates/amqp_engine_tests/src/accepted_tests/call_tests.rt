@@ -174,13 +174,8 @@ fn passes<S: Session>(alloc: Global, session: &mut S) -> bool {
 /// Whether the session sends a flow of the link, and owes none of its own.
 fn grants<S: Session>(session: &mut S) -> bool {
     let granting = LinkFlow {
-        handle: Handle(0),
-        delivery_count: None,
         link_credit: Some(1),
-        available: None,
-        drain: false,
-        echo: false,
-        properties: None,
+        ..LinkFlow::new(Handle(0))
     };
     let granted = is_done(session.on_outgoing_flow(granting));
     let owed = session.maybe_outgoing_session_flow();

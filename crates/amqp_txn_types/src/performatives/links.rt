@@ -6,9 +6,7 @@ ghost use Rattle.amqp_txn_types.specs.Plain.{plain_source, plain_target, plain_a
 
 use crate::delivery::Error;
 use crate::fields::Fields;
-use crate::performatives::{
-    Attach, Coordinator, Detach, LinkFlow, Source, Target, TargetArchetype,
-};
+use crate::performatives::{Attach, Detach, LinkFlow, Source, Target, TargetArchetype};
 use crate::small::{Handle, ReceiverSettleMode, Role, SenderSettleMode};
 use crate::symbols::Symbols;
 use crate::text::Text;
@@ -36,38 +34,6 @@ impl Source {
         self.address = Some(address);
         self
     }
-
-    /// Sets whether the peer is to make a node for this link.
-    pub fn dynamic(mut self, dynamic: bool) -> Self
-        ensures { result ≡ record self { dynamic = dynamic } }
-    {
-        self.dynamic = dynamic;
-        self
-    }
-
-    /// Sets what that node is to be like.
-    pub fn dynamic_node_properties(mut self, dynamic_node_properties: Fields) -> Self
-        ensures { result ≡ record self { dynamic_node_properties = Some dynamic_node_properties } }
-    {
-        self.dynamic_node_properties = Some(dynamic_node_properties);
-        self
-    }
-
-    /// Sets the outcomes that may be chosen for deliveries of the link.
-    pub fn outcomes(mut self, outcomes: Symbols) -> Self
-        ensures { result ≡ record self { outcomes = Some outcomes } }
-    {
-        self.outcomes = Some(outcomes);
-        self
-    }
-
-    /// Sets what the source can do.
-    pub fn capabilities(mut self, capabilities: Symbols) -> Self
-        ensures { result ≡ record self { capabilities = Some capabilities } }
-    {
-        self.capabilities = Some(capabilities);
-        self
-    }
 }
 
 /// The target that names nothing. Part 3 of the standard, section 3.5.4 (target).
@@ -90,40 +56,6 @@ impl Target {
         ensures { result ≡ record self { address = Some address } }
     {
         self.address = Some(address);
-        self
-    }
-
-    /// Sets whether the peer is to make a node for this link.
-    pub fn dynamic(mut self, dynamic: bool) -> Self
-        ensures { result ≡ record self { dynamic = dynamic } }
-    {
-        self.dynamic = dynamic;
-        self
-    }
-
-    /// Sets what that node is to be like.
-    pub fn dynamic_node_properties(mut self, dynamic_node_properties: Fields) -> Self
-        ensures { result ≡ record self { dynamic_node_properties = Some dynamic_node_properties } }
-    {
-        self.dynamic_node_properties = Some(dynamic_node_properties);
-        self
-    }
-
-    /// Sets what the target can do.
-    pub fn capabilities(mut self, capabilities: Symbols) -> Self
-        ensures { result ≡ record self { capabilities = Some capabilities } }
-    {
-        self.capabilities = Some(capabilities);
-        self
-    }
-}
-
-impl Coordinator {
-    /// Sets what the coordinator can do.
-    pub fn capabilities(mut self, capabilities: Symbols) -> Self
-        ensures { result ≡ record self { capabilities = Some capabilities } }
-    {
-        self.capabilities = Some(capabilities);
         self
     }
 }
@@ -242,54 +174,6 @@ impl LinkFlow {
             echo: false,
             properties: None,
         }
-    }
-
-    /// Sets the link's delivery count.
-    pub fn delivery_count(mut self, delivery_count: u32) -> Self
-        ensures { result ≡ record self { delivery_count = Some delivery_count } }
-    {
-        self.delivery_count = Some(delivery_count);
-        self
-    }
-
-    /// Sets how many more deliveries the link's receiver can take.
-    pub fn link_credit(mut self, link_credit: u32) -> Self
-        ensures { result ≡ record self { link_credit = Some link_credit } }
-    {
-        self.link_credit = Some(link_credit);
-        self
-    }
-
-    /// Sets how many deliveries wait at the link's sender.
-    pub fn available(mut self, available: u32) -> Self
-        ensures { result ≡ record self { available = Some available } }
-    {
-        self.available = Some(available);
-        self
-    }
-
-    /// Sets whether the sender is to use up the credit or give it up.
-    pub fn drain(mut self, drain: bool) -> Self
-        ensures { result ≡ record self { drain = drain } }
-    {
-        self.drain = drain;
-        self
-    }
-
-    /// Sets whether the peer is to answer with its own flow state.
-    pub fn echo(mut self, echo: bool) -> Self
-        ensures { result ≡ record self { echo = echo } }
-    {
-        self.echo = echo;
-        self
-    }
-
-    /// Sets other properties of the link's state.
-    pub fn properties(mut self, properties: Fields) -> Self
-        ensures { result ≡ record self { properties = Some properties } }
-    {
-        self.properties = Some(properties);
-        self
     }
 }
 
