@@ -11,7 +11,6 @@ use Rattle.amqp_txn_types.specs.declared.performatives.Frame.TheVariants as fram
 use Rattle.amqp_txn_types.specs.declared.performatives.LinkFlow.{LinkFlow}
 use Rattle.amqp_txn_types.specs.declared.small.InputHandle.{InputHandle}
 use Rattle.amqp_txn_types.specs.declared.small.OutputHandle.{OutputHandle}
-use Rattle.amqp_txn_types.specs.declared.small.SessionState.{SessionState}
 use Rattle.amqp_txn_types.specs.declared.text.Text.{Text}
 use Rattle.amqp_below_layer.specs.declared.inner_error.SessionInnerError.{SessionInnerError}
 use Rattle.amqp_below_layer.specs.declared.inner_error.SessionInnerError.TheVariants as faults
@@ -20,7 +19,7 @@ use Rattle.amqp_below_layer.specs.Inner.{Took}
 use Rattle.amqp_below_layer.specs.Told.{Checks, Steady, Takes, Told}
 use Rattle.amqp_below_sessions.specs.Names.{Names, OpensLink, SameNames}
 use Rattle.amqp_below_sessions.specs.Plain.{control_error}
-use Rattle.amqp_below_sessions.specs.Sessions.{Kept, LeavesFrame, Moves}
+use Rattle.amqp_below_sessions.specs.Sessions.{Kept, LeavesFrame}
 use Rattle.amqp_below_sessions.specs.declared.relay.NameState.{NameState}
 use Rattle.amqp_below_sessions.specs.declared.relay.NameState.TheVariants.{Waiting}
 use Rattle.amqp_below_sessions.specs.declared.relay.Relay.{Relay}
@@ -83,14 +82,6 @@ abbrev pub PassesCheck : {S T E : Type 0} → (ListenerSession S → Told)
     → Result T E → Type 0
 PassesCheck told Gives old new result =
     Passes (λ a b. Checks (told a) (told b) result) Gives old new result
-
--- the same, where the listener's state moves so
-abbrev pub PassesMove : {S T E : Type 0} → (ListenerSession S → Told)
-    → (SessionState → Option SessionState) → (ListenerSession S → ListenerSession S → Type 0)
-    → AcceptingListener S → AcceptingListener S → Result T E → Type 0
-PassesMove told moved Gives old new result =
-    Passes (λ a b. Moves (moved (told a).fixed.state) (told a) (told b) result) Gives old new
-    result
 
 -- a call of the listener that refuses nothing, and leaves what it tells
 abbrev pub PassesSame : {S : Type 0} → (ListenerSession S → Told)

@@ -68,9 +68,9 @@ impl<S: Session> LayerBelow for AcceptingListener<S> {
         ⟦<ListenerSession<S> as Session>⟧.names
         ⟦<ListenerSession<S> as LayerBelow>⟧.incoming_gives
         (AcceptsOver ⟦<ListenerSession<S> as Session>⟧.kept
-        ⟦<ListenerSession<S> as Session>⟧.allocate_incoming_link_gives
-        ⟦<ListenerSession<S> as Session>⟧.outgoing_flow_gives
-        ⟦<ListenerSession<S> as Session>⟧.deallocate_link_gives) old new frame answer };
+        ⟦<ListenerSession<S> as Session>⟧.calls.allocate_incoming_link
+        ⟦<ListenerSession<S> as Session>⟧.calls.outgoing_flow
+        ⟦<ListenerSession<S> as Session>⟧.calls.deallocate_link) old new frame answer };
 
     ghost opening_gives = { λ old new attach answer.
         Passes (λ a b. Opens (⟦<ListenerSession<S> as Tells>⟧.told a)
@@ -104,9 +104,9 @@ impl<S: Session> LayerBelow for AcceptingListener<S> {
         ⟦<ListenerSession<S> as LayerBelow>⟧.sure
         ⟦<ListenerSession<S> as LayerBelow>⟧.goes_on
         (AcceptsOver ⟦<ListenerSession<S> as Session>⟧.kept
-        ⟦<ListenerSession<S> as Session>⟧.allocate_incoming_link_gives
-        ⟦<ListenerSession<S> as Session>⟧.outgoing_flow_gives
-        ⟦<ListenerSession<S> as Session>⟧.deallocate_link_gives) old new frame answer gives };
+        ⟦<ListenerSession<S> as Session>⟧.calls.allocate_incoming_link
+        ⟦<ListenerSession<S> as Session>⟧.calls.outgoing_flow
+        ⟦<ListenerSession<S> as Session>⟧.calls.deallocate_link) old new frame answer gives };
 
     ghost stays_on = { λ old new disposition answer gives list takes. stays-bare
         ⟦<ListenerSession<S> as LayerBelow>⟧.sure list

@@ -77,8 +77,8 @@ fn accept<L: Session>(
     ensures kept { L.kept listener.new ≡ L.kept listener.old }
     ensures names { AcceptsLeaves (L.names listener.old) (L.names listener.new) attach.name result }
     ensures accepts { AcceptsAttach (AcceptsLink makes_none makes_none acceptor.now
-        (L.kept listener.old).stop attach (OpensThrough L.allocate_incoming_link_gives
-        L.outgoing_flow_gives L.deallocate_link_gives) listener.old listener.new) result }
+        (L.kept listener.old).stop attach (OpensThrough L.calls.allocate_incoming_link
+        L.calls.outgoing_flow L.calls.deallocate_link) listener.old listener.new) result }
 {
     match acceptor.accept_incoming_attach(alloc, attach, listener) {
         Ok((end, frames)) => {
@@ -136,9 +136,9 @@ fn accept_queued<S: Session>(
         ⟦<ListenerSession<S> as Session>⟧.kept ⟦<ListenerSession<S> as Session>⟧.names
         ⟦<ListenerSession<S> as LayerBelow>⟧.incoming_gives
         (AcceptsOver ⟦<ListenerSession<S> as Session>⟧.kept
-        ⟦<ListenerSession<S> as Session>⟧.allocate_incoming_link_gives
-        ⟦<ListenerSession<S> as Session>⟧.outgoing_flow_gives
-        ⟦<ListenerSession<S> as Session>⟧.deallocate_link_gives acceptor.now)
+        ⟦<ListenerSession<S> as Session>⟧.calls.allocate_incoming_link
+        ⟦<ListenerSession<S> as Session>⟧.calls.outgoing_flow
+        ⟦<ListenerSession<S> as Session>⟧.calls.deallocate_link acceptor.now)
         listener.old listener.new attach result }
 {
     let attach = take_queued(listener, attach)?;
@@ -158,9 +158,9 @@ pub fn hear_attach<S: Session>(
         ⟦<ListenerSession<S> as Session>⟧.kept ⟦<ListenerSession<S> as Session>⟧.names
         ⟦<ListenerSession<S> as LayerBelow>⟧.incoming_gives
         (AcceptsOver ⟦<ListenerSession<S> as Session>⟧.kept
-        ⟦<ListenerSession<S> as Session>⟧.allocate_incoming_link_gives
-        ⟦<ListenerSession<S> as Session>⟧.outgoing_flow_gives
-        ⟦<ListenerSession<S> as Session>⟧.deallocate_link_gives acceptor.now)
+        ⟦<ListenerSession<S> as Session>⟧.calls.allocate_incoming_link
+        ⟦<ListenerSession<S> as Session>⟧.calls.outgoing_flow
+        ⟦<ListenerSession<S> as Session>⟧.calls.deallocate_link acceptor.now)
         listener.old listener.new attach result }
 {
     match listener.name_state(&attach.name) {

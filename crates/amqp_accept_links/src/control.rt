@@ -119,8 +119,8 @@ impl ControlLinkAcceptor {
         ensures names { AcceptLeaves output_told (S.names session.old) (S.names session.new)
             remote.now.name result }
         ensures accepts { AcceptsBy (λ opening. opening ≡ control_opening self.now remote.now)
-            (OpensThrough S.allocate_incoming_link_gives S.outgoing_flow_gives
-            S.deallocate_link_gives) control_answer refusals.NoMemory session.old session.new
+            (OpensThrough S.calls.allocate_incoming_link S.calls.outgoing_flow
+            S.calls.deallocate_link) control_answer refusals.NoMemory session.old session.new
             result }
     {
         let Ok(opening) = self.prepare(alloc, remote) else {

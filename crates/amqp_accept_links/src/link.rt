@@ -175,7 +175,7 @@ impl<FS: OnDynamic<Source>, FT: OnDynamic<Target>> LinkAcceptor<FS, FT> {
             (FS.decides self.now.local_sender_acceptor.on_dynamic_source)
             (FT.decides self.now.local_receiver_acceptor.on_dynamic_target)
             self.now (S.kept session.old).stop remote (OpensThrough
-            S.allocate_incoming_link_gives S.outgoing_flow_gives S.deallocate_link_gives)
+            S.calls.allocate_incoming_link S.calls.outgoing_flow S.calls.deallocate_link)
             session.old session.new result }
     {
         if let Some(reason) = session.session_stop_reason() {
@@ -241,7 +241,7 @@ impl<FS: OnDynamic<Source>, FT: OnDynamic<Target>> LinkAcceptor<FS, FT> {
             (FS.decides self.now.local_sender_acceptor.on_dynamic_source)
             (FT.decides self.now.local_receiver_acceptor.on_dynamic_target)
             self.now (E.kept handle.old.session.now).stop remote (OpensThrough
-            E.allocate_incoming_link_gives E.outgoing_flow_gives E.deallocate_link_gives))
+            E.calls.allocate_incoming_link E.calls.outgoing_flow E.calls.deallocate_link))
             handle.old.session.now handle.new.session.now result }
     {
         match handle.next_incoming_attach() {

@@ -110,8 +110,8 @@ impl Opening {
         ensures kept { S.kept session.new ≡ S.kept session.old }
         ensures stopped { OpenStoppedBy (S.kept session.old).stop result }
         ensures names { OpenLeaves (S.names session.old) (S.names session.new) self.name result }
-        ensures opens { OpensThrough S.allocate_incoming_link_gives S.outgoing_flow_gives
-            S.deallocate_link_gives session.old session.new self result }
+        ensures opens { OpensThrough S.calls.allocate_incoming_link S.calls.outgoing_flow
+            S.calls.deallocate_link session.old session.new self result }
     {
         let Opening {
             name,

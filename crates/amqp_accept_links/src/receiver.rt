@@ -96,8 +96,8 @@ impl<F: OnDynamic<Target>> LocalReceiverLinkAcceptor<Target, F> {
             remote.name result }
         ensures accepts { AcceptsTarget (F.decides self.now.on_dynamic_target)
             self.now.target_capabilities shared.now self.now.credit_mode remote
-            (OpensThrough S.allocate_incoming_link_gives S.outgoing_flow_gives
-            S.deallocate_link_gives) session.old session.new result }
+            (OpensThrough S.calls.allocate_incoming_link S.calls.outgoing_flow
+            S.calls.deallocate_link) session.old session.new result }
     {
         self.accept_incoming_attach_inner(alloc, shared, remote, session)
     }
@@ -163,8 +163,8 @@ impl<T: TargetKind, F: OnDynamic<T>> LocalReceiverLinkAcceptor<T, F> {
             remote.name result }
         ensures accepts { AcceptsReceiver (F.decides self.now.on_dynamic_target) T.is_dynamic
             (T.with_capabilities self.now.target_capabilities) T.of_archetype T.archetype
-            shared.now self.now.credit_mode remote (OpensThrough S.allocate_incoming_link_gives
-            S.outgoing_flow_gives S.deallocate_link_gives) session.old session.new result }
+            shared.now self.now.credit_mode remote (OpensThrough S.calls.allocate_incoming_link
+            S.calls.outgoing_flow S.calls.deallocate_link) session.old session.new result }
     {
         let Some(target) = kind_of_target(remote.target.take()) else {
             return Err(ReceiverAttachError::CoordinatorIsNotImplemented);
@@ -190,8 +190,8 @@ impl<T: TargetKind, F: OnDynamic<T>> LocalReceiverLinkAcceptor<T, F> {
         ensures accepts { AcceptsBy (ReceiverReady (LocalTerminus
             (F.decides self.now.on_dynamic_target) T.is_dynamic
             (T.with_capabilities self.now.target_capabilities) target) T.archetype shared.now
-            self.now.credit_mode remote) (OpensThrough S.allocate_incoming_link_gives
-            S.outgoing_flow_gives S.deallocate_link_gives) receiver_answer refusals.NoMemory
+            self.now.credit_mode remote) (OpensThrough S.calls.allocate_incoming_link
+            S.calls.outgoing_flow S.calls.deallocate_link) receiver_answer refusals.NoMemory
             session.old session.new result }
     {
         let Ok(opening) = self.prepare(alloc, shared, remote, target) else {

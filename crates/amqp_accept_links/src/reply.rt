@@ -70,7 +70,7 @@ impl Reply {
         ensures told { Checks (S.told session.old) (S.told session.new) result }
         ensures kept { S.kept session.new ≡ S.kept session.old }
         ensures names { ReplyLeaves (S.names session.old) (S.names session.new) output result }
-        ensures sends { SendsReply S.outgoing_flow_gives S.deallocate_link_gives self.credit
+        ensures sends { SendsReply S.calls.outgoing_flow S.calls.deallocate_link self.credit
             session.old session.new self.attach output result }
     {
         let Reply {
@@ -97,7 +97,7 @@ fn grant<S: Session>(
     ensures told { Checks (S.told session.old) (S.told session.new) result }
     ensures kept { S.kept session.new ≡ S.kept session.old }
     ensures names { ReplyLeaves (S.names session.old) (S.names session.new) output result }
-    ensures grants { Grants S.outgoing_flow_gives S.deallocate_link_gives session.old session.new
+    ensures grants { Grants S.calls.outgoing_flow S.calls.deallocate_link session.old session.new
         (flow_under output credit) output result }
 {
     credit.handle = Handle(output.0);

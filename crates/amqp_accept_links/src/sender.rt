@@ -115,8 +115,8 @@ impl<F: OnDynamic<Source>> LocalSenderLinkAcceptor<F> {
             remote.name result }
         ensures accepts { AcceptsSource (F.decides self.now.on_dynamic_source)
             self.now.source_capabilities shared.now self.now.initial_delivery_count remote
-            (OpensThrough S.allocate_incoming_link_gives S.outgoing_flow_gives
-            S.deallocate_link_gives) session.old session.new result }
+            (OpensThrough S.calls.allocate_incoming_link S.calls.outgoing_flow
+            S.calls.deallocate_link) session.old session.new result }
     {
         let Ok(opening) = self.prepare(alloc, shared, remote) else {
             return Err(SenderAttachError::NoMemory);

@@ -42,8 +42,8 @@ fn open_held<S: Session>(
     ensures steady { Steady (S.told session.old) (S.told session.new) }
     ensures cause { IfErr result (λ error. CausedBelow (control_refusal error)
         (S.told session.old) (S.told session.new)) }
-    ensures opens { OpensHeld S.told S.names S.allocate_incoming_link_gives S.outgoing_flow_gives
-        S.deallocate_link_gives session.old session.new (flows_for held.old) (flows_for held.new)
+    ensures opens { OpensHeld S.told S.names S.calls.allocate_incoming_link S.calls.outgoing_flow
+        S.calls.deallocate_link session.old session.new (flows_for held.old) (flows_for held.new)
         opening result }
 {
     let Opening {
@@ -72,7 +72,7 @@ pub fn open_control<S: Session>(
     ensures leaves { LeavesOpening (S.kept session.old) (S.kept session.new) (S.names session.old)
         (S.names session.new) attach.now result }
     ensures opens { OnTrue (attaches_coordinator attach.now) (OpensControl S.told S.names
-        S.allocate_incoming_link_gives S.outgoing_flow_gives S.deallocate_link_gives session.old
+        S.calls.allocate_incoming_link S.calls.outgoing_flow S.calls.deallocate_link session.old
         session.new (flows_for held.old) (flows_for held.new)
         (control_opening control.now attach.now) result) }
     ensures refuses { OnFalse (attaches_coordinator attach.now) (Unasked session.old session.new
@@ -98,8 +98,8 @@ fn open_coordinator<S: Session>(
         (S.told session.new)) }
     ensures leaves { LeavesOpening (S.kept session.old) (S.kept session.new) (S.names session.old)
         (S.names session.new) attach.now result }
-    ensures opens { OpensControl S.told S.names S.allocate_incoming_link_gives
-        S.outgoing_flow_gives S.deallocate_link_gives session.old session.new
+    ensures opens { OpensControl S.told S.names S.calls.allocate_incoming_link
+        S.calls.outgoing_flow S.calls.deallocate_link session.old session.new
         (flows_for held.old) (flows_for held.new) (control_opening control.now attach.now)
         result }
 {

@@ -143,7 +143,7 @@ pub fn allocate_held<S: Session>(
     ensures steady { Steady (S.told session.old) (S.told session.new) }
     ensures cause { IfErr result (λ error. CausedBelow (control_error error) (S.told session.old)
         (S.told session.new)) }
-    ensures allocates { AllocatesHeld S.told S.allocate_incoming_link_gives session.old session.new
+    ensures allocates { AllocatesHeld S.told S.calls.allocate_incoming_link session.old session.new
         ((S.names session.old).known name) (flows_for held.old) (flows_for held.new)
         name relay input result }
 {

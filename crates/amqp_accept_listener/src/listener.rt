@@ -98,8 +98,8 @@ impl<S: Session> LayerBelow for ListenerSession<S> {
     ghost incoming_gives = { HearsFrame S.told S.incoming_gives S.names };
 
     ghost opening_gives = { λ old new attach answer.
-        HearsControl S.told S.kept S.names S.allocate_incoming_link_gives S.outgoing_flow_gives
-        S.deallocate_link_gives old new attach answer };
+        HearsControl S.told S.kept S.names S.calls.allocate_incoming_link S.calls.outgoing_flow
+        S.calls.deallocate_link old new attach answer };
 
     ghost check_gives = { λ old new disposition answer.
         Passes (λ a b. Checks (S.told a) (S.told b) answer)

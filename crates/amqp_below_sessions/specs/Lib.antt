@@ -4,6 +4,7 @@ pub mod Transacting
 pub mod SessionStates
 pub mod Names
 pub mod Sessions
+pub mod SessionCalls
 pub mod AttachErrors
 pub mod Queues
 pub mod Plain

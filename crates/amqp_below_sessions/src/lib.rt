@@ -8,11 +8,11 @@
 //! | [`SenderAttachError`], [`ReceiverAttachError`] | why a link isn't attached |
 //! | [`PlainSession`] | a session that keeps its links and does no transactions |
 //!
-//! A session says, in contracts, what each call answers and leaves (`allocate_link_gives` and the
-//! others), so what stands above can say which answer is the session's own. What a call leaves of
-//! the names and of the stop reasons is said for every session. A [`PlainSession`] keeps links by
-//! name, by input handle and by output handle; that the three agree is an invariant of the type
-//! that holds them:
+//! A session says, in contracts, what each call answers and leaves (`calls`), so what stands above
+//! can say which answer is the session's own; what wraps a session passes them on by one definition
+//! (`passed`). What a call leaves of the names and of the stop reasons is said for every session. A
+//! [`PlainSession`] keeps links by name, by input handle and by output handle; that the three agree
+//! is an invariant of the type that holds them:
 //!
 //! ```text
 //! let mut session = PlainSession::new(alloc, OutgoingChannel(0), SessionState::Mapped, begin);

@@ -60,8 +60,8 @@ impl Controller<WireSender> {
         session: &mut S,
         name: Text,
     ) -> Result<(Attaching, Attach), SenderAttachError>
-        ensures session { AttachesBy S.allocate_link_gives S.outgoing_attach_gives
-            S.deallocate_link_gives session.old session.new
+        ensures session { AttachesBy S.calls.allocate_link S.calls.outgoing_attach
+            S.calls.deallocate_link session.old session.new
             (record {
               name = name;
               coordinator = record { capabilities = None };
@@ -81,8 +81,8 @@ impl Controller<WireSender> {
         name: Text,
         coordinator: Coordinator,
     ) -> Result<(Attaching, Attach), SenderAttachError>
-        ensures session { AttachesBy S.allocate_link_gives S.outgoing_attach_gives
-            S.deallocate_link_gives session.old session.new
+        ensures session { AttachesBy S.calls.allocate_link S.calls.outgoing_attach
+            S.calls.deallocate_link session.old session.new
             (record {
               name = name;
               coordinator = coordinator;
@@ -139,8 +139,8 @@ impl ControllerBuilder {
         self,
         session: &mut S,
     ) -> Result<(Attaching, Attach), SenderAttachError>
-        ensures session { AttachesBy S.allocate_link_gives S.outgoing_attach_gives
-            S.deallocate_link_gives session.old session.new self result }
+        ensures session { AttachesBy S.calls.allocate_link S.calls.outgoing_attach
+            S.calls.deallocate_link session.old session.new self result }
         ensures told { TellsAttach (S.told session.old) (S.told session.new) result }
         ensures kept { S.kept session.new ≡ S.kept session.old }
         ensures names { NamesAttach (S.names session.old) (S.names session.new) self.name result }

@@ -70,8 +70,8 @@ impl OwnedTransaction<WireSender> {
         global_id: Option<TransactionId>,
     ) -> Result<(OwnedDeclaring, Attach), OwnedDeclareError>
         ensures session { (attached : Result (LinkEnd × Attach) SenderAttachError)
-            × AttachesBy S.allocate_link_gives S.outgoing_attach_gives
-            S.deallocate_link_gives session.old session.new
+            × AttachesBy S.calls.allocate_link S.calls.outgoing_attach
+            S.calls.deallocate_link session.old session.new
             (record {
               name = name;
               coordinator = record { capabilities = None };

@@ -56,7 +56,7 @@ impl<S: Session> ClientBegin<S> {
     /// - For an end `RemoteEnded` or `RemoteEndedWithError`; it isn't given to the session.
     /// - For a link's frame `IllegalState`; it isn't given to the session.
     pub fn on_frame(self, frame: SessionFrame) -> Result<SessionEngine<S>, (S, BeginError)>
-        ensures { FirstFrame S.told S.kept S.names S.begin_received_gives self
+        ensures { FirstFrame S.told S.kept S.names S.calls.begin_received self
             (record { 0 = frame.channel }) frame.body result }
     {
         let ClientBegin { session, alloc } = self;
@@ -86,7 +86,7 @@ impl<S: Session> ClientBegin<S> {
 
     /// Keeps why the connection stopped. The first reason is kept.
     pub fn note_connection_stop(&mut self, reason: ConnectionStopReason)
-        ensures { KeepsConnectionStop S.told S.kept S.names S.connection_stop_gives self.old
+        ensures { KeepsConnectionStop S.told S.kept S.names S.calls.connection_stop self.old
             self.new reason }
     {
         self.session.set_connection_stop_reason(reason);
@@ -95,7 +95,7 @@ impl<S: Session> ClientBegin<S> {
 
 /// The session's begin is to be sent.
 pub(crate) fn send_begin<S: Session>(mut session: S) -> Result<(S, Begin), (S, BeginError)>
-    ensures begins { SendsBegin S.told S.kept S.names S.begin_sent_gives session result }
+    ensures begins { SendsBegin S.told S.kept S.names S.calls.begin_sent session result }
     ensures cause { IfErr result (λ refused.
         Rose (S.told session).refusals (S.told refused.0).refusals) }
 {
@@ -112,7 +112,7 @@ fn take_peers_begin<S: Session>(
     channel: IncomingChannel,
     begin: Begin,
 ) -> Result<SessionEngine<S>, (S, BeginError)>
-    ensures { TakesPeersBegin S.told S.kept S.names S.begin_received_gives session channel begin
+    ensures { TakesPeersBegin S.told S.kept S.names S.calls.begin_received session channel begin
         result }
 {
     match session.on_incoming_begin(channel, begin) {

@@ -22,7 +22,7 @@ fn send_end<S: Session>(
     error: Option<Error>,
     running: Running,
 ) -> Result<Turn, SessionInnerError>
-    ensures sends { SendsEnd S.told S.kept S.names S.end_sent_gives session.old session.new error
+    ensures sends { SendsEnd S.told S.kept S.names S.calls.end_sent session.old session.new error
         running result }
     ensures cause { CausedBy false (Rose (S.told session.old).refusals
         (S.told session.new).refusals) result }
@@ -39,7 +39,7 @@ pub(crate) fn end_session<S: Session>(
     session: &mut S,
     error: Option<Error>,
 ) -> Result<Turn, SessionInnerError>
-    ensures ends { EndsSession S.told S.kept S.names S.end_sent_gives session.old session.new error
+    ensures ends { EndsSession S.told S.kept S.names S.calls.end_sent session.old session.new error
         result }
     ensures cause { CausedBy false (Rose (S.told session.old).refusals
         (S.told session.new).refusals) result }
@@ -62,7 +62,7 @@ pub(crate) fn end_by_control<S: Session>(
 ) -> Result<Turn, SessionInnerError>
     ensures ends { OrNoCopy (copies_local error (S.kept session.old).connection) session.old
         session.new
-        (KeepsAndEnds S.told S.kept S.names S.stop_gives S.end_sent_gives session.old session.new
+        (KeepsAndEnds S.told S.kept S.names S.calls.stop S.calls.end_sent session.old session.new
         error result) result }
     ensures cause { CausedBy false (Rose (S.told session.old).refusals
         (S.told session.new).refusals) result }
@@ -78,7 +78,7 @@ fn answer_end<S: Session>(
     session: &mut S,
     reason: SessionStopReason,
 ) -> Result<Turn, SessionInnerError>
-    ensures answers { KeepsAndAnswers S.told S.kept S.names S.stop_gives S.end_sent_gives
+    ensures answers { KeepsAndAnswers S.told S.kept S.names S.calls.stop S.calls.end_sent
         session.old session.new reason result }
     ensures cause { CausedBy false (Rose (S.told session.old).refusals
         (S.told session.new).refusals) result }
@@ -95,7 +95,7 @@ fn peer_ends<S: Session>(
     channel: IncomingChannel,
     end: End,
 ) -> Result<Turn, SessionInnerError>
-    ensures ends { PeerEnds S.told S.kept S.names S.end_received_gives S.stop_gives S.end_sent_gives
+    ensures ends { PeerEnds S.told S.kept S.names S.calls.end_received S.calls.stop S.calls.end_sent
         session.old session.new channel end result }
     ensures cause { CausedBy false (Rose (S.told session.old).refusals
         (S.told session.new).refusals) result }
@@ -112,7 +112,7 @@ fn peer_answers_end<S: Session>(
     channel: IncomingChannel,
     end: &End,
 ) -> Result<Turn, SessionInnerError>
-    ensures answers { PeerAnswersEnd S.told S.kept S.names S.end_received_gives session.old
+    ensures answers { PeerAnswersEnd S.told S.kept S.names S.calls.end_received session.old
         session.new channel end.now result }
     ensures cause { CausedBy false (Rose (S.told session.old).refusals
         (S.told session.new).refusals) result }
@@ -130,8 +130,8 @@ pub(crate) fn take_end<S: Session>(
     channel: IncomingChannel,
     end: End,
 ) -> Result<Turn, SessionInnerError>
-    ensures takes { TakesEnd S.told S.kept S.names S.end_received_gives S.stop_gives
-        S.end_sent_gives session.old session.new channel end result }
+    ensures takes { TakesEnd S.told S.kept S.names S.calls.end_received S.calls.stop
+        S.calls.end_sent session.old session.new channel end result }
     ensures cause { CausedBy (not (takes_end (S.told session.old).fixed.state))
         (Rose (S.told session.old).refusals (S.told session.new).refusals) result }
 {
@@ -198,7 +198,7 @@ pub(crate) fn finish<S: Session>(
     session: &mut S,
     outcome: Result<(), SessionInnerError>,
 ) -> Result<(), SessionInnerError>
-    ensures keeps { Finishes S.told S.kept S.names S.stop_gives session.old session.new outcome }
+    ensures keeps { Finishes S.told S.kept S.names S.calls.stop session.old session.new outcome }
     ensures answer { AnswersOutcome (is_some (S.kept session.old).stop) outcome result }
 {
     if has_stopped(session) {

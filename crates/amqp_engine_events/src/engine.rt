@@ -96,7 +96,7 @@ impl<S: Session> SessionEngine<S> {
         alloc: Global,
         session: S,
     ) -> Result<(ClientBegin<S>, Begin), (S, BeginError)>
-        ensures begins { SendsBegin S.told S.kept S.names S.begin_sent_gives session result }
+        ensures begins { SendsBegin S.told S.kept S.names S.calls.begin_sent session result }
         ensures cause { IfErr result (λ refused.
             Rose (S.told session).refusals (S.told refused.0).refusals) }
     {
@@ -129,10 +129,10 @@ impl<S: Session> SessionEngine<S> {
         ensures begin { OnBegin frame.body (λ begin.
             MatchBool (awaits_end (S.told self.old).fixed.state)
             (Unasked self.old self.new (Ok (quiet runnings.Waiting)) result)
-            (TakesBegin S.told S.kept S.names S.begin_received_gives self.old self.new
+            (TakesBegin S.told S.kept S.names S.calls.begin_received self.old self.new
             (record { 0 = frame.channel }) begin result)) }
-        ensures end { OnEnd frame.body (λ end. TakesEnd S.told S.kept S.names S.end_received_gives
-            S.stop_gives S.end_sent_gives self.old self.new (record { 0 = frame.channel }) end
+        ensures end { OnEnd frame.body (λ end. TakesEnd S.told S.kept S.names S.calls.end_received
+            S.calls.stop S.calls.end_sent self.old self.new (record { 0 = frame.channel }) end
             result) }
         ensures cause { CausedBy (is_unexpected (S.told self.old).fixed.state frame.body)
             (Rose (S.told self.old).refusals (S.told self.new).refusals) result }
@@ -158,8 +158,8 @@ impl<S: Session> SessionEngine<S> {
     ///   asked.
     pub fn on_outgoing_link_frames(&mut self, frame: LinkFrame) -> Result<Turn, SessionInnerError>
         ensures sends { MatchBool (is_mapped (S.told self.old).fixed.state)
-            (OrNoMemory self.old self.new (SendsLink S.told S.kept S.names S.outgoing_attach_gives
-            S.outgoing_flow_gives S.outgoing_transfer_gives S.check_gives S.outgoing_detach_gives
+            (OrNoMemory self.old self.new (SendsLink S.told S.kept S.names S.calls.outgoing_attach
+            S.calls.outgoing_flow S.calls.outgoing_transfer S.check_gives S.calls.outgoing_detach
             self.old self.new frame result) result)
             (Unasked self.old self.new (Err faults.IllegalState) result) }
         ensures cause { CausedBy (not (is_mapped (S.told self.old).fixed.state))
@@ -193,7 +193,7 @@ impl<S: Session> SessionEngine<S> {
     ///   which leaves the session as it was.
     pub fn on_error(&mut self, kind: &SessionInnerError) -> Result<Turn, SessionInnerError>
         ensures ends { EndsFor self.old self.new (λ answer. EndsSession S.told S.kept S.names
-            S.end_sent_gives self.old self.new (error_of_fault kind.now) answer) kind.now result }
+            S.calls.end_sent self.old self.new (error_of_fault kind.now) answer) kind.now result }
         ensures cause { OnFalse (is_cut_off kind.now) (CausedBy false
             (Rose (S.told self.old).refusals (S.told self.new).refusals) result) }
     {
@@ -206,7 +206,7 @@ impl<S: Session> SessionEngine<S> {
     ///
     /// What the session refused.
     pub fn end_session(&mut self, error: Option<Error>) -> Result<Turn, SessionInnerError>
-        ensures ends { EndsSession S.told S.kept S.names S.end_sent_gives self.old self.new error
+        ensures ends { EndsSession S.told S.kept S.names S.calls.end_sent self.old self.new error
             result }
         ensures cause { CausedBy false (Rose (S.told self.old).refusals (S.told self.new).refusals)
             result }
@@ -226,7 +226,7 @@ impl<S: Session> SessionEngine<S> {
         self,
         outcome: Result<(), SessionInnerError>,
     ) -> (S, Result<(), SessionInnerError>)
-        ensures keeps { Finishes S.told S.kept S.names S.stop_gives self result.0 outcome }
+        ensures keeps { Finishes S.told S.kept S.names S.calls.stop self result.0 outcome }
         ensures answer { AnswersOutcome (is_some (S.kept self).stop) outcome result.1 }
     {
         let SessionEngine {
@@ -239,7 +239,7 @@ impl<S: Session> SessionEngine<S> {
 
     /// Keeps why the connection stopped. The first reason is kept.
     pub fn note_connection_stop(&mut self, reason: ConnectionStopReason)
-        ensures { KeepsConnectionStop S.told S.kept S.names S.connection_stop_gives self.old
+        ensures { KeepsConnectionStop S.told S.kept S.names S.calls.connection_stop self.old
             self.new reason }
     {
         self.session.set_connection_stop_reason(reason);
@@ -257,7 +257,7 @@ impl<S: ListenerSessionEndpoint> SessionEngine<S> {
         alloc: Global,
         session: S,
     ) -> Result<(SessionEngine<S>, Begin), (S, BeginError)>
-        ensures begins { SendsBegin S.told S.kept S.names S.begin_sent_gives session result }
+        ensures begins { SendsBegin S.told S.kept S.names S.calls.begin_sent session result }
         ensures cause { IfErr result (λ refused.
             Rose (S.told session).refusals (S.told refused.0).refusals) }
     {
@@ -285,11 +285,11 @@ impl<S: Session + HandleDeclare + HandleDischarge> SessionEngine<S> {
     ) -> Result<Turn, SessionInnerError>
         ensures unserved { OnFalse (is_served (⟦<S as Tells>⟧.told self.old).fixed.state control)
             (Unasked self.old self.new (Err faults.IllegalState) result) }
-        ensures end { ControlsEnd ⟦<S as Tells>⟧.told S.kept S.names S.stop_gives S.end_sent_gives
+        ensures end { ControlsEnd ⟦<S as Tells>⟧.told S.kept S.names S.calls.stop S.calls.end_sent
             self.old self.new control result }
         ensures links { OnTrue (is_mapped (⟦<S as Tells>⟧.told self.old).fixed.state)
-            (ControlsLinks ⟦<S as Tells>⟧.told S.kept S.names S.allocate_link_gives
-            S.allocate_incoming_link_gives S.deallocate_link_gives self.old self.new control
+            (ControlsLinks ⟦<S as Tells>⟧.told S.kept S.names S.calls.allocate_link
+            S.calls.allocate_incoming_link S.calls.deallocate_link self.old self.new control
             result) }
         ensures transactions { OnTrue (is_mapped (⟦<S as Tells>⟧.told self.old).fixed.state)
             (ControlsTransactions ⟦<S as Tells>⟧.told S.allocate_gives S.commit_gives

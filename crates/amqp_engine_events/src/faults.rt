@@ -86,7 +86,7 @@ pub(crate) fn end_for<S: Session>(
     fault: &SessionInnerError,
 ) -> Result<Turn, SessionInnerError>
     ensures ends { EndsFor session.old session.new
-        (λ answer. EndsSession S.told S.kept S.names S.end_sent_gives session.old session.new
+        (λ answer. EndsSession S.told S.kept S.names S.calls.end_sent session.old session.new
         (error_of_fault fault.now) answer) fault.now result }
     ensures cause { OnFalse (is_cut_off fault.now) (CausedBy false
         (Rose (S.told session.old).refusals (S.told session.new).refusals) result) }

@@ -47,7 +47,7 @@ pub(crate) fn take_begin<S: Session>(
 ) -> Result<Turn, SessionInnerError>
     ensures takes { MatchBool (awaits_end (S.told session.old).fixed.state)
         (Unasked session.old session.new (Ok (quiet runnings.Waiting)) result)
-        (TakesBegin S.told S.kept S.names S.begin_received_gives session.old session.new channel
+        (TakesBegin S.told S.kept S.names S.calls.begin_received session.old session.new channel
         begin result) }
     ensures cause { CausedBy false (Rose (S.told session.old).refusals
         (S.told session.new).refusals) result }

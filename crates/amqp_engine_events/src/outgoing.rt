@@ -63,7 +63,7 @@ fn pass_flow<S: Session>(
     requires empty { room.items ≡ [] }
     requires room { vec_len room < vec_capacity room }
     ensures passes { SendsFlow S.told S.kept S.names
-        (S.outgoing_flow_gives session.old session.new flow) session.old session.new result }
+        (S.calls.outgoing_flow session.old session.new flow) session.old session.new result }
     ensures cause { CausedBy false (Rose (S.told session.old).refusals
         (S.told session.new).refusals) result }
 {
@@ -83,7 +83,7 @@ fn pass_transfer<S: Session>(
     requires empty { room.items ≡ [] }
     requires room { vec_len room < vec_capacity room }
     ensures passes { ((numbered : Transfer) × Passes S.told S.kept S.names
-        (S.outgoing_transfer_gives session.old session.new input transfer numbered is_first)
+        (S.calls.outgoing_transfer session.old session.new input transfer numbered is_first)
         session.old session.new (frames.Transfer numbered payload) result) }
     ensures cause { CausedBy false (Rose (S.told session.old).refusals
         (S.told session.new).refusals) result }
@@ -100,8 +100,8 @@ fn pass_link<S: Session>(
 ) -> Result<Turn, SessionInnerError>
     requires empty { room.items ≡ [] }
     requires room { vec_len room < vec_capacity room }
-    ensures passes { SendsLink S.told S.kept S.names S.outgoing_attach_gives
-        S.outgoing_flow_gives S.outgoing_transfer_gives S.check_gives S.outgoing_detach_gives
+    ensures passes { SendsLink S.told S.kept S.names S.calls.outgoing_attach
+        S.calls.outgoing_flow S.calls.outgoing_transfer S.check_gives S.calls.outgoing_detach
         session.old session.new frame result }
     ensures cause { CausedBy false (Rose (S.told session.old).refusals
         (S.told session.new).refusals) result }
@@ -140,8 +140,8 @@ pub(crate) fn send_link<S: Session>(
     frame: LinkFrame,
 ) -> Result<Turn, SessionInnerError>
     ensures sends { OrNoMemory session.old session.new
-        (SendsLink S.told S.kept S.names S.outgoing_attach_gives S.outgoing_flow_gives
-        S.outgoing_transfer_gives S.check_gives S.outgoing_detach_gives session.old session.new
+        (SendsLink S.told S.kept S.names S.calls.outgoing_attach S.calls.outgoing_flow
+        S.calls.outgoing_transfer S.check_gives S.calls.outgoing_detach session.old session.new
         frame result) result }
     ensures cause { CausedBy false (Rose (S.told session.old).refusals
         (S.told session.new).refusals) result }

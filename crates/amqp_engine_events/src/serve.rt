@@ -34,7 +34,7 @@ fn allocate_link<S: Session>(
     relay: Relay,
 ) -> Result<Turn, SessionInnerError>
     ensures { Links S.told S.kept S.names
-        (S.allocate_link_gives session.old session.new name relay) session.old session.new name
+        (S.calls.allocate_link session.old session.new name relay) session.old session.new name
         Waiting result }
 {
     let answer = session.allocate_link(name, relay);
@@ -50,7 +50,7 @@ fn allocate_incoming_link<S: Session>(
     input: InputHandle,
 ) -> Result<Turn, SessionInnerError>
     ensures { Links S.told S.kept S.names
-        (S.allocate_incoming_link_gives session.old session.new name relay input) session.old
+        (S.calls.allocate_incoming_link session.old session.new name relay input) session.old
         session.new name Taken result }
 {
     let answer = session.allocate_incoming_link(name, relay, input);
@@ -63,7 +63,7 @@ fn deallocate_link<S: Session>(
     session: &mut S,
     output: OutputHandle,
 ) -> Result<Turn, SessionInnerError>
-    ensures { Frees S.told S.kept S.names S.deallocate_link_gives session.old session.new output
+    ensures { Frees S.told S.kept S.names S.calls.deallocate_link session.old session.new output
         result }
 {
     let _was_in_use = session.deallocate_link(output);
@@ -143,10 +143,10 @@ pub(crate) fn serve<S: Session + HandleDeclare + HandleDischarge, G: IdSource>(
     control: SessionControl,
     ids: &mut G,
 ) -> Result<Turn, SessionInnerError>
-    ensures end { ControlsEnd ⟦<S as Tells>⟧.told S.kept S.names S.stop_gives S.end_sent_gives
+    ensures end { ControlsEnd ⟦<S as Tells>⟧.told S.kept S.names S.calls.stop S.calls.end_sent
         session.old session.new control result }
-    ensures links { ControlsLinks ⟦<S as Tells>⟧.told S.kept S.names S.allocate_link_gives
-        S.allocate_incoming_link_gives S.deallocate_link_gives session.old session.new control
+    ensures links { ControlsLinks ⟦<S as Tells>⟧.told S.kept S.names S.calls.allocate_link
+        S.calls.allocate_incoming_link S.calls.deallocate_link session.old session.new control
         result }
     ensures transactions { ControlsTransactions ⟦<S as Tells>⟧.told S.allocate_gives S.commit_gives
         S.rollback_gives session.old session.new (G.next ids.old) (G.next ids.new) control result }

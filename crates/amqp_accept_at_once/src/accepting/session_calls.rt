@@ -10,9 +10,9 @@ use amqp_txn_types::{
 };
 
 impl<S: Session> Session for AcceptingListener<S> {
-    ghost use Rattle.std.specs.Prelude.{is_some, true};
-    ghost use Rattle.amqp_below_sessions.specs.SessionStates.{begin_received, begin_sent, end_received, end_sent};
-    ghost use Rattle.amqp_accept_at_once.specs.AtOnce.{AcceptsOver, PassesCheck, PassesMove, PassesSame, listener_of};
+    ghost use Rattle.std.specs.Prelude.{true};
+    ghost use Rattle.amqp_below_sessions.specs.SessionCalls.{passed};
+    ghost use Rattle.amqp_accept_at_once.specs.AtOnce.{AcceptsOver, Passes, PassesOn, listener_of};
     ghost use Rattle.amqp_accept_listener.specs.Listening.{inner_of};
     ghost use Rattle.amqp_accept_listener.specs.ListenerLaws.{heard-leaves as listener-leaves, opening-leaves, passed-leaves};
     ghost use Rattle.amqp_accept_at_once.specs.AtOnceLaws.{heard-leaves};
@@ -23,61 +23,10 @@ impl<S: Session> Session for AcceptingListener<S> {
 
     ghost accepts_at_once = { true };
 
-    ghost stop_gives = { λ old new reason. PassesSame ⟦<ListenerSession<S> as Tells>⟧.told
-        (λ a b. ⟦<ListenerSession<S> as Session>⟧.stop_gives a b reason) old new };
-
-    ghost connection_stop_gives = { λ old new reason. PassesSame
-        ⟦<ListenerSession<S> as Tells>⟧.told (λ a b.
-        ⟦<ListenerSession<S> as Session>⟧.connection_stop_gives a b reason) old new };
-
-    ghost allocate_link_gives = { λ old new name relay answer. PassesCheck
-        ⟦<ListenerSession<S> as Tells>⟧.told (λ a b.
-        ⟦<ListenerSession<S> as Session>⟧.allocate_link_gives a b name relay answer)
-        old new answer };
-
-    ghost allocate_incoming_link_gives = { λ old new name relay input answer. PassesCheck
-        ⟦<ListenerSession<S> as Tells>⟧.told (λ a b.
-        ⟦<ListenerSession<S> as Session>⟧.allocate_incoming_link_gives a b name relay input answer)
-        old new answer };
-
-    ghost deallocate_link_gives = { λ old new output answer. PassesSame
-        ⟦<ListenerSession<S> as Tells>⟧.told (λ a b.
-        ⟦<ListenerSession<S> as Session>⟧.deallocate_link_gives a b output answer) old new };
-
-    ghost begin_received_gives = { λ old new channel begin answer. PassesMove
-        ⟦<ListenerSession<S> as Tells>⟧.told begin_received (λ a b.
-        ⟦<ListenerSession<S> as Session>⟧.begin_received_gives a b channel begin answer) old new
-        answer };
-
-    ghost end_received_gives = { λ old new channel end answer. PassesMove
-        ⟦<ListenerSession<S> as Tells>⟧.told end_received (λ a b.
-        ⟦<ListenerSession<S> as Session>⟧.end_received_gives a b channel end answer) old new
-        answer };
-
-    ghost begin_sent_gives = { λ old new answer. PassesMove ⟦<ListenerSession<S> as Tells>⟧.told
-        begin_sent (λ a b. ⟦<ListenerSession<S> as Session>⟧.begin_sent_gives a b answer)
-        old new answer };
-
-    ghost end_sent_gives = { λ old new error answer. PassesMove ⟦<ListenerSession<S> as Tells>⟧.told
-        (end_sent (is_some error)) (λ a b. ⟦<ListenerSession<S> as Session>⟧.end_sent_gives a b
-        error answer) old new answer };
-
-    ghost outgoing_attach_gives = { λ old new attach answer. PassesCheck
-        ⟦<ListenerSession<S> as Tells>⟧.told (λ a b.
-        ⟦<ListenerSession<S> as Session>⟧.outgoing_attach_gives a b attach answer) old new answer };
-
-    ghost outgoing_flow_gives = { λ old new flow answer. PassesCheck
-        ⟦<ListenerSession<S> as Tells>⟧.told (λ a b.
-        ⟦<ListenerSession<S> as Session>⟧.outgoing_flow_gives a b flow answer) old new answer };
-
-    ghost outgoing_transfer_gives = { λ old new input before after is_first answer. PassesCheck
-        ⟦<ListenerSession<S> as Tells>⟧.told (λ a b.
-        ⟦<ListenerSession<S> as Session>⟧.outgoing_transfer_gives a b input before after is_first
-        answer) old new answer };
-
-    ghost outgoing_detach_gives = { λ old new detach answer. PassesCheck
-        ⟦<ListenerSession<S> as Tells>⟧.told (λ a b.
-        ⟦<ListenerSession<S> as Session>⟧.outgoing_detach_gives a b detach answer) old new answer };
+    ghost calls = { passed ⟦<ListenerSession<S> as Tells>⟧.told
+        ⟦<ListenerSession<S> as Session>⟧.calls
+        (λ tells gives old new. PassesOn tells gives old new)
+        (λ A B tells gives old new answer. Passes tells gives old new answer) };
 
     ghost incoming_leaves = { λ old new frame answer gives. heard-leaves
         ⟦<ListenerSession<S> as Tells>⟧.told ⟦<ListenerSession<S> as Session>⟧.kept
@@ -86,9 +35,9 @@ impl<S: Session> Session for AcceptingListener<S> {
         (λ a b came given gave. listener-leaves S.told S.kept S.names S.accepts_at_once
         S.incoming_gives S.incoming_leaves a b came given gave)
         (AcceptsOver ⟦<ListenerSession<S> as Session>⟧.kept
-        ⟦<ListenerSession<S> as Session>⟧.allocate_incoming_link_gives
-        ⟦<ListenerSession<S> as Session>⟧.outgoing_flow_gives
-        ⟦<ListenerSession<S> as Session>⟧.deallocate_link_gives) old new frame answer gives };
+        ⟦<ListenerSession<S> as Session>⟧.calls.allocate_incoming_link
+        ⟦<ListenerSession<S> as Session>⟧.calls.outgoing_flow
+        ⟦<ListenerSession<S> as Session>⟧.calls.deallocate_link) old new frame answer gives };
 
     ghost opening_leaves = { λ old new attach answer gives.
         opening-leaves S.told S.kept S.names (listener_of old) (listener_of new) attach answer

@@ -9,10 +9,7 @@ use amqp_txn_types::{
 };
 
 impl<S: Session> Session for Recorder<S> {
-    ghost use Rattle.std.specs.Prelude.{◌≡◌, is_some};
-    ghost use Rattle.amqp_below_layer.specs.Told.{Checks};
-    ghost use Rattle.amqp_below_sessions.specs.Sessions.{Moves};
-    ghost use Rattle.amqp_below_sessions.specs.SessionStates.{begin_received, begin_sent, end_received, end_sent};
+    ghost use Rattle.amqp_below_sessions.specs.SessionCalls.{passed};
     ghost use Rattle.amqp_below_recorder.specs.Recording.{Passes, inner_of};
     ghost use Rattle.amqp_below_recorder.specs.RecordedSessions.{recorded-leaves, recorded_opening-leaves, recorded_review-leaves};
 
@@ -22,57 +19,8 @@ impl<S: Session> Session for Recorder<S> {
 
     ghost accepts_at_once = { S.accepts_at_once };
 
-    ghost stop_gives = { λ old new reason.
-        Passes (λ a b. S.told b ≡ S.told a) (λ a b. S.stop_gives a b reason) old new };
-
-    ghost connection_stop_gives = { λ old new reason.
-        Passes (λ a b. S.told b ≡ S.told a) (λ a b. S.connection_stop_gives a b reason) old new };
-
-    ghost allocate_link_gives = { λ old new name relay answer.
-        Passes (λ a b. Checks (S.told a) (S.told b) answer)
-        (λ a b. S.allocate_link_gives a b name relay answer) old new };
-
-    ghost allocate_incoming_link_gives = { λ old new name relay input answer.
-        Passes (λ a b. Checks (S.told a) (S.told b) answer)
-        (λ a b. S.allocate_incoming_link_gives a b name relay input answer) old new };
-
-    ghost deallocate_link_gives = { λ old new output answer.
-        Passes (λ a b. S.told b ≡ S.told a)
-        (λ a b. S.deallocate_link_gives a b output answer) old new };
-
-    ghost begin_received_gives = { λ old new channel begin answer.
-        Passes (λ a b. Moves (begin_received (S.told a).fixed.state) (S.told a) (S.told b) answer)
-        (λ a b. S.begin_received_gives a b channel begin answer) old new };
-
-    ghost end_received_gives = { λ old new channel end answer.
-        Passes (λ a b. Moves (end_received (S.told a).fixed.state) (S.told a) (S.told b) answer)
-        (λ a b. S.end_received_gives a b channel end answer) old new };
-
-    ghost begin_sent_gives = { λ old new answer.
-        Passes (λ a b. Moves (begin_sent (S.told a).fixed.state) (S.told a) (S.told b) answer)
-        (λ a b. S.begin_sent_gives a b answer) old new };
-
-    ghost end_sent_gives = { λ old new error answer.
-        Passes
-        (λ a b. Moves (end_sent (is_some error) (S.told a).fixed.state) (S.told a) (S.told b)
-        answer)
-        (λ a b. S.end_sent_gives a b error answer) old new };
-
-    ghost outgoing_attach_gives = { λ old new attach answer.
-        Passes (λ a b. Checks (S.told a) (S.told b) answer)
-        (λ a b. S.outgoing_attach_gives a b attach answer) old new };
-
-    ghost outgoing_flow_gives = { λ old new flow answer.
-        Passes (λ a b. Checks (S.told a) (S.told b) answer)
-        (λ a b. S.outgoing_flow_gives a b flow answer) old new };
-
-    ghost outgoing_transfer_gives = { λ old new input before after is_first answer.
-        Passes (λ a b. Checks (S.told a) (S.told b) answer)
-        (λ a b. S.outgoing_transfer_gives a b input before after is_first answer) old new };
-
-    ghost outgoing_detach_gives = { λ old new detach answer.
-        Passes (λ a b. Checks (S.told a) (S.told b) answer)
-        (λ a b. S.outgoing_detach_gives a b detach answer) old new };
+    ghost calls = { passed S.told S.calls (λ tells gives old new. Passes tells gives old new)
+        (λ A B tells gives old new answer. Passes tells gives old new) };
 
     ghost incoming_leaves = { λ old new frame answer gives.
         recorded-leaves S.told S.kept S.names S.accepts_at_once S.incoming_gives

@@ -30,33 +30,22 @@ impl Session for PlainSession {
 
     ghost accepts_at_once = { false };
 
-    ghost stop_gives = { PlainStops };
-
-    ghost connection_stop_gives = { PlainCutOff };
-
-    ghost allocate_link_gives = { PlainAllocates };
-
-    ghost allocate_incoming_link_gives = { PlainAllocatesIncoming };
-
-    ghost deallocate_link_gives = { PlainFrees };
-
-    ghost begin_received_gives = { λ old new channel begin answer.
-        PlainBegun old new channel begin answer };
-
-    ghost end_received_gives = { λ old new _ _ answer. PlainEnded old new answer };
-
-    ghost begin_sent_gives = { PlainBegins };
-
-    ghost end_sent_gives = { PlainEnds };
-
-    ghost outgoing_attach_gives = { λ old new _ answer. PlainChecks old new answer };
-
-    ghost outgoing_flow_gives = { PlainFlows };
-
-    ghost outgoing_transfer_gives = { λ old new _ before after is_first answer.
-        PlainSends old new before after is_first answer };
-
-    ghost outgoing_detach_gives = { λ old new _ answer. PlainChecks old new answer };
+    ghost calls = { record {
+      stop = PlainStops;
+      connection_stop = PlainCutOff;
+      allocate_link = PlainAllocates;
+      allocate_incoming_link = PlainAllocatesIncoming;
+      deallocate_link = PlainFrees;
+      begin_received = λ old new channel begin answer. PlainBegun old new channel begin answer;
+      end_received = λ old new _ _ answer. PlainEnded old new answer;
+      begin_sent = PlainBegins;
+      end_sent = PlainEnds;
+      outgoing_attach = λ old new _ answer. PlainChecks old new answer;
+      outgoing_flow = PlainFlows;
+      outgoing_transfer = λ old new _ before after is_first answer.
+          PlainSends old new before after is_first answer;
+      outgoing_detach = λ old new _ answer. PlainChecks old new answer;
+    } };
 
     ghost incoming_leaves = { λ old new frame answer gives. gives.leaves };
 
