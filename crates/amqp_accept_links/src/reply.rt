@@ -1,6 +1,6 @@
 //! What an acceptor answers to the attach of a peer.
 
-ghost use Rattle.std.specs.Prelude.{◌≡◌, [], IfOk, unwrap_or};
+ghost use Rattle.std.specs.Prelude.{◌≡◌, [], IfOk};
 ghost use Rattle.amqp_below_layer.specs.Told.{Checks};
 ghost use Rattle.amqp_accept_links.specs.Replies.{Grants, ReplyLeaves, SendsReply, credit_of, flow_under, reply_of};
 

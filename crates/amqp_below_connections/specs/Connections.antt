@@ -1,6 +1,6 @@
 -- What the end of a connection tells, and what its calls do to that.
-use Rattle.std.specs.Prelude.{ℕ, ◌≡◌, ◌≤◌, ◌+◌, ◌<◌, Bool, true, false, is_some, Option, Some, None, Result, Ok, Err, List, [], ◌∷◌, drop, OnErr}
-use Rattle.amqp_txn_types.specs.Counts.{Rose, one_more}
+use Rattle.std.specs.Prelude.{ℕ, ◌≡◌, ◌≤◌, Bool, true, false, is_some, Option, Some, None, Result, List, [], ◌∷◌, drop, OnErr}
+use Rattle.amqp_txn_types.specs.Counts.{Rose}
 use Rattle.amqp_txn_types.specs.declared.delivery.ConnectionStopReason.{ConnectionStopReason}
 use Rattle.amqp_txn_types.specs.declared.small.OutgoingChannel.{OutgoingChannel}
 use Rattle.amqp_links.specs.declared.poll.Poll.{Poll}

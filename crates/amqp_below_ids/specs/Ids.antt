@@ -1,5 +1,5 @@
 -- The ids that a source gives, one after another.
-use Rattle.std.specs.Prelude.{ℕ, suc, ◌≡◌, ◌+◌, List, [], ◌∷◌, length}
+use Rattle.std.specs.Prelude.{ℕ, ◌≡◌, ◌+◌, List, [], ◌∷◌, length}
 use Rattle.amqp_txn_types.specs.declared.id.TransactionId.{TransactionId}
 
 -- these are the ids of the stream from place n on

@@ -1,6 +1,6 @@
 //! The ids that a declare draws.
 
-ghost use Rattle.std.specs.Prelude.{◌≡◌, ◌≤◌, ◌<◌, ◌-◌, ◌+◌, ◌∷◌, ◌++◌, [], length, slice_get, option_copied, OnOk, OnErr, IfOk};
+ghost use Rattle.std.specs.Prelude.{◌≡◌, ◌≤◌, ◌<◌, ◌-◌, ◌+◌, ◌∷◌, ◌++◌, [], length, slice_get, option_copied, OnOk, OnErr};
 ghost use Rattle.amqp_below_ids.specs.Drawn.{DrawnIds};
 
 use amqp_txn_types::{NoMemory, TransactionId, TryClone};

@@ -1,7 +1,7 @@
 //! A layer below that keeps what the layer in it took.
 
 ghost use Rattle.std.specs.Prelude.{◌≡◌, ◌↔◌, [], Some, IsTrue};
-ghost use Rattle.amqp_below_layer.specs.Told.{Told, planned, starving};
+ghost use Rattle.amqp_below_layer.specs.Told.{planned, starving};
 ghost use Rattle.amqp_below_recorder.specs.Recording.{IsFresh, SetsPlans, StartsOver, calls_of, inner_of, is_unused, own_of, own_vetoes_of, plan_of, starved_of};
 
 mod listener_calls;

@@ -10,7 +10,7 @@ use amqp_txn_types::Attach;
 /// queued any more, and those that wait are still given. No call of a session but an incoming
 /// attach and those here changes the queue.
 pub trait ListenerSessionEndpoint: Session {
-    ghost use Rattle.std.specs.Prelude.{◌≡◌, IsTrue, Option};
+    ghost use Rattle.std.specs.Prelude.{◌≡◌, Option};
     ghost use Rattle.amqp_txn_types.specs.declared.performatives.Attach.{Attach};
     ghost use Rattle.amqp_below_sessions.specs.Names.{SameNames};
     ghost use Rattle.amqp_below_sessions.specs.Queues.{closed_queue, first_waiting, without_first};

@@ -3,7 +3,7 @@
 ghost use Rattle.std.specs.Prelude.{◌≡◌};
 ghost use Rattle.amqp_below_sessions.specs.Numbers.{at_first, after_begin, after_flow, counted_in, counted_out, delivery_numbered, flow_with, following, window_flow};
 
-use amqp_txn_types::{Begin, Flow, Handle, LinkFlow};
+use amqp_txn_types::{Begin, Flow, LinkFlow};
 
 /// The ids and windows of a session's transfers. Part 2 of the standard, section 2.5.6 (session
 /// flow control). Ids go on from 2^32 - 1 with 0.

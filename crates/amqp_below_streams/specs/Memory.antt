@@ -1,5 +1,5 @@
 -- Streams in memory of which some calls fail.
-use Rattle.std.specs.Prelude.{ℕ, Bool, true, false, Option, Some, Result, Ok, Err, List}
+use Rattle.std.specs.Prelude.{ℕ, Bool, true, false, Some, Result, Ok, Err, List}
 use Rattle.amqp_txn_types.specs.declared.calls.Calls.{Calls}
 use Rattle.amqp_below_streams.specs.Streams.{SinkTold, SourceTold}
 

@@ -1,5 +1,5 @@
 -- What a source of octets gives, and what a sink takes.
-use Rattle.std.specs.Prelude.{ℕ, ◌≡◌, ◌≤◌, ◌<◌, ◌-◌, ◌+◌, Option, Some, None, Result, Ok, Err, List, [], ◌++◌, length, take, drop, OnErr}
+use Rattle.std.specs.Prelude.{ℕ, ◌≡◌, ◌≤◌, ◌<◌, ◌+◌, Option, Some, None, Result, Ok, Err, List, [], length, take, drop, OnErr}
 use Rattle.amqp_below_streams.specs.declared.source.Failed.{Failed}
 use Rattle.amqp_txn_types.specs.declared.items.NoMemory.{NoMemory}
 use Rattle.amqp_txn_types.specs.Growing.{grown}

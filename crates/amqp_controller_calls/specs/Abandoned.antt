@@ -1,5 +1,5 @@
 -- What is left of a transaction that is abandoned.
-use Rattle.std.specs.Prelude.{ℕ, zero, suc, ◌≡◌, ◌<◌, ◌⊎◌, true, Option, Some, None, Result, Ok, Err}
+use Rattle.std.specs.Prelude.{ℕ, zero, suc, ◌≡◌, ◌<◌, true, Option, Some, None, Result, Ok, Err}
 use Rattle.amqp_txn_types.specs.declared.id.TransactionId.{TransactionId}
 use Rattle.amqp_txn_types.specs.declared.small.Token.{Token}
 use Rattle.amqp_txn_types.specs.Counts.{Rose}

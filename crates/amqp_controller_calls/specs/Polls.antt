@@ -1,5 +1,5 @@
 -- What a poll finds of a control message.
-use Rattle.std.specs.Prelude.{◌≡◌, Option, Some, None, Result, Ok, Err}
+use Rattle.std.specs.Prelude.{◌≡◌, Some, None, Result, Ok, Err}
 use Rattle.amqp_txn_types.specs.declared.delivery.DeliveryState.{DeliveryState}
 use Rattle.amqp_txn_types.specs.declared.delivery.DeliveryState.TheVariants as states
 use Rattle.amqp_txn_types.specs.declared.delivery.Declared.{Declared}

@@ -44,7 +44,6 @@ pub trait FromPreSettled: Sized {
 
 /// A result that is made where no answer comes.
 pub trait FromDeliveryFailure: Sized {
-    ghost use Rattle.amqp_txn_types.specs.declared.delivery.SessionStopReason.{SessionStopReason};
     ghost use Rattle.amqp_links.specs.declared.errors.LinkStateError.{LinkStateError};
 
     /// What a state of the link makes.

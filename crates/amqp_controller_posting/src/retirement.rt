@@ -1,15 +1,12 @@
 //! Retirements under a transaction.
 
-ghost use Rattle.std.specs.Prelude.{◌≡◌};
 ghost use Rattle.amqp_txn_types.specs.declared.delivery.Outcome.TheVariants as outcomes;
 ghost use Rattle.amqp_links.specs.OneCall.{OneDisposition};
 ghost use Rattle.amqp_controller_posting.specs.Retirements.{Retires};
 
 use amqp_controller_calls::TransactionBase;
 use amqp_links::{DeliveryInfo, DispositionError, ReceiverLink};
-use amqp_txn_types::{
-    DeliveryState, Error, Modified, Outcome, Rejected, TransactionId, TransactionalState,
-};
+use amqp_txn_types::{DeliveryState, Error, Modified, Outcome, Rejected, TransactionalState};
 
 /// Disposing of received deliveries under a transaction: the resource settles them so when it is
 /// committed. Part 4 of the standard, section 4.4.2 (transactional retirement).

@@ -1,6 +1,6 @@
 -- Laws, which a reader needn't believe: a frame of a list for which there is room leaves room for
 -- the rest.
-use Rattle.std.specs.Prelude.{◌≡◌, ◌≤◌, ◌+◌, false, Option, List, [], ◌∷◌, ◌++◌, length, cond, count_by, Result, Ok, Err, refl}
+use Rattle.std.specs.Prelude.{◌≡◌, ◌+◌, false, List, [], ◌∷◌, ◌++◌, length, cond, count_by, Result, Ok, Err, refl}
 use Rattle.std.proofs.Common.{arith, subst, sym}
 use Rattle.std.proofs.lemmas.List.{length-append}
 use Rattle.std.proofs.lemmas.List.Sums.{sum_by-cons}
@@ -11,7 +11,7 @@ use Rattle.amqp_txn_types.specs.declared.performatives.Frame.TheVariants as fram
 use Rattle.amqp_below_layer.specs.declared.inner_error.SessionInnerError.{SessionInnerError}
 use Rattle.amqp_below_layer.specs.declared.inner_error.SessionInnerError.TheVariants as faults
 use Rattle.amqp_below_layer.specs.Reviewing.{GoesOn, StaysOn}
-use Rattle.amqp_examples.specs.Bounded.{Bounded, HasRoom, Queues, message_of}
+use Rattle.amqp_examples.specs.Bounded.{Bounded, HasRoom, Queues}
 
 -- how many transfers a list has that begins with a frame
 counted-cons : (frame : Frame) (rest : List Frame) → count_by is_transfer (frame ∷ rest)

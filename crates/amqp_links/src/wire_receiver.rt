@@ -1,6 +1,6 @@
 //! A receiving end that keeps what was put.
 
-ghost use Rattle.std.specs.Prelude.{◌≡◌, ◌≤◌, ◌∷◌, ◌++◌, [], None, IfOk, IfErr, OnOk, OnErr};
+ghost use Rattle.std.specs.Prelude.{◌≡◌, ◌≤◌, [], None, IfOk, IfErr, OnOk, OnErr};
 ghost use Rattle.amqp_links.specs.declared.errors.IllegalLinkStateError.TheVariants as link_errors;
 ghost use Rattle.amqp_links.specs.declared.messages.ReceiverMessage.TheVariants as messages;
 ghost use Rattle.amqp_txn_types.specs.Calls.{is_failing};
@@ -207,7 +207,7 @@ fn remove_from(properties: &mut Option<Fields>, key: &Symbol)
 }
 
 impl ReceiverLink for WireReceiver {
-    ghost use Rattle.std.specs.Prelude.{◌≡◌, option_map};
+    ghost use Rattle.std.specs.Prelude.{◌≡◌};
 
     ghost told = { receiver_tells };
 

@@ -1,5 +1,5 @@
 -- The work of an id, by the places of its cells.
-use Rattle.amqp_resource_log.proofs.Words.{Bool, Cell, Frame, List, None, Some, TransactionId, TxnWorkFrame, [], add-zero, ap, arith, cond, cons_option, false, frame_of_work, frames_in, is_some, length, map, places_from, refl, same_id, slice_get, stripped, subst, suc, sym, take, take_all, true, work_at, zero, zero-add, get_or, slice_get-get_or, ℕ, ◌++◌, ◌+◌, ◌<◌, ◌≤◌, ◌∙◌, ◌∷◌, ◌≡◌}
+use Rattle.amqp_resource_log.proofs.Words.{Bool, Cell, Frame, List, None, Some, TransactionId, TxnWorkFrame, [], add-zero, ap, arith, cond, cons_option, false, frame_of_work, frames_in, length, map, places_from, refl, same_id, slice_get, stripped, subst, suc, sym, take, take_all, true, work_at, zero, zero-add, get_or, slice_get-get_or, ℕ, ◌++◌, ◌+◌, ◌<◌, ◌≤◌, ◌∙◌, ◌∷◌, ◌≡◌}
 use Rattle.amqp_resource_log.specs.declared.cell.Cell.TheVariants as cells
 use Rattle.amqp_resource_log.proofs.Frames.{as_many, unless_here}
 

@@ -1,6 +1,6 @@
 //! The cells of the log, which are read by looks alone.
 
-ghost use Rattle.std.specs.Prelude.{◌≡◌, ◌<◌, ◌≤◌, ◌+◌, ◌^◌, ◌++◌, ◌∷◌, [], Some, cond, true, is_some, length, slice_get, slice_set, take, option_and_then, OnOk, IfNone, OnSome};
+ghost use Rattle.std.specs.Prelude.{◌≡◌, ◌<◌, ◌≤◌, ◌+◌, ◌^◌, ◌++◌, ◌∷◌, [], Some, true, is_some, length, slice_get, slice_set, take, option_and_then, OnOk, IfNone, OnSome};
 ghost use Rattle.std.specs.List.{SwappedAt};
 ghost use Rattle.amqp_resource_log.specs.Cells.{id_of, work_at};
 

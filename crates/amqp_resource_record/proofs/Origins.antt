@@ -15,7 +15,7 @@ use Rattle.amqp_resource_record.specs.declared.reply.Reply.{Reply}
 use Rattle.amqp_resource_record.specs.Entries.{steps_of}
 use Rattle.amqp_resource_record.specs.Live.{frame_places}
 use Rattle.amqp_resource_record.specs.Hands.{frames_at, frame_of_step, sources, sources_of, commits, hands}
-use Rattle.amqp_resource_record.specs.Work.{origins, work, given_back, handed_by, is_rejected, pairs, sources_by}
+use Rattle.amqp_resource_record.specs.Work.{origins, work, given_back, is_rejected, pairs, sources_by}
 use Rattle.amqp_resource_record.specs.Answers.{Answer}
 use Rattle.amqp_resource_record.specs.Legal.{IsLegal}
 use Rattle.amqp_resource_record.proofs.Looking.{frames_at-front, places-below}

@@ -14,7 +14,6 @@ use Rattle.amqp_txn_types.specs.declared.performatives.Frame.{Frame}
 use Rattle.amqp_txn_types.specs.declared.performatives.Frame.TheVariants as frames
 use Rattle.amqp_txn_types.specs.Frames.{txn, txn_of_state, is_coordinator_attach, is_plain_frame, is_plain_by, stripped, stripped_state, is_under_txn}
 use Rattle.amqp_txn_types.specs.declared.small.AmqpError.{AmqpError}
-use Rattle.amqp_txn_types.specs.declared.small.TransactionError.TheVariants as transaction_errors
 use Rattle.amqp_txn_codec.specs.declared.message.ControlMessageBody.{ControlMessageBody}
 use Rattle.amqp_txn_codec.specs.declared.message.ControlMessageBody.TheVariants as messages
 use Rattle.amqp_txn_codec.specs.declared.message.Declare.{Declare}
@@ -26,7 +25,6 @@ use Rattle.amqp_resource_record.specs.declared.step.Step.{Step}
 use Rattle.amqp_resource_record.specs.declared.step.Step.TheVariants as steps
 use Rattle.amqp_resource_record.specs.declared.reply.Reply.{Reply}
 use Rattle.amqp_resource_record.specs.declared.reply.Reply.TheVariants as replies
-use Rattle.amqp_resource_record.specs.declared.reply.RejectText.TheVariants as texts
 use Rattle.amqp_resource_record.specs.Entries.{attaches, closes, step_closes, declares, is_attached, reply_attaches, discharges, step_link, reply_declares, steps_of}
 use Rattle.amqp_resource_record.specs.Links.{is_open, attached_count}
 use Rattle.amqp_resource_record.specs.Live.{home, is_open_at, undischarged, is_held_on, since, frame_places}

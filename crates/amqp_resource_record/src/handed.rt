@@ -7,7 +7,6 @@ ghost use Rattle.amqp_resource_record.specs.Entries.{step_is_under};
 ghost use Rattle.amqp_txn_types.specs.Ids.{is_some_id};
 ghost use Rattle.amqp_resource_record.specs.Hands.{commits, commits_message, frame_of_step, frames_under, hands};
 ghost use Rattle.amqp_resource_record.specs.Work.{handed_by};
-ghost use Rattle.amqp_txn_codec.specs.Discharges.{is_rollback};
 
 use crate::entry::Entry;
 use crate::live_ids::{entries_since, is_held_on};

@@ -1,6 +1,6 @@
 //! Laws of records, for the reader: functions that do nothing, and whose contracts are the laws.
 
-ghost use Rattle.std.specs.Prelude.{◌≡◌, ◌↔◌, ℕ, Bool, true, false, Some, List, [], ◌∷◌, ◌++◌, length, map};
+ghost use Rattle.std.specs.Prelude.{◌≡◌, ◌↔◌, ℕ, true, false, Some, List, [], ◌∷◌, ◌++◌, length, map};
 ghost use Rattle.std.specs.List.{list_any};
 ghost use Rattle.amqp_txn_types.specs.declared.id.TransactionId.{TransactionId};
 ghost use Rattle.amqp_txn_types.specs.declared.performatives.Frame.{Frame};

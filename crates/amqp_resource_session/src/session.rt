@@ -1,6 +1,6 @@
 //! A session: what it keeps, the layer below, and whether it stopped.
 
-ghost use Rattle.std.specs.Prelude.{◌≡◌, ◌≤◌, ◌<◌, ◌+◌, ◌*◌, ◌-◌, ◌^◌, ◌↔◌, [], List, None, Some, Err, IfOk, IsTrue, map};
+ghost use Rattle.std.specs.Prelude.{◌≡◌, ◌≤◌, ◌<◌, ◌+◌, ◌*◌, ◌-◌, ◌^◌, ◌↔◌, [], List, None, IfOk, IsTrue, map};
 ghost use Rattle.amqp_resource_record.specs.declared.entry.Entry.{Entry};
 ghost use Rattle.amqp_resource_record.specs.Links.{attached_count};
 ghost use Rattle.amqp_resource_record.specs.Live.{is_live};

@@ -1,6 +1,6 @@
 //! A session behind its lock.
 
-ghost use Rattle.std.specs.Prelude.{◌≡◌, ◌<◌, ◌+◌, [], length, option_copied, slice_get, IfOk, IfSome, OnErr, OnOk, Err, None, ℕ, sum_by};
+ghost use Rattle.std.specs.Prelude.{◌≡◌, ◌<◌, [], length, option_copied, slice_get, IfOk, IfSome, OnErr, OnOk, Err, None, ℕ, sum_by};
 ghost use Rattle.std.specs.Sync.Mutex.{mutex_guard_value};
 ghost use Rattle.amqp_resource_record.specs.declared.stop.StepError.TheVariants as errors;
 ghost use Rattle.amqp_resource_session.specs.Session.{StandsFor, held_of, stop_of, told_of};

@@ -1,6 +1,6 @@
 //! What lies under the lock.
 
-ghost use Rattle.std.specs.Prelude.{◌≡◌, ◌+◌, ◌<◌, ◌≤◌, [], length, option_copied, slice_get, IfOk, IfSome, OnErr, OnOk, Err, None, ℕ, sum_by};
+ghost use Rattle.std.specs.Prelude.{◌≡◌, [], length, option_copied, slice_get, IfOk, IfSome, OnErr, OnOk, Err, None, ℕ, sum_by};
 ghost use Rattle.amqp_resource_record.specs.declared.stop.StepError.TheVariants as errors;
 ghost use Rattle.amqp_resource_session.specs.Session.{StandsFor, below_of, held_of, stop_of, told_of};
 ghost use Rattle.amqp_resource_shared.specs.Close.{ClosedBy, NotMissing, closed_of, why_of};

@@ -13,8 +13,8 @@ use amqp_resource_session::*;
 use amqp_test_values::{control_attach, disposition, leak, transfer as transfer_on, under};
 use amqp_txn_codec::{ControlMessageBody, Declare, Discharge};
 use amqp_txn_types::{
-    Attach, CallNumbers, DeliveryState, Detach, Disposition, Flow, Frame, Frames, NoMemory,
-    Payload, SessionState, Text, TransactionError, TransactionId, Transfer,
+    Attach, CallNumbers, DeliveryState, Disposition, Flow, Frame, Frames, NoMemory, Payload,
+    SessionState, Text, TransactionError, TransactionId, Transfer,
 };
 use std::alloc::Global;
 use std::mem::replace;

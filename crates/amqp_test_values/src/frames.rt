@@ -1,6 +1,6 @@
 //! Performatives of a session and of a link.
 
-ghost use Rattle.std.specs.Prelude.{◌≡◌, IfOk, None, Some};
+ghost use Rattle.std.specs.Prelude.{◌≡◌, IfOk, Some};
 ghost use Rattle.amqp_test_values.specs.Frames.{attach_of, begin_of, control_target, detach_of, disposition_of, flow_of, state_under, transfer_of, work_of};
 
 use amqp_txn_types::{

@@ -1,6 +1,6 @@
 //! `decode`, from the whole message down to the fields.
 
-ghost use Rattle.std.specs.Prelude.{◌≡◌, List, [], ◌∷◌, MatchResult, option_map, option_copied, IsTrue, ◌↔◌};
+ghost use Rattle.std.specs.Prelude.{◌≡◌, [], ◌∷◌, MatchResult, option_map, option_copied, IsTrue, ◌↔◌};
 ghost use Rattle.amqp_txn_codec.specs.declared.message.ControlMessageBody.{ControlMessageBody};
 ghost use Rattle.amqp_txn_codec.specs.Messages.{SpellsMessage};
 ghost use Rattle.amqp_txn_codec.specs.Reading.{message_of};

@@ -1,6 +1,6 @@
 //! The canonical spelling of a message.
 
-ghost use Rattle.std.specs.Prelude.{◌≡◌, ◌+◌, ◌≤◌, List, ◌++◌, length, take, drop, IfOk, ℕ, [], ◌∷◌};
+ghost use Rattle.std.specs.Prelude.{◌≡◌, ◌+◌, ◌≤◌, ◌++◌, length, take, drop, IfOk};
 ghost use Rattle.amqp_txn_codec.specs.Canon.{canon, with_id, IsWritten};
 ghost use Rattle.amqp_txn_codec.specs.Reading.{message_of};
 

@@ -1,6 +1,6 @@
 //! Lists, and the fields of the two messages.
 
-ghost use Rattle.std.specs.Prelude.{◌≡◌, ◌<◌, ◌≤◌, List, ◌++◌, length, option_copied, option_map, ℕ, Option, Bool, IsTrue, ◌↔◌};
+ghost use Rattle.std.specs.Prelude.{◌≡◌, ◌≤◌, length, option_map, IsTrue, ◌↔◌};
 ghost use Rattle.amqp_txn_codec.specs.Fields.{IsFail, IsDeclare};
 ghost use Rattle.amqp_txn_codec.specs.Walks.{Finds, FoundOctet, FoundNumber, FoundId, FoundCut, FoundFields, FoundList, FoundDischarge};
 

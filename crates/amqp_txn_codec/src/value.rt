@@ -1,6 +1,6 @@
 //! Values, of which only the end matters.
 
-ghost use Rattle.std.specs.Prelude.{◌≡◌, ◌<◌, ◌≤◌, List, length, drop, slice_range, IfSome, IfNone, ℕ, option_copied};
+ghost use Rattle.std.specs.Prelude.{◌≡◌, ◌≤◌, length, IfSome, IfNone, ℕ, option_copied};
 ghost use Rattle.amqp_txn_codec.specs.Values.{octets_after, IsValueBetween};
 ghost use Rattle.amqp_txn_codec.specs.Walks.{Finds, LeavesAfter};
 

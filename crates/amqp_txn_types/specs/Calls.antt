@@ -1,5 +1,5 @@
 -- The fallible calls of a body in memory.
-use Rattle.std.specs.Prelude.{ℕ, ◌==◌, Bool, Result, Ok, Err}
+use Rattle.std.specs.Prelude.{◌==◌, Bool, Result, Ok, Err}
 use Rattle.std.specs.List.{list_any}
 use Rattle.amqp_txn_types.specs.declared.calls.Calls.{Calls}
 use Rattle.amqp_txn_types.specs.Counts.{one_more}

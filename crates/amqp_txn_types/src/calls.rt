@@ -1,11 +1,10 @@
 //! The fallible calls of a body in memory.
 
-ghost use Rattle.std.specs.Prelude.{◌≡◌, ◌≤◌, Err, []};
+ghost use Rattle.std.specs.Prelude.{◌≡◌, ◌≤◌, Err};
 ghost use Rattle.amqp_txn_types.specs.Calls.{is_failing, called, faulted};
 
 use crate::counts::refuse;
 use crate::items::CallNumbers;
-use std::alloc::Global;
 
 /// The fallible calls of a body in memory, whichever they are: how many there were, how many
 /// failed, and the numbers, from 1, of those that are to fail.

@@ -1,13 +1,13 @@
 //! Text and symbols, which a contract sees as their octets in UTF-8.
 
-ghost use Rattle.std.specs.Prelude.{refl, Some, ◌≡◌, List, [], ◌++◌, ℕ, OnOk, OnErr, IfOk, IfErr, nat_eq, string_bytes};
+ghost use Rattle.std.specs.Prelude.{refl, Some, ◌≡◌, List, [], ◌++◌, ℕ, OnOk, OnErr, IfOk, IfErr, nat_eq};
 ghost use Rattle.std.specs.Char.{encode_utf8};
 ghost use Rattle.std.specs.Hash as fed;
 ghost use Rattle.std.specs.Ordering.{nat_cmp};
 ghost use Rattle.std.specs.Cmp.Lexicographic.{pointwise, nat_list_eq_equiv, slice_cmp, nat_list_cmp_total, texts_ties, texts_po};
 ghost use Rattle.std.specs.Cmp.{partial_equiv_from_equiv};
 ghost use Rattle.std.specs.Cmp.Rules.{hashing};
-ghost use Rattle.std.proofs.Common.{ap, rules};
+ghost use Rattle.std.proofs.Common.{rules};
 
 use crate::items::{NoMemory, TryClone};
 use crate::octets::AsOctets;

@@ -1,11 +1,9 @@
 -- What each call of a program answers, and what it leaves of a slot and of buffers.
-use Rattle.std.specs.Prelude.{ℕ, ◌≡◌, ◌≤◌, ◌<◌, ◌≢◌, ◌==◌, ◌%◌, ◌&&◌, ◌⊎◌, Bool, true, false, not, Option, Some, None, List, [], ◌++◌, length, drop, nat_le, nat_lt}
+use Rattle.std.specs.Prelude.{ℕ, ◌≡◌, ◌≤◌, ◌<◌, ◌==◌, ◌%◌, ◌&&◌, ◌⊎◌, Bool, true, false, Option, Some, None, List, [], ◌++◌, length, drop, nat_le, nat_lt}
 use Rattle.amqp_txn_types.specs.declared.id.TransactionId.{TransactionId}
 use Rattle.amqp_txn_types.specs.declared.performatives.Frame.{Frame}
 use Rattle.amqp_txn_codec.specs.declared.message.ControlMessageBody.{ControlMessageBody}
 use Rattle.amqp_txn_codec.specs.Canon.{canon}
-use Rattle.amqp_txn_codec.specs.Reading.{message_of}
-use Rattle.amqp_resource_record.specs.declared.entry.Entry.{Entry}
 use Rattle.amqp_resource_session.specs.Session.{bare_frames_on}
 use Rattle.daxurbi_layer.specs.Answering.{answer_of}
 use Rattle.daxurbi_layer.specs.declared.below_answer.BelowAnswer.{BelowAnswer}
@@ -17,7 +15,7 @@ use Rattle.daxurbi_session.specs.declared.control_payloads.MessageKind.{MessageK
 use Rattle.daxurbi_session.specs.declared.control_payloads.MessageKind.TheVariants as kinds
 use Rattle.daxurbi_session.specs.declared.slot_session.SlotSession.{SlotSession}
 use Rattle.daxurbi_session.specs.declared.slot_session.Stepped.{Stepped}
-use Rattle.daxurbi.specs.Numbers.{kind_of, number_of, step_code}
+use Rattle.daxurbi.specs.Numbers.{number_of, step_code}
 
 -- ---- slots
 

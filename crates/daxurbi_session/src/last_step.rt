@@ -1,7 +1,5 @@
 //! What the last step of a session made.
 
-ghost use Rattle.std.specs.Prelude.{◌≡◌};
-
 use amqp_below_layer::Exchanges;
 use amqp_resource_record::{Entry, Stop};
 

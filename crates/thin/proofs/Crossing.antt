@@ -1,5 +1,4 @@
 -- What a slot owns and shows names no key of a thread, where its value names none.
-use mathlib.Core.List.{[], ◌∷◌}
 use mir.Raw.{raw}
 use base.Shift.{Keyless}
 use denote.RattleType.{RattleType}

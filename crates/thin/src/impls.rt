@@ -1,6 +1,5 @@
 // Copies, comparisons and the printed form of a `Thin`: those of an `Option`.
 
-ghost use Rattle.std.specs.Prelude.{◌≡◌, Option, None, Some};
 ghost use Rattle.std.specs.Option.{option_eq};
 ghost use Rattle.std.specs.Fmt.{debug_option};
 ghost use Rattle.std.proofs.Common.{rules};

@@ -1,5 +1,5 @@
 -- Audits for which memory ran out, and those of an input that was read.
-use Rattle.std.proofs.Common.{◌≡◌, ℕ, ◌⊎◌, inl, inr, Option, Some, None, List, refl, subst}
+use Rattle.std.proofs.Common.{◌≡◌, ℕ, inl, inr, Option, Some, None, List, refl, subst}
 use Rattle.std.specs.Prelude.{codes, IfSome, string_bytes}
 use Rattle.std.specs.declared.string.String.{String}
 use Rattle.amqp_txn_types.specs.declared.id.TransactionId.{TransactionId}

@@ -1,6 +1,6 @@
 //! The audit of a whole report.
 
-ghost use Rattle.std.specs.Prelude.{◌≡◌, ◌↔◌, ◌<◌, ◌&&◌, true, false, nat_lt, length, IfOk, IsTrue};
+ghost use Rattle.std.specs.Prelude.{◌≡◌, ◌↔◌, ◌<◌, ◌&&◌, true, nat_lt, IfOk, IsTrue};
 ghost use Rattle.txn_program_lines.specs.Cutting.{lines_of};
 ghost use Rattle.txn_audit_fits.specs.Fits.{Fits};
 ghost use Rattle.txn_audit_fits.specs.Departing.{Differs};

@@ -1,5 +1,5 @@
 -- Lines of a report that don't show a frame that was given back.
-use Rattle.std.proofs.Common.{◌≡◌, ℕ, true, false, List, ◌++◌, refl}
+use Rattle.std.proofs.Common.{◌≡◌, true, false, ◌++◌, refl}
 use Rattle.std.specs.Prelude.{codes}
 use Rattle.amqp_resource_record.specs.declared.stop.StopCode.{StopCode}
 use Rattle.amqp_resource_record.specs.declared.reply.Reply.{Reply}

@@ -1,6 +1,6 @@
 //! A layer with queues.
 
-ghost use Rattle.std.specs.Prelude.{ℕ, ◌≡◌, ◌≤◌, List, [], IfErr, IfOk, IsSome, OnOk, OnErr, Some, None, cond, length, map, nat_eq, option_copied, slice_get};
+ghost use Rattle.std.specs.Prelude.{ℕ, ◌≡◌, ◌≤◌, List, [], IfErr, IfOk, IsSome, OnOk, OnErr, Some, None, cond, length, nat_eq, option_copied, slice_get};
 ghost use Rattle.std.specs.BTreeMap.{get, is_at};
 ghost use Rattle.std.specs.Cmp.Lexicographic.{pointwise};
 ghost use Rattle.indexmap.specs.IndexSet.{insert_key};

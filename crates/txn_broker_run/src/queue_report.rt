@@ -1,6 +1,6 @@
 //! The report of a run over a broker.
 
-ghost use Rattle.std.specs.Prelude.{◌≡◌, ◌++◌, length, string_bytes, IfOk, OnOk};
+ghost use Rattle.std.specs.Prelude.{◌≡◌, ◌++◌, string_bytes, IfOk, OnOk};
 ghost use Rattle.std.specs.List.{flat_map};
 ghost use Rattle.txn_broker_queues.specs.Taking.{taken_of};
 ghost use Rattle.txn_broker_run.specs.Reporting.{broker_text, message_line, queue_text, queues_text};

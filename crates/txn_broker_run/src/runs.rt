@@ -1,6 +1,6 @@
 //! A run for words and an input.
 
-ghost use Rattle.std.specs.Prelude.{◌≡◌, Some, None, List, ℕ, IfOk, IfSome, string_bytes};
+ghost use Rattle.std.specs.Prelude.{◌≡◌, Some, List, ℕ, IfOk, IfSome, string_bytes};
 ghost use Rattle.txn_broker_run.specs.Serving.{DrivesNothing, RunsInput, RunsReading, RunsSpelled, RunsSteps, ServesBroker, broker_words};
 ghost use Rattle.txn_program_edges.specs.Reading.{source_of};
 ghost use Rattle.txn_program_edges.specs.Unserved.{unserved_status, unserved_text};

@@ -1,6 +1,6 @@
 //! Steps over messages that are gone, within a queue.
 
-ghost use Rattle.std.specs.Prelude.{ℕ, ◌≡◌, ◌≤◌, ◌<◌, ◌+◌, Some, None, length, slice_get, slice_set, IfSome};
+ghost use Rattle.std.specs.Prelude.{ℕ, ◌≡◌, ◌<◌, ◌+◌, Some, length, slice_get, slice_set, IfSome};
 ghost use Rattle.txn_broker_table.specs.declared.cell.Cell.{Cell as C};
 ghost use Rattle.txn_broker_table.specs.Marks.{is_waiting_in};
 ghost use Rattle.txn_broker_table.specs.Linking.{EndFits, Finds, LeadsOn, LinksFit, Prepared, Relinked, first_with, marks_of, queue_at};

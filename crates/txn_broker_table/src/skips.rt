@@ -1,8 +1,7 @@
 //! Steps over messages that are gone, by number.
 
-ghost use Rattle.std.specs.Prelude.{ℕ, ◌≡◌, ◌≤◌, ◌<◌, ◌+◌, ◌⊎◌, false, true, Some, length, map, slice_get, slice_set, vec_capacity, vec_len};
+ghost use Rattle.std.specs.Prelude.{◌≡◌, ◌≤◌, ◌<◌, ◌+◌, Some, length, slice_get, slice_set};
 ghost use Rattle.txn_broker_table.specs.declared.cell.Cell.{Cell as C};
-ghost use Rattle.txn_broker_table.specs.declared.mark.Mark.{Mark as M};
 ghost use Rattle.txn_broker_table.specs.Marks.{Removes, gone, is_waiting};
 ghost use Rattle.txn_broker_table.specs.Linking.{Faded, NonePasses, SkipsFit, marks_of};
 

@@ -1,6 +1,6 @@
 //! The messages of some queues, by number.
 
-ghost use Rattle.std.specs.Prelude.{◌≡◌, ◌≤◌, ◌<◌, ◌+◌, ◌++◌, ◌∷◌, [], OnOk, OnErr, IfOk, length, take, slice_get, option_copied};
+ghost use Rattle.std.specs.Prelude.{◌≡◌, ◌≤◌, ◌<◌, ◌+◌, ◌++◌, ◌∷◌, [], OnOk, OnErr, IfOk, length, take, slice_get};
 ghost use Rattle.txn_broker_table.specs.Marks.{Removes, came, is_waiting_in, numbers_in};
 ghost use Rattle.txn_broker_table.specs.Linking.{Finds, Linked, marks_of};
 

@@ -1,5 +1,5 @@
 -- How runs of a mailbox end.
-use Rattle.std.proofs.Common.{◌≡◌, ℕ, ◌⊎◌, inl, inr, Bool, Option, Some, None, List, [], refl, sym, ap, ◌∙◌, subst}
+use Rattle.std.proofs.Common.{◌≡◌, ℕ, inl, inr, Bool, Option, Some, None, List, refl, sym, ap, ◌∙◌, subst}
 use Rattle.std.specs.Prelude.{IfSome}
 use Rattle.amqp_txn_types.specs.declared.id.TransactionId.{TransactionId}
 use Rattle.amqp_txn_types.proofs.Growing.{grown-nil}
@@ -11,7 +11,6 @@ use Rattle.amqp_below_recorder.specs.declared.recorder.Recorder.{Recorder}
 use Rattle.amqp_below_streams.specs.Streams.{SinkTold, SourceTold}
 use Rattle.txn_program_edges.specs.Unserved.{unserved_status, unserved_text}
 use Rattle.txn_program_edges.specs.Writing.{EndsWith, Wrote}
-use Rattle.txn_program_edges.specs.declared.input.Reading.{Reading}
 use Rattle.txn_program_edges.specs.declared.input.Reading.TheVariants as readings
 use Rattle.txn_program_edges.specs.declared.unserved.Unserved.{Unserved}
 use Rattle.txn_mailbox.specs.declared.lists.TwoLists.{TwoLists}

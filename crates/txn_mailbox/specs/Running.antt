@@ -6,7 +6,6 @@ use Rattle.amqp_below_layer.specs.Told.{Told}
 use Rattle.amqp_below_layer.specs.declared.open.OpenSession.{OpenSession}
 use Rattle.amqp_below_recorder.specs.declared.recorder.Recorder.{Recorder}
 use Rattle.amqp_below_streams.specs.Streams.{SinkTold, SourceTold}
-use Rattle.amqp_resource_record.specs.declared.step.Step.{Step}
 use Rattle.amqp_resource_session.specs.declared.session.TxnSession.{TxnSession}
 use Rattle.amqp_resource_session.specs.Session.{IsFresh, below_of}
 use Rattle.amqp_txn_types.specs.declared.id.TransactionId.{TransactionId}

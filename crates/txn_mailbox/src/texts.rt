@@ -1,6 +1,6 @@
 //! What is written of a mailbox.
 
-ghost use Rattle.std.specs.Prelude.{◌≡◌, ◌==◌, length, string_bytes, IfOk};
+ghost use Rattle.std.specs.Prelude.{◌≡◌, ◌==◌, string_bytes, IfOk};
 ghost use Rattle.std.specs.List.{count_by};
 ghost use Rattle.txn_mailbox.specs.Texts.{counts_text};
 

@@ -1,6 +1,6 @@
 //! What is made before a step is.
 
-ghost use Rattle.std.specs.Prelude.{◌≡◌, ◌<◌, ◌≤◌, ◌+◌, ◌^◌, true, [], length, vec_capacity, IfOk, codes};
+ghost use Rattle.std.specs.Prelude.{◌≡◌, ◌<◌, ◌≤◌, ◌+◌, ◌^◌, true, [], length, vec_capacity, IfOk};
 ghost use Rattle.crossbeam_queue.specs.Passes.{view, IsPassOf};
 ghost use Rattle.txn_mailbox_queue.specs.Order.{view_of};
 ghost use Rattle.txn_mailbox_serving.specs.Steps.{control_attach, first_attach, second_attach};

@@ -1,25 +1,21 @@
 -- The agreement of the two sides.
-use Rattle.std.proofs.Common.{◌≡◌, ℕ, zero, suc, ◌+◌, ◌<◌, ◌≤◌, Bool, true, false, cond, not, ◌&&◌, ◌||◌, Option, Some, None, List, [], ◌∷◌, ◌++◌, length, map, take, refl, sym, ◌∙◌, ap, arith, subst, append-nil, append_assoc, ◌⊎◌, inl, inr, add-zero}
+use Rattle.std.proofs.Common.{◌≡◌, ℕ, zero, suc, ◌+◌, ◌<◌, ◌≤◌, Bool, true, false, cond, ◌||◌, Option, Some, None, List, [], ◌∷◌, ◌++◌, length, take, refl, sym, ◌∙◌, ap, arith, subst, append-nil, append_assoc, ◌⊎◌, inl, inr}
 use Rattle.std.specs.Prelude.{◌==◌}
-use Rattle.std.specs.List.{list_any, AllByRecursion}
-use Rattle.std.proofs.lemmas.List.{length-append}
 use Rattle.std.proofs.lemmas.Bool.{cases_lt, eqb-true, eq-eqb, false_from_ne_true}
 use Rattle.amqp_txn_types.specs.declared.id.TransactionId.{TransactionId}
 use Rattle.amqp_txn_types.specs.declared.performatives.Frame.{Frame}
-use Rattle.amqp_txn_types.specs.Frames.{txn, is_coordinator_attach, is_plain_by, is_plain_frame}
-use Rattle.amqp_txn_types.specs.Ids.{same_id, is_some_id}
+use Rattle.amqp_txn_types.specs.Frames.{txn, is_coordinator_attach, is_plain_frame}
+use Rattle.amqp_txn_types.specs.Ids.{same_id}
 use Rattle.amqp_txn_codec.specs.declared.message.ControlMessageBody.{ControlMessageBody}
 use Rattle.amqp_txn_codec.specs.declared.message.ControlMessageBody.TheVariants as messages
-use Rattle.amqp_txn_codec.specs.Canon.{canon}
 use Rattle.amqp_txn_codec.specs.Discharges.{is_rollback}
 use Rattle.amqp_txn_codec.specs.Reading.{message_of}
 use Rattle.amqp_resource_record.specs.declared.entry.Entry.{Entry}
 use Rattle.amqp_resource_record.specs.declared.step.Step.{Step}
 use Rattle.amqp_resource_record.specs.declared.step.Step.TheVariants as steps
 use Rattle.amqp_resource_record.specs.declared.stop.StopCode.{StopCode}
-use Rattle.amqp_resource_record.specs.declared.stop.StopCode.TheVariants as codes
 use Rattle.amqp_resource_record.specs.Links.{is_open}
-use Rattle.amqp_resource_record.specs.Live.{is_live, is_held_on, undischarged, home, frame_places}
+use Rattle.amqp_resource_record.specs.Live.{is_live, frame_places}
 use Rattle.amqp_resource_record.specs.Hands.{sources, sources_of, commits, commits_message, if_open}
 use Rattle.amqp_resource_record.specs.Work.{origins}
 use Rattle.amqp_resource_record.specs.Legal.{IsLegal}
@@ -37,16 +33,16 @@ use Rattle.txn_parties.specs.declared.item.ReplyState.TheVariants as states
 use Rattle.txn_parties.specs.declared.event.Heard.{Heard}
 use Rattle.txn_parties.specs.declared.event.Heard.TheVariants as hearings
 use Rattle.txn_parties.specs.Times.{times, RisingFrom}
-use Rattle.txn_parties.specs.Items.{declare_message, declares_on, discharge_message, is_discharge, item_ends, item_under, or_else, step_of}
+use Rattle.txn_parties.specs.Items.{declare_message, declares_on, discharge_message, item_ends, item_under, or_else, step_of}
 use Rattle.txn_parties.specs.BackWire.{heard_by, id_in, verdict, verdict_in}
-use Rattle.txn_parties.specs.Exchange.{Exchange, back_of, entries_of, forward, heard, items_of, record_of}
+use Rattle.txn_parties.specs.Exchange.{Exchange, back_of, forward, heard, items_of, record_of}
 use Rattle.txn_parties.specs.Spans.{drawn_on, from_link, span, span_from, stop_places, within}
 use Rattle.txn_parties.specs.Turns.{MayStop}
-use Rattle.txn_parties.specs.Lives.{Life, Unborn, Runs, Took, Spent, Holds, Apart, Fits, Running, Dead, life_in}
-use Rattle.txn_parties.specs.Invariant.{Spans, Agrees, One, Past, PutFits, Ready, Halted, Keeps}
-use Rattle.txn_parties.specs.Agreement.{AllOf, CommitWaits, NoneOf, PartOf, Open, NoneHanded, AllHanded, PartHanded, Means, StopsSure}
+use Rattle.txn_parties.specs.Lives.{Life, Unborn, Runs, Took, Spent, Holds, Fits, Running, Dead, life_in}
+use Rattle.txn_parties.specs.Invariant.{One, Ready, Halted, Keeps}
+use Rattle.txn_parties.specs.Agreement.{AllOf, NoneOf, Open, NoneHanded, AllHanded, PartHanded, Means, StopsSure}
 use Rattle.txn_parties.proofs.Once.{once, times-append, times-cons, times-below, own_or, held_live, origins-below, plain_under}
-use Rattle.txn_parties.proofs.Living.{declare_read, discharge_read, fits_short, not_own, rollback_of}
+use Rattle.txn_parties.proofs.Living.{declare_read, discharge_read, fits_short, not_own}
 use Rattle.txn_parties.proofs.Wires.{found_first, verdict_in-append}
 use Rattle.txn_parties.proofs.Turning.{fits_now, heard_back}
 

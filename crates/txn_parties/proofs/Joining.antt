@@ -1,13 +1,13 @@
 -- What was taken since two parties began, event by event.
 use Rattle.std.proofs.Common.{◌≡◌, ℕ, zero, suc, ◌+◌, ◌<◌, ◌≤◌, Bool, true, false, cond, not, Option, Some, None, List, [], ◌∷◌, ◌++◌, length, map, take, refl, sym, ◌∙◌, ap, arith, subst, append-nil, append_assoc}
 use Rattle.std.specs.Prelude.{slice_get}
-use Rattle.std.specs.List.{flat_map, AllByRecursion, zip}
+use Rattle.std.specs.List.{AllByRecursion, zip}
 use Rattle.std.proofs.lemmas.List.{length-append, map-append, length-map}
 use Rattle.std.proofs.lemmas.List.Concat.{flat_map-append}
 use Rattle.amqp_txn_types.specs.Growing.{grown}
 use Rattle.amqp_txn_types.specs.declared.id.TransactionId.{TransactionId}
 use Rattle.amqp_txn_types.specs.declared.performatives.Frame.{Frame}
-use Rattle.amqp_txn_types.specs.Frames.{is_coordinator_attach, is_plain_by, is_plain_frame, stripped, txn}
+use Rattle.amqp_txn_types.specs.Frames.{is_coordinator_attach, is_plain_by, stripped, txn}
 use Rattle.amqp_txn_types.proofs.Growing.{grown-grown, grown-nil}
 use Rattle.amqp_below_layer.specs.OneFrame.{TookFrames}
 use Rattle.amqp_resource_record.specs.declared.entry.Entry.{Entry}
@@ -35,8 +35,8 @@ use Rattle.txn_parties.specs.declared.item.Halt.{Halt}
 use Rattle.txn_parties.specs.Items.{step_of}
 use Rattle.txn_parties.specs.Exchange.{Begins, Exchange, begun, entries_of, forward, items_of, record_of}
 use Rattle.txn_parties.specs.Spans.{drawn_on, stop_places}
-use Rattle.txn_parties.specs.Turns.{Arrives, Follows, IsAnswered, IsStopped, Turn, TurnArrive, TurnCut, TurnPut, TurnReturn, entry_by, put_of, with_answer, with_heard, with_put, with_stop}
-use Rattle.txn_parties.specs.Invariant.{Halted, Keeps}
+use Rattle.txn_parties.specs.Turns.{Arrives, Follows, IsAnswered, IsStopped, Turn, TurnArrive, TurnCut, TurnPut, TurnReturn, entry_by, put_of, with_heard, with_put, with_stop}
+use Rattle.txn_parties.specs.Invariant.{Keeps}
 use Rattle.txn_parties.specs.Taken.{Grew, TookSince, all_steps, frames_drawn}
 use Rattle.txn_parties.proofs.Once.{commit_control, origins-below}
 use Rattle.txn_parties.proofs.Turning.{forward_put, record_more}

@@ -1,14 +1,14 @@
 -- One entry more, for each transaction.
-use Rattle.std.proofs.Common.{◌≡◌, ℕ, suc, ◌+◌, ◌<◌, ◌≤◌, Bool, true, false, cond, not, ◌&&◌, ◌||◌, Option, Some, None, List, [], ◌∷◌, ◌++◌, length, refl, sym, ◌∙◌, ap, arith, subst, append-nil, append_assoc, ◌⊎◌, inl, inr}
-use Rattle.std.specs.Prelude.{◌==◌, IfSome}
-use Rattle.std.specs.List.{AllByRecursion, list_any, list_all}
+use Rattle.std.proofs.Common.{◌≡◌, ℕ, ◌<◌, ◌≤◌, Bool, true, false, cond, not, ◌&&◌, ◌||◌, Option, Some, None, List, [], ◌∷◌, ◌++◌, length, refl, sym, ◌∙◌, ap, arith, subst, append-nil, append_assoc, ◌⊎◌, inl, inr}
+use Rattle.std.specs.Prelude.{◌==◌}
+use Rattle.std.specs.List.{list_any}
 use Rattle.std.proofs.lemmas.List.{length-append}
 use Rattle.std.proofs.lemmas.List.Folds.{list_any-append}
-use Rattle.std.proofs.lemmas.Bool.{cases_lt, eqb-true, eq-eqb, and_parts, false_from_ne_true}
+use Rattle.std.proofs.lemmas.Bool.{cases_lt, eqb-true, eq-eqb, false_from_ne_true}
 use Rattle.amqp_txn_types.specs.declared.id.TransactionId.{TransactionId}
 use Rattle.amqp_txn_types.specs.declared.performatives.Frame.{Frame}
 use Rattle.amqp_txn_types.specs.Frames.{txn}
-use Rattle.amqp_txn_types.specs.Ids.{same_id, is_some_id}
+use Rattle.amqp_txn_types.specs.Ids.{same_id}
 use Rattle.amqp_txn_types.specs.declared.small.AmqpError.{AmqpError}
 use Rattle.amqp_txn_types.specs.declared.small.TransactionError.{TransactionError}
 use Rattle.amqp_txn_types.specs.declared.small.TransactionError.TheVariants as transaction_errors
@@ -30,7 +30,7 @@ use Rattle.amqp_resource_record.specs.declared.reply.RejectText.TheVariants as t
 use Rattle.amqp_resource_record.specs.Entries.{attaches, reply_attaches, closes, step_closes, declares, reply_declares, discharges, step_discharges, message_discharges, is_under, step_link}
 use Rattle.amqp_resource_record.specs.Links.{is_open, attached_count}
 use Rattle.amqp_resource_record.specs.Live.{since, home, is_link, is_live, is_held_on, is_open_at, undischarged, frame_places}
-use Rattle.amqp_resource_record.specs.Hands.{sources, sources_of, commits}
+use Rattle.amqp_resource_record.specs.Hands.{sources_of}
 use Rattle.amqp_resource_record.specs.Work.{origins, sources_by}
 use Rattle.amqp_resource_record.specs.Answers.{Answer, AnswerFrame, AnswerLinkEnd, AnswerDeclare, AnswerDischarge, AnswerControl, AnswerMessage}
 use Rattle.amqp_resource_record.specs.Legal.{IsLegal}
@@ -45,7 +45,7 @@ use Rattle.txn_parties.specs.Times.{times}
 use Rattle.txn_parties.specs.Items.{declare_message, discharge_message, step_of}
 use Rattle.txn_parties.specs.Turns.{entry_by, IsShort}
 use Rattle.txn_parties.specs.Lives.{Life, Unborn, Runs, Took, Spent, born, ended, runs_next, unborn_next, next_life, Dead, Running, Holds, Apart, Fits}
-use Rattle.txn_parties.proofs.Once.{once, own_or, times-below, discharged_other, origins_times, places_times, added, added_least, After, New, Old, after, Hands, Nothing, Itself, Commits, hands_what, sources_all}
+use Rattle.txn_parties.proofs.Once.{once, own_or, times-below, origins_times, places_times, added, added_least, After, New, Old, after, Hands, Nothing, Itself, Commits, hands_what}
 
 -- ---- live ids
 

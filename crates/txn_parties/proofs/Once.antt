@@ -1,15 +1,14 @@
 -- Of every legal record: no place is handed twice.
-use Rattle.std.proofs.Common.{◌≡◌, ℕ, suc, ◌+◌, ◌<◌, ◌≤◌, Bool, true, false, cond, not, ◌&&◌, ◌||◌, Option, Some, None, List, [], ◌∷◌, ◌++◌, length, refl, sym, ◌∙◌, ap, arith, subst, append-nil, ◌⊎◌, inl, inr}
+use Rattle.std.proofs.Common.{◌≡◌, ℕ, ◌+◌, ◌<◌, ◌≤◌, Bool, true, false, cond, not, ◌&&◌, Option, Some, None, List, [], ◌∷◌, ◌++◌, length, refl, sym, ◌∙◌, ap, arith, subst, ◌⊎◌, inl, inr}
 use Rattle.std.specs.Prelude.{◌==◌}
-use Rattle.std.specs.List.{AllByRecursion, count_by}
+use Rattle.std.specs.List.{AllByRecursion}
 use Rattle.std.proofs.lemmas.List.{length-append}
 use Rattle.std.proofs.lemmas.List.Sums.{sum_by-append}
-use Rattle.std.proofs.lemmas.Bool.{eqb-true, and_parts, false_from_ne_true}
+use Rattle.std.proofs.lemmas.Bool.{eqb-true, and_parts}
 use Rattle.amqp_txn_types.specs.declared.id.TransactionId.{TransactionId}
 use Rattle.amqp_txn_types.specs.declared.performatives.Frame.{Frame}
 use Rattle.amqp_txn_types.specs.Frames.{txn, is_coordinator_attach, is_plain_by, is_plain_frame}
 use Rattle.amqp_txn_types.specs.Ids.{same_id, is_some_id}
-use Rattle.amqp_txn_types.specs.declared.small.TransactionError.TheVariants as transaction_errors
 use Rattle.amqp_txn_codec.specs.declared.message.ControlMessageBody.{ControlMessageBody}
 use Rattle.amqp_txn_codec.specs.declared.message.ControlMessageBody.TheVariants as messages
 use Rattle.amqp_txn_codec.specs.Discharges.{is_rollback}
@@ -19,7 +18,6 @@ use Rattle.amqp_resource_record.specs.declared.step.Step.{Step}
 use Rattle.amqp_resource_record.specs.declared.step.Step.TheVariants as steps
 use Rattle.amqp_resource_record.specs.declared.reply.Reply.{Reply}
 use Rattle.amqp_resource_record.specs.declared.reply.Reply.TheVariants as replies
-use Rattle.amqp_resource_record.specs.declared.reply.RejectText.TheVariants as texts
 use Rattle.amqp_resource_record.specs.Entries.{declares, reply_declares, discharges, step_discharges, message_discharges, is_under, step_is_under}
 use Rattle.amqp_resource_record.specs.Links.{is_open}
 use Rattle.amqp_resource_record.specs.Live.{since, home, is_link, is_live, is_held_on, undischarged, frame_places}

@@ -1,42 +1,36 @@
 -- What the layer below took, by the places that were drawn on.
-use Rattle.std.proofs.Common.{◌≡◌, ℕ, zero, suc, ◌+◌, ◌<◌, ◌≤◌, Bool, true, false, cond, not, Option, Some, None, List, [], ◌∷◌, ◌++◌, length, map, take, drop, refl, sym, ◌∙◌, ap, arith, subst, append-nil, append_assoc, add-zero}
+use Rattle.std.proofs.Common.{◌≡◌, ℕ, zero, suc, ◌+◌, ◌<◌, ◌≤◌, Bool, true, false, cond, Option, Some, None, List, [], ◌∷◌, ◌++◌, length, map, take, drop, refl, sym, ◌∙◌, ap, arith, subst, append-nil, append_assoc}
 use Rattle.std.specs.Prelude.{slice_get}
-use Rattle.std.specs.List.{flat_map, AllByRecursion, zip}
+use Rattle.std.specs.List.{AllByRecursion, zip}
 use Rattle.std.proofs.lemmas.List.{length-append, map-append, length-map, take-append-drop, length-take-le, take-map}
-use Rattle.std.proofs.lemmas.List.Concat.{flat_map-append}
 use Rattle.amqp_txn_types.specs.Growing.{grown}
 use Rattle.amqp_txn_types.specs.declared.id.TransactionId.{TransactionId}
 use Rattle.amqp_txn_types.specs.declared.performatives.Frame.{Frame}
-use Rattle.amqp_txn_types.specs.Frames.{is_coordinator_attach, is_plain_by, is_plain_frame, stripped, txn}
-use Rattle.amqp_txn_types.proofs.Growing.{grown-grown, grown-nil}
+use Rattle.amqp_txn_types.specs.Frames.{is_plain_frame, stripped}
 use Rattle.amqp_below_layer.specs.OneFrame.{TookFrames}
 use Rattle.amqp_below_ids.specs.Drawn.{DrawnIds}
 use Rattle.amqp_resource_record.specs.declared.entry.Entry.{Entry}
 use Rattle.amqp_resource_record.specs.declared.step.Step.{Step}
 use Rattle.amqp_resource_record.specs.declared.step.Step.TheVariants as steps
 use Rattle.amqp_resource_record.specs.declared.reply.Reply.{Reply}
-use Rattle.amqp_resource_record.specs.declared.reply.Reply.TheVariants as replies
-use Rattle.amqp_resource_record.specs.Entries.{is_attached, is_under, step_is_under, steps_of}
+use Rattle.amqp_resource_record.specs.Entries.{is_under, step_is_under, steps_of}
 use Rattle.amqp_resource_record.specs.Live.{frame_places, frame_places_from, places_from, since}
 use Rattle.amqp_resource_record.specs.Hands.{commits, frame_of_step, frames_at, hands, sources, sources_of}
 use Rattle.amqp_resource_record.specs.Work.{given_by, handed_by, is_rejected, origins, sources_by}
-use Rattle.amqp_resource_record.specs.Answers.{Answer, AnswerFrame}
-use Rattle.amqp_resource_record.specs.Legal.{IsLegal}
-use Rattle.amqp_resource_record.proofs.Places.{slice_get-append, slice_get-at}
-use Rattle.amqp_resource_record.proofs.Looking.{frames_at-front, since-below}
-use Rattle.amqp_resource_record.proofs.Whole.{given_lengths, legal_induction, zip-append}
+use Rattle.amqp_resource_record.specs.Answers.{Answer}
+use Rattle.amqp_resource_record.proofs.Places.{slice_get-at}
+use Rattle.amqp_resource_record.proofs.Looking.{since-below}
+use Rattle.amqp_resource_record.proofs.Whole.{given_lengths}
 use Rattle.amqp_resource_record.proofs.Origins.{origins-snoc}
-use Rattle.txn_parties.specs.declared.event.Event.{Event}
-use Rattle.txn_parties.specs.declared.event.Happened.{Happened}
 use Rattle.txn_parties.specs.declared.item.Item.{Item}
 use Rattle.txn_parties.specs.declared.item.Halt.{Halt}
 use Rattle.txn_parties.specs.Items.{step_of}
-use Rattle.txn_parties.specs.Exchange.{Begins, Exchange, begun, entries_of, forward, items_of, record_of}
-use Rattle.txn_parties.specs.Spans.{drawn_on, stop_places}
-use Rattle.txn_parties.specs.Turns.{entry_by, with_answer, with_put, with_stop}
-use Rattle.txn_parties.specs.Invariant.{Halted, Keeps}
-use Rattle.txn_parties.specs.Taken.{Grew, TookSince, all_steps, frames_drawn}
-use Rattle.txn_parties.proofs.Wires.{items-snoc, entries-snoc}
+use Rattle.txn_parties.specs.Exchange.{Exchange, items_of, record_of}
+use Rattle.txn_parties.specs.Spans.{stop_places}
+use Rattle.txn_parties.specs.Turns.{entry_by, with_answer, with_stop}
+use Rattle.txn_parties.specs.Invariant.{Keeps}
+use Rattle.txn_parties.specs.Taken.{Grew, all_steps}
+use Rattle.txn_parties.proofs.Wires.{items-snoc}
 use Rattle.txn_parties.proofs.Turning.{record_more}
 
 -- each of these places is a frame's

@@ -1,11 +1,11 @@
 -- What is so of all that arrived, with one item more; and of two parties, after one event.
-use Rattle.std.proofs.Common.{◌≡◌, ℕ, suc, ◌+◌, ◌<◌, ◌≤◌, Bool, true, false, cond, not, ◌&&◌, ◌||◌, Option, Some, None, List, [], ◌∷◌, ◌++◌, length, map, refl, sym, ◌∙◌, ap, arith, subst, append-nil, append_assoc, ◌⊎◌, inl, inr, add-zero}
+use Rattle.std.proofs.Common.{◌≡◌, ℕ, ◌+◌, ◌≤◌, Bool, true, false, cond, ◌||◌, Option, Some, None, List, [], ◌∷◌, ◌++◌, length, map, refl, sym, ◌∙◌, ap, arith, subst, append-nil, append_assoc}
 use Rattle.std.specs.Prelude.{◌==◌}
-use Rattle.std.specs.List.{list_any, flat_map, count_by}
+use Rattle.std.specs.List.{list_any, count_by}
 use Rattle.std.proofs.lemmas.List.{length-append, map-append, length-map}
 use Rattle.std.proofs.lemmas.List.Folds.{list_any-append}
 use Rattle.std.proofs.lemmas.List.Sums.{sum_by-append}
-use Rattle.std.proofs.lemmas.Bool.{eqb-true, eq-eqb, false_from_ne_true}
+use Rattle.std.proofs.lemmas.Bool.{eqb-true, false_from_ne_true}
 use Rattle.amqp_txn_types.specs.declared.id.TransactionId.{TransactionId}
 use Rattle.amqp_txn_types.specs.declared.performatives.Frame.{Frame}
 use Rattle.amqp_txn_types.specs.declared.performatives.Frame.TheVariants as frames
@@ -24,16 +24,15 @@ use Rattle.amqp_resource_record.proofs.Whole.{IsLegal-snoc}
 use Rattle.txn_parties.specs.declared.event.Event.{Event}
 use Rattle.txn_parties.specs.declared.event.Event.TheVariants as events
 use Rattle.txn_parties.specs.declared.event.Happened.{Happened}
-use Rattle.txn_parties.specs.declared.event.Heard.{Heard}
 use Rattle.txn_parties.specs.declared.item.Item.{Item}
 use Rattle.txn_parties.specs.declared.item.Item.TheVariants as items
 use Rattle.txn_parties.specs.declared.item.Answered.{Answered}
 use Rattle.txn_parties.specs.declared.item.Halt.{Halt}
-use Rattle.txn_parties.specs.Items.{controller_in, ends_link, is_any_declare, is_declare, is_discharge, item_ends, made_in, or_else, step_of}
+use Rattle.txn_parties.specs.Items.{controller_in, is_any_declare, is_declare, is_discharge, item_ends, made_in, step_of}
 use Rattle.txn_parties.specs.BackWire.{answers, id_in, verdict_in}
 use Rattle.txn_parties.specs.Exchange.{Begins, Exchange, back_of, begun, entries_of, forward, items_of, made, record_of}
 use Rattle.txn_parties.specs.Turns.{Arrives, Follows, IsAnswered, IsShort, IsStopped, MayStop, Turn, TurnArrive, TurnCut, TurnPut, TurnReturn, discharge_of, entry_by, has_link, if_id, if_link, put_of, state_under, with_answer, with_heard, with_put, with_stop}
-use Rattle.txn_parties.specs.Lives.{Life, Unborn, Runs, Took, Spent, fate_from, next_life, runs_next, unborn_next, born, ended, life_in, Holds, Apart, Fits, Running}
+use Rattle.txn_parties.specs.Lives.{Life, Unborn, Runs, Took, Spent, next_life, born, ended, life_in, Holds, Apart, Fits, Running}
 use Rattle.txn_parties.specs.Invariant.{Spans, HasEnded, Marks, Agrees, One, Past, PutFits, Ready, Halted, Keeps}
 use Rattle.txn_parties.proofs.Living.{life_holds, declared_dead}
 use Rattle.txn_parties.proofs.Wires.{fate_from-snoc, items-snoc, entries-snoc, back-snoc, spans_next, marks_next, agrees_next, FreshDeclare, found_first, id_in-append}

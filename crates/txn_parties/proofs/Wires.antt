@@ -1,11 +1,11 @@
 -- The wires: one item more.
-use Rattle.std.proofs.Common.{◌≡◌, ℕ, suc, ◌+◌, ◌<◌, ◌≤◌, Bool, true, false, cond, not, ◌&&◌, ◌||◌, Option, Some, None, List, [], ◌∷◌, ◌++◌, length, map, refl, sym, ◌∙◌, ap, arith, subst, append-nil, append_assoc, ◌⊎◌, inl, inr, add-zero}
+use Rattle.std.proofs.Common.{◌≡◌, ℕ, ◌+◌, Bool, true, false, cond, ◌||◌, Option, Some, None, List, [], ◌∷◌, ◌++◌, length, refl, sym, ◌∙◌, ap, arith, subst, append-nil, append_assoc, add-zero}
 use Rattle.std.specs.Prelude.{◌==◌}
-use Rattle.std.specs.List.{list_any, flat_map}
-use Rattle.std.proofs.lemmas.List.{length-append, map-append, length-map}
+use Rattle.std.specs.List.{list_any}
+use Rattle.std.proofs.lemmas.List.{map-append}
 use Rattle.std.proofs.lemmas.List.Folds.{list_any-append}
 use Rattle.std.proofs.lemmas.List.Concat.{flat_map-append}
-use Rattle.std.proofs.lemmas.Bool.{eqb-true, eq-eqb, false_from_ne_true}
+use Rattle.std.proofs.lemmas.Bool.{eqb-true, false_from_ne_true}
 use Rattle.amqp_txn_types.specs.declared.id.TransactionId.{TransactionId}
 use Rattle.amqp_txn_types.specs.declared.performatives.Frame.{Frame}
 use Rattle.amqp_txn_types.specs.Frames.{txn}
@@ -19,7 +19,7 @@ use Rattle.txn_parties.specs.declared.item.Asked.TheVariants as asked
 use Rattle.txn_parties.specs.declared.item.Answered.{Answered}
 use Rattle.txn_parties.specs.declared.event.Heard.{Heard}
 use Rattle.txn_parties.specs.declared.event.Heard.TheVariants as hearings
-use Rattle.txn_parties.specs.Items.{or_else, is_declare, is_discharge, ends_link, item_ends, item_under, declares_on, controller_in}
+use Rattle.txn_parties.specs.Items.{or_else, is_declare, is_discharge, item_ends, declares_on, controller_in}
 use Rattle.txn_parties.specs.BackWire.{answers, id_in, verdict_in, verdict, declared_id, state_of, asked_by}
 use Rattle.txn_parties.specs.Exchange.{items_of, entries_of, back_of}
 use Rattle.txn_parties.specs.Spans.{within, span_from, from_link}

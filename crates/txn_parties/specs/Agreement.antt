@@ -1,6 +1,6 @@
 -- The agreement of the two sides: what it means that a transaction heard this or that. Where the
 -- places of its frames are among those that were drawn on, the layer below took its frames.
-use Rattle.std.specs.Prelude.{ℕ, ◌≡◌, ◌<◌, ◌≤◌, Bool, true, false, Option, Some, None, List, [], ◌∷◌, ◌++◌, length, take}
+use Rattle.std.specs.Prelude.{ℕ, ◌≡◌, ◌<◌, ◌≤◌, Bool, true, false, Some, List, ◌∷◌, ◌++◌, length, take}
 use Rattle.amqp_txn_types.specs.declared.id.TransactionId.{TransactionId}
 use Rattle.amqp_txn_types.specs.declared.small.TransactionError.{TransactionError}
 use Rattle.amqp_below_layer.specs.declared.answers.Answers.{Answers}

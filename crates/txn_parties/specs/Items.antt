@@ -2,7 +2,7 @@
 -- transaction. The sections named here and in the files that follow are those of part 4 of the
 -- standard (OASIS AMQP 1.0, Transactions).
 use Rattle.std.specs.Prelude.{ℕ, ◌==◌, Bool, true, false, cond, ◌||◌, Option, Some, None, List, [], ◌∷◌}
-use Rattle.std.specs.List.{list_any, count_by}
+use Rattle.std.specs.List.{count_by}
 use Rattle.amqp_txn_types.specs.Ids.{is_some_id}
 use Rattle.amqp_txn_types.specs.declared.id.TransactionId.{TransactionId}
 use Rattle.amqp_txn_types.specs.Frames.{txn}

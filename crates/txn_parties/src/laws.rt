@@ -1,6 +1,6 @@
 //! Laws of two parties, for the reader: functions that do nothing, whose contracts are the laws.
 
-ghost use Rattle.std.specs.Prelude.{◌≡◌, Bool, Option, None, List, [], ◌∷◌, ◌++◌, length, take};
+ghost use Rattle.std.specs.Prelude.{◌≡◌, Bool, Option, None, List, [], ◌∷◌, ◌++◌, take};
 ghost use Rattle.std.specs.List.{zip};
 ghost use Rattle.amqp_txn_types.specs.Growing.{grown};
 ghost use Rattle.amqp_txn_types.specs.declared.id.TransactionId.{TransactionId};

@@ -1,6 +1,5 @@
 //! The lines of events, each by its table.
 
-ghost use Rattle.std.specs.Prelude.{◌≡◌, Some};
 ghost use Rattle.txn_parties.specs.declared.event.Event.TheVariants as events;
 ghost use Rattle.txn_program_lines.specs.Lines.{alone};
 ghost use Rattle.txn_program_lines.specs.Reads.{Reads, words_left};

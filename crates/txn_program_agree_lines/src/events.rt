@@ -1,6 +1,6 @@
 //! The events of an input.
 
-ghost use Rattle.std.specs.Prelude.{◌≡◌, ◌++◌, ◌∷◌, [], length, OnOk};
+ghost use Rattle.std.specs.Prelude.{◌≡◌, ◌++◌, ◌∷◌, [], OnOk};
 ghost use Rattle.txn_program_agree_lines.specs.EventLines.{SpellsEvents, input_events};
 
 use crate::event_lines::event_of_line;

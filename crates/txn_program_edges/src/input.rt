@@ -1,6 +1,6 @@
 //! The octets of an input, up to a limit.
 
-ghost use Rattle.std.specs.Prelude.{◌≡◌, ◌≤◌, ◌<◌, length, take, IfOk, OnErr};
+ghost use Rattle.std.specs.Prelude.{◌≤◌, ◌<◌, length, take, IfOk, OnErr};
 ghost use Rattle.amqp_txn_types.specs.Counts.{Rose};
 ghost use Rattle.txn_program_edges.specs.Reading.{Finds, IsEndAt, IsRead, source_of};
 

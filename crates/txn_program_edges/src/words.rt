@@ -3,7 +3,7 @@
 ghost use Rattle.std.specs.Prelude.{◌≡◌, ◌≤◌, ◌<◌, ◌==◌, length, IfOk, IfSome};
 ghost use Rattle.std.specs.List.{slice_split};
 ghost use Rattle.txn_program_lines.specs.LineWords.{between};
-ghost use Rattle.txn_program_edges.specs.Words.{AreSome, call_of, count_of, each, id_of, call_list_of, id_list_of, id_words, list_words, seed_words, some_few};
+ghost use Rattle.txn_program_edges.specs.Words.{AreSome, call_of, count_of, each, id_of, call_list_of, id_list_of, id_words, list_words, seed_words};
 
 use amqp_txn_types::{CallNumbers, Items, NoMemory, Text, TransactionId};
 use hex::FromHexError;

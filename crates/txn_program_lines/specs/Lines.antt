@@ -1,5 +1,5 @@
 -- The steps of the input: its lines, the words of a line, and the step that the words spell.
-use Rattle.std.specs.Prelude.{ℕ, ◌+◌, ◌==◌, false, Option, Some, None, Result, Ok, Err, List, [], ◌∷◌, codes, if◌then◌else◌}
+use Rattle.std.specs.Prelude.{ℕ, false, Option, Some, None, Result, List, [], ◌∷◌, codes, if◌then◌else◌}
 use Rattle.std.specs.Int.{w32, to_be_bytes}
 use Rattle.std.specs.Str.{bytes_eq}
 use Rattle.amqp_txn_types.specs.declared.small.Role.{Role}

@@ -1,9 +1,8 @@
 //! The lines of frames, each by its table.
 
-ghost use Rattle.std.specs.Prelude.{◌≡◌, IfOk, Some};
-ghost use Rattle.amqp_txn_types.specs.declared.performatives.Frame.TheVariants as frames;
+ghost use Rattle.std.specs.Prelude.{◌≡◌, IfOk};
 ghost use Rattle.amqp_txn_types.specs.Frames.{state_of_outcomes};
-ghost use Rattle.txn_program_lines.specs.Lines.{attach_line, attach_of, coordinator, detach_line, disposition_line, disposition_of, first_count, flow_line, flow_of, frame_of_words, link_flow_line, link_line, node, post_line, retire_line, tag_of, transfer_line, transfer_of, state_under, format_of};
+ghost use Rattle.txn_program_lines.specs.Lines.{attach_line, attach_of, detach_line, disposition_line, disposition_of, first_count, flow_line, flow_of, frame_of_words, link_flow_line, link_line, node, post_line, retire_line, tag_of, transfer_line, transfer_of, state_under, format_of};
 ghost use Rattle.txn_program_lines.specs.Reads.{Reads, words_left};
 
 use crate::line_words::{

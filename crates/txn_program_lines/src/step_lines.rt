@@ -1,9 +1,8 @@
 //! The lines of steps, each by its table.
 
-ghost use Rattle.std.specs.Prelude.{◌≡◌, Some};
 ghost use Rattle.amqp_txn_types.specs.declared.delivery.ConnectionStopReason.TheVariants as reasons;
 ghost use Rattle.amqp_resource_record.specs.declared.step.Step.TheVariants as steps;
-ghost use Rattle.txn_program_lines.specs.Lines.{alone, control_line, link_end_line, frame_step, step_of_line, step_of_words};
+ghost use Rattle.txn_program_lines.specs.Lines.{alone, control_line, link_end_line, step_of_line, step_of_words};
 ghost use Rattle.txn_program_lines.specs.Reads.{Reads, words_left};
 
 use crate::frame_lines::frame_of_words;

@@ -1,5 +1,5 @@
 -- A call for which memory ran out before anything was read, driven or written.
-use Rattle.std.proofs.Common.{◌≡◌, ℕ, ◌⊎◌, inl, inr, Option, Some, None, refl}
+use Rattle.std.proofs.Common.{inl, inr, Option, Some, None, refl}
 use Rattle.amqp_below_layer.specs.Told.{Told}
 use Rattle.amqp_below_recorder.specs.declared.recorder.Recorder.{Recorder}
 use Rattle.amqp_below_streams.specs.Streams.{SinkTold, SourceTold}

@@ -1,5 +1,5 @@
 -- What a run of the program answers: its statuses, its record, what was taken, and what is written.
-use Rattle.std.specs.Prelude.{ℕ, ◌≡◌, ◌↔◌, ◌++◌, Option, Some, None, Result, Ok, Err, List, [], length, take, codes, unwrap_or, ◌⊎◌, IsNone, IsOkAnd}
+use Rattle.std.specs.Prelude.{ℕ, ◌≡◌, ◌↔◌, Option, Some, None, Result, Ok, Err, List, [], length, take, codes, unwrap_or, ◌⊎◌, IsNone, IsOkAnd}
 use Rattle.txn_program_edges.specs.Unserved.{line_text}
 use Rattle.amqp_txn_types.specs.declared.id.TransactionId.{TransactionId}
 use Rattle.amqp_txn_types.specs.declared.performatives.Frame.{Frame}

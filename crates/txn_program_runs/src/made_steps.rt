@@ -1,6 +1,6 @@
 //! The steps of a made run: transactions in pairs, every third rolled back.
 
-ghost use Rattle.std.specs.Prelude.{◌≡◌, ◌≤◌, ◌+◌, ◌++◌, IfOk, OnOk};
+ghost use Rattle.std.specs.Prelude.{◌≡◌, ◌≤◌, ◌++◌, IfOk, OnOk};
 ghost use Rattle.txn_program_runs.specs.Made.{made, made_alone, made_attach, made_declare, made_discharge, made_fail, made_from, made_pair, made_post, two_posts};
 
 use amqp_below_ids::numbered_id;

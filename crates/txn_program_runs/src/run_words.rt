@@ -1,7 +1,6 @@
 //! The words of `run`, `listen` and `make`.
 
 ghost use Rattle.std.specs.Prelude.{◌≡◌, IfOk};
-ghost use Rattle.txn_program_edges.specs.Words.{AreSome};
 ghost use Rattle.txn_program_runs.specs.RunWords.{IsWithin, asks_for, command_over, run_command_of, make_words, refusing_words, run_of, run_words, starving_or, starving_words};
 
 use amqp_txn_types::{CallNumbers, NoMemory, Text};

@@ -1,9 +1,7 @@
 //! The summary of a made run.
 
-ghost use Rattle.std.specs.Prelude.{◌≡◌, ◌≤◌, ◌++◌, decimal, length, string_bytes, IfOk, OnOk};
-ghost use Rattle.std.specs.List.{count_by};
+ghost use Rattle.std.specs.Prelude.{◌≡◌, ◌≤◌, length, string_bytes, IfOk};
 ghost use Rattle.amqp_txn_codec.specs.Reading.{message_of};
-ghost use Rattle.txn_program_report.specs.Report.{line};
 ghost use Rattle.txn_program_runs.specs.Made.{ends_by, ends_count, made_text, step_ends_by};
 
 use amqp_resource_record::{Entry, Reply, Step};

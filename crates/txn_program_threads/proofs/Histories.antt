@@ -1,20 +1,19 @@
 -- What receipts that are the history say of it.
-use Rattle.std.proofs.Common.{◌≡◌, ℕ, suc, zero, ◌≤◌, ◌||◌, eqb, Bool, true, false, Option, Some, None, List, [], ◌∷◌, length, slice_get, count_by, refl, sym, ◌∙◌, ap, subst, arith}
+use Rattle.std.proofs.Common.{◌≡◌, ℕ, suc, zero, ◌≤◌, ◌||◌, eqb, Bool, true, false, Some, List, [], ◌∷◌, length, slice_get, count_by, refl, sym, ◌∙◌, ap, subst}
 use Rattle.std.specs.List.{IsDistinct, list_any}
-use Rattle.amqp_txn_types.specs.declared.id.TransactionId.{TransactionId}
 use Rattle.amqp_resource_record.specs.declared.entry.Entry.{Entry}
 use Rattle.amqp_resource_record.specs.declared.step.Step.{Step}
-use Rattle.amqp_resource_shared.specs.Receipts.{EachOfEntry, HasReceipt, code_told, is_recorded, is_told, numbers_of, step_told}
+use Rattle.amqp_resource_shared.specs.Receipts.{EachOfEntry, HasReceipt, code_told, is_recorded, numbers_of, step_told}
 use Rattle.amqp_resource_shared.specs.ReplyCodes.{code_of_reply}
 use Rattle.amqp_resource_shared.specs.declared.receipt.Receipt.{Receipt}
 use Rattle.amqp_resource_shared.specs.declared.reply_code.ReplyCode.{ReplyCode}
 use Rattle.amqp_resource_shared.proofs.ReceiptLaws.{entry-receipt, kinds-agree}
 use Rattle.txn_program_threads.specs.Gathered.{EachStepAmong, IsGathered, IsStepAmong}
-use Rattle.txn_program_threads.specs.Histories.{AreOfWorkers, GaveId, GaveLink, IsStepOfWorkers}
+use Rattle.txn_program_threads.specs.Histories.{AreOfWorkers, IsStepOfWorkers}
 use Rattle.txn_program_threads.proofs.Statuses.{refused-counted}
 use Rattle.txn_program_workers.specs.Tallies.{IsTallyOf, Kind, attached, closed, declared, ended, posted, refused, tally_of}
 use Rattle.txn_program_workers.specs.WorkerSteps.{attaches_on}
-use Rattle.txn_program_workers.specs.Works.{ToldId, ToldLink, attach_told, gives_id, gives_link}
+use Rattle.txn_program_workers.specs.Works.{attach_told, gives_id, gives_link}
 use Rattle.txn_program_workers.proofs.Working.{step-map}
 
 or-first : (a b : Bool) → a ≡ true → (a || b) ≡ true

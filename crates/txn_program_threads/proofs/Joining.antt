@@ -1,7 +1,7 @@
 -- What workers give back, put together one after another.
-use Rattle.std.proofs.Common.{◌≡◌, ◌≢◌, ℕ, ◌+◌, ◌-◌, ◌*◌, ◌/◌, ◌≤◌, ◌==◌, Bool, true, false, cond, List, [], ◌∷◌, ◌++◌, length, length-append, count_by, sum_by, refl, sym, ◌∙◌, ap, subst, arith}
+use Rattle.std.proofs.Common.{◌≡◌, ℕ, ◌+◌, ◌-◌, ◌*◌, ◌/◌, ◌≤◌, ◌==◌, Bool, true, false, cond, List, [], ◌∷◌, ◌++◌, length-append, count_by, refl, ◌∙◌, ap, subst, arith}
 use Rattle.std.proofs.lemmas.Bool.Decides.{nat_tests}
-use Rattle.std.proofs.lemmas.List.Sums.{sum_by-append, sum_by-cons, sum_by_push}
+use Rattle.std.proofs.lemmas.List.Sums.{sum_by-append, sum_by-cons}
 use Rattle.amqp_txn_types.specs.declared.id.TransactionId.{TransactionId}
 use Rattle.amqp_resource_record.specs.declared.step.Step.{Step}
 use Rattle.amqp_resource_shared.specs.Receipts.{code_told, is_told, step_told}
@@ -9,7 +9,7 @@ use Rattle.amqp_resource_shared.specs.declared.receipt.Receipt.{Receipt}
 use Rattle.txn_program_threads.specs.Gathered.{EachStepAmong, IsGathered, IsStepAmong}
 use Rattle.txn_program_workers.specs.Tallies.{IsTallyOf, attached, closed, declared, ended, posted, refused, tally_of}
 use Rattle.txn_program_workers.specs.WorkerSteps.{IsWorkerStep, attaches, attaches_on, declares, discharges, posts, worker_attach}
-use Rattle.txn_program_workers.specs.Works.{EachStepIn, IsStepIn, IsWork, StillTold, attach_told, gives_id, gives_link}
+use Rattle.txn_program_workers.specs.Works.{EachStepIn, IsWork, StillTold, attach_told, gives_id, gives_link}
 use Rattle.txn_program_workers.proofs.Working.{any-after, declare-no_attach, discharge-no_attach, post-no_attach, step-map, told-append}
 
 count-append : {X : Type 0} (p : X → Bool) (xs ys : List X) → count_by p (xs ++ ys) ≡ count_by p xs + count_by p ys

@@ -1,6 +1,6 @@
 -- The end of a run of workers.
-use Rattle.std.proofs.Common.{◌≡◌, ◌≢◌, ℕ, ◌+◌, ◌-◌, ◌*◌, ◌/◌, ◌^◌, ◌<◌, ◌≤◌, ◌⊎◌, min, eqb, ◌==◌, ◌&&◌, Bool, true, false, cond, Option, Some, None, IfSome, List, [], ◌∷◌, ◌++◌, length, map, count_by, is_none, inl, inr, refl, sym, ◌∙◌, ap, subst, arith, if◌then◌else◌}
-use Rattle.std.specs.List.{IsDistinct, list_any}
+use Rattle.std.proofs.Common.{◌≡◌, ℕ, ◌+◌, ◌-◌, ◌*◌, ◌^◌, ◌<◌, ◌≤◌, ◌⊎◌, min, ◌==◌, ◌&&◌, Bool, true, false, Option, Some, None, List, length, count_by, is_none, inl, inr, refl, sym, ◌∙◌, ap, subst, arith, if◌then◌else◌}
+use Rattle.std.specs.List.{list_any}
 use Rattle.std.proofs.lemmas.List.{length-map}
 use Rattle.amqp_txn_types.specs.Counts.{Rose}
 use Rattle.amqp_txn_types.specs.declared.id.TransactionId.{TransactionId}
@@ -13,7 +13,6 @@ use Rattle.amqp_resource_record.specs.Entries.{drawn_of}
 use Rattle.amqp_resource_session.specs.Session.{below_of, held_of, stop_of}
 use Rattle.amqp_resource_session.specs.declared.session.TxnSession.{TxnSession}
 use Rattle.amqp_resource_held.specs.declared.held.Held.{Held}
-use Rattle.amqp_resource_held.specs.Views.{view_of_record}
 use Rattle.amqp_resource_record.proofs.Origins.{firsts_of_pairs}
 use Rattle.amqp_resource_record.specs.Legal.{IsLegal}
 use Rattle.amqp_resource_record.specs.Opened.{attach_refused_count}

@@ -1,5 +1,5 @@
 -- Refusals in a history, and the status of a run of workers.
-use Rattle.std.specs.Prelude.{ℕ, ◌==◌, ◌&&◌, Bool, true, false, Option, Some, None, List, [], ◌∷◌, is_none, if◌then◌else◌}
+use Rattle.std.specs.Prelude.{ℕ, ◌==◌, ◌&&◌, Bool, true, false, Option, Some, None, List, is_none, if◌then◌else◌}
 use Rattle.std.specs.List.{count_by, find}
 use Rattle.amqp_below_layer.specs.declared.inner_error.SessionInnerError.TheVariants as faults
 use Rattle.amqp_resource_record.specs.declared.entry.Entry.{Entry}

@@ -2,7 +2,6 @@
 
 ghost use Rattle.std.specs.Prelude.{◌≡◌, option_copied};
 ghost use Rattle.std.specs.List.{count_by};
-ghost use Rattle.amqp_resource_shared.specs.Receipts.{is_recorded};
 ghost use Rattle.txn_program_threads.specs.Statuses.{first_refused, is_refused_attach, is_refused_reply, is_starved_attach, starved_by, threads_status};
 
 use amqp_below_layer::SessionInnerError;

@@ -1,6 +1,6 @@
 //! The end of a run of workers, by what `close` answered.
 
-ghost use Rattle.std.specs.Prelude.{◌≡◌, ◌<◌, ◌^◌, ◌⊎◌, false, length, true, None};
+ghost use Rattle.std.specs.Prelude.{◌≡◌, ◌<◌, ◌^◌, ◌⊎◌, false, length, true};
 ghost use Rattle.amqp_resource_shared.specs.Close.{closed_of, why_of};
 ghost use Rattle.txn_program_threads.specs.Runs.{EndsCounted, Leaves, RanOut};
 

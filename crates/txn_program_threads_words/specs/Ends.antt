@@ -1,5 +1,5 @@
 -- What a run of the words of `threads` leaves.
-use Rattle.std.specs.Prelude.{ℕ, ◌≡◌, ◌++◌, [], Some, None, Option, Result, Ok, Err, List, codes}
+use Rattle.std.specs.Prelude.{ℕ, ◌≡◌, ◌++◌, Some, None, Option, Result, Ok, Err, List, codes}
 use Rattle.std.specs.Fmt.{decimal}
 use Rattle.amqp_below_layer.specs.Told.{Told}
 use Rattle.amqp_below_recorder.specs.Recording.{inner_of}

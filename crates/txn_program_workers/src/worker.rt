@@ -1,6 +1,6 @@
 //! One worker: its attach, then its rounds.
 
-ghost use Rattle.std.specs.Prelude.{◌≡◌, ◌≤◌, ◌<◌, ◌+◌, ◌-◌, ◌*◌, ◌/◌, ◌^◌, [], false, length, vec_capacity, IfSome, MatchOption, OnSome};
+ghost use Rattle.std.specs.Prelude.{◌≡◌, ◌≤◌, ◌<◌, ◌+◌, ◌*◌, [], false, IfSome, MatchOption, OnSome};
 ghost use Rattle.amqp_resource_shared.specs.Receipts.{is_told, step_told};
 ghost use Rattle.txn_program_workers.specs.AtWork.{IsReady, SameWorker};
 ghost use Rattle.txn_program_workers.specs.Tallies.{closed, tally_of};

@@ -1,6 +1,6 @@
 //! The steps of a worker.
 
-ghost use Rattle.std.specs.Prelude.{◌≡◌, ◌++◌, ◌<◌, ◌^◌, codes, decimal, string_bytes, IfOk};
+ghost use Rattle.std.specs.Prelude.{◌≡◌, ◌++◌, codes, decimal, string_bytes, IfOk};
 ghost use Rattle.txn_program_runs.specs.Made.{made_fail};
 ghost use Rattle.txn_program_workers.specs.WorkerSteps.{IsReadable, SpellsDischarge, worker_attach, worker_declare, worker_discharge, worker_post};
 

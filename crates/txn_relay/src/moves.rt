@@ -1,7 +1,6 @@
 //! What a relay puts under a transaction.
 
 ghost use Rattle.std.specs.Prelude.{◌≡◌, IfOk};
-ghost use Rattle.txn_parties.specs.declared.event.Event.TheVariants as events;
 ghost use Rattle.txn_relay.specs.Moves.{post_of, retirement_of, transfer_on};
 
 use amqp_txn_types::{Binary, Disposition, Handle, NoMemory, Outcome, Role, Transfer, TryClone};

@@ -6,7 +6,7 @@ ghost use Rattle.txn_broker_queues.specs.Queues.{queue};
 ghost use Rattle.txn_broker_queues.specs.declared.message.Message.{Message as M};
 ghost use Rattle.txn_broker_queues.specs.Taking.{taken_of};
 ghost use Rattle.txn_parties.specs.Exchange.{heard, made};
-ghost use Rattle.txn_relay.specs.Going.{BeginsWith, Goes, IsFirst, PutFirst, next_after, next_for, next_of};
+ghost use Rattle.txn_relay.specs.Going.{BeginsWith, Goes, IsFirst, PutFirst, next_after, next_for};
 ghost use Rattle.txn_relay.specs.Moves.{from_name, post_of, put_since, retirement_of, to_name};
 ghost use Rattle.txn_relay.specs.Once.{heard_committed};
 ghost use Rattle.txn_relay.specs.Relaying.{Holds, IsReady, RelaySays};

@@ -1,18 +1,17 @@
 -- A broker that is filled with messages, one after another.
-use Rattle.std.proofs.Common.{◌≡◌, ℕ, zero, suc, ◌+◌, ◌≤◌, ◌<◌, Bool, true, false, cond, Option, Some, None, List, [], ◌∷◌, ◌++◌, length, take, get_or, refl, sym, ◌∙◌, ap, arith, subst, append-nil}
-use Rattle.std.specs.List.{list_any, cons_option}
+use Rattle.std.proofs.Common.{◌≡◌, ℕ, suc, ◌+◌, ◌<◌, cond, Some, None, List, [], ◌∷◌, ◌++◌, length, take, get_or, refl, sym, ◌∙◌, ap, arith}
+use Rattle.std.specs.List.{list_any}
 use Rattle.std.specs.Prelude.{option_to_list}
 use Rattle.std.proofs.lemmas.List.{length-append, length-take-le, take_more}
 use Rattle.amqp_txn_types.specs.declared.performatives.Frame.{Frame}
 use Rattle.amqp_txn_types.specs.declared.performatives.Frame.TheVariants as frames
-use Rattle.amqp_txn_types.specs.declared.small.Role.TheVariants as roles
 use Rattle.txn_broker_queues.proofs.Snoc.{link_work, messages_more, sent_new}
 use Rattle.txn_broker_queues.specs.declared.message.Message.{Message}
 use Rattle.txn_broker_queues.specs.Queues.{attaches, link_after, messages, queue, queue_found, sent_on}
 use Rattle.txn_broker_queues.specs.Taking.{Board, taken_of}
 use Rattle.txn_relay.specs.Moves.{from_handle, from_name, to_handle, to_name, transfer_on}
 use Rattle.txn_relay.proofs.Queues.{found_parts, sent_to, there_more, transfer_more}
-use Rattle.txn_relay_run.specs.Filling.{Filled, IsFilled, attach_to, numbered}
+use Rattle.txn_relay_run.specs.Filling.{Filled, attach_to, numbered}
 
 pub numbered_more : (n : ℕ) (payloads : List (List ℕ)) (payload : List ℕ) → numbered n (payloads ++ payload ∷ []) ≡ numbered n payloads ++ record { number = n + length payloads; payload = payload } ∷ []
 numbered_more n [] payload = let e : n ≡ n + 0 = omega arith in ap (λ k. record { number = k; payload = payload } ∷ []) e

@@ -1,5 +1,5 @@
 -- What a call leaves, by what it came to.
-use Rattle.std.proofs.Common.{◌≡◌, ℕ, ◌+◌, ◌≤◌, ◌<◌, Option, Some, None, Result, Ok, Err, List, [], length, refl, sym, ◌∙◌, ap, arith, subst, inl, inr}
+use Rattle.std.proofs.Common.{◌≡◌, ℕ, ◌≤◌, ◌<◌, Option, Some, None, Result, Ok, List, length, refl, sym, ap, arith, subst, inl, inr}
 use Rattle.std.specs.Prelude.{IfOk, codes}
 use Rattle.amqp_txn_types.specs.declared.id.TransactionId.{TransactionId}
 use Rattle.amqp_txn_types.specs.declared.items.NoMemory.{NoMemory}
@@ -14,7 +14,7 @@ use Rattle.txn_relay.specs.Relaying.{Draws, Holds, Relaying}
 use Rattle.txn_relay_run.specs.Playing.{HadAll, HadSome}
 use Rattle.txn_relay_run.proofs.Counting.{messages_few}
 use Rattle.txn_relay_run.specs.Scripts.{script_of}
-use Rattle.txn_relay_run.specs.Serving.{IsStart, IsWithinLimit, Plays, ReadFor, RelaysNothing, RelaysReading, RelaysScript, Runs, ServesRelay}
+use Rattle.txn_relay_run.specs.Serving.{IsStart, IsWithinLimit, Plays, ReadFor, RelaysNothing, RelaysScript, Runs, ServesRelay}
 use Rattle.txn_relay_run.specs.declared.runs.RelayRan.{RelayRan}
 use Rattle.txn_relay_run.specs.declared.script.Script.{Script}
 

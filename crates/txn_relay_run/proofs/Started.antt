@@ -1,8 +1,7 @@
 -- A relay over a filled broker, before its first event.
-use Rattle.std.proofs.Common.{◌≡◌, ℕ, ◌+◌, true, Option, Some, List, [], refl, sym, ◌∙◌, ap, arith, subst}
+use Rattle.std.proofs.Common.{◌≡◌, ℕ, ◌+◌, true, Option, List, ◌∙◌, ap, arith}
 use Rattle.std.proofs.lemmas.Option.{same_Some}
 use Rattle.amqp_txn_types.specs.declared.id.TransactionId.{TransactionId}
-use Rattle.amqp_txn_types.specs.declared.performatives.Frame.{Frame}
 use Rattle.amqp_below_ids.specs.declared.list_ids.ListIds.{ListIds}
 use Rattle.txn_broker_queues.specs.Queues.{link_after, queue_found}
 use Rattle.txn_broker_queues.specs.Taking.{Board, frames_of, taken_of, told_by}
@@ -10,9 +9,8 @@ use Rattle.txn_broker_queues.specs.declared.message.Message.{Message}
 use Rattle.txn_world.specs.Beginning.{Began}
 use Rattle.txn_world.specs.Happening.{TwoParties}
 use Rattle.txn_relay.specs.Moves.{from_handle, from_name, to_handle, to_name}
-use Rattle.txn_relay.specs.Relaying.{IsReady, Relaying}
+use Rattle.txn_relay.specs.Relaying.{IsReady}
 use Rattle.txn_relay_run.specs.Filling.{IsFilled, numbered}
-use Rattle.txn_relay_run.specs.Serving.{IsStart}
 
 ready_from : (next : ListIds → ℕ → TransactionId) (starts : ListIds → Option (ℕ → TransactionId)) (below : Board) (ids : ListIds) (world : TwoParties Board ListIds) (work : List Message) → Began told_by true next starts below ids 1 world → IsFilled below work → IsReady world work
 ready_from next starts below ids world work b f =

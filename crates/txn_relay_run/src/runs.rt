@@ -1,6 +1,6 @@
 //! A relay for words and an input.
 
-ghost use Rattle.std.specs.Prelude.{◌≡◌, ◌<◌, ◌≤◌, List, Some, ℕ, length, string_bytes, IfOk, IfSome};
+ghost use Rattle.std.specs.Prelude.{◌≡◌, ◌<◌, ◌≤◌, Some, length, IfOk, IfSome};
 ghost use Rattle.txn_program_edges.specs.Reading.{source_of};
 ghost use Rattle.txn_program_edges.specs.Unserved.{unserved_status, unserved_text};
 ghost use Rattle.txn_program_edges.specs.Writing.{EndsWith, Wrote, sink_of};

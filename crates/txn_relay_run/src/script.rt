@@ -1,13 +1,11 @@
 //! The messages and the events that the lines of an input spell.
 
-ghost use Rattle.std.specs.Prelude.{◌≡◌, ◌++◌, ◌∷◌, [], OnOk};
 ghost use Rattle.txn_program_lines.specs.Lines.{alone};
 ghost use Rattle.txn_program_lines.specs.Reads.{Reads, words_left};
-ghost use Rattle.txn_relay.specs.declared.event.RelayEvent.TheVariants as relay_events;
 ghost use Rattle.txn_relay_run.specs.Scripts.{SpellsScript, line_of, line_of_words, message_line, script_of};
 ghost use Rattle.txn_relay_run.specs.declared.script.Line.TheVariants as kinds;
 
-use amqp_txn_types::{Items, NoMemory, Payload};
+use amqp_txn_types::{Items, Payload};
 use std::alloc::Global;
 use txn_program_lines::{
     LineReader, SpellError, Unread, end_at, is_text, payload_of, read_lines, word_at,

@@ -1,6 +1,6 @@
 //! An item that arrives: one step of the resource's session.
 
-ghost use Rattle.std.specs.Prelude.{◌≡◌, ◌<◌, ◌∷◌, ◌++◌, [], None, Some, length, vec_len, vec_capacity, OnErr};
+ghost use Rattle.std.specs.Prelude.{◌≡◌, ◌<◌, ◌∷◌, ◌++◌, [], None, vec_len, vec_capacity};
 ghost use Rattle.amqp_resource_session.specs.Session.{StandsFor, stop_of};
 ghost use Rattle.amqp_resource_session.specs.StepClauses.{StepSays};
 ghost use Rattle.txn_parties.specs.declared.event.Event.TheVariants as events;

@@ -1,6 +1,6 @@
 //! Two parties that agree.
 
-ghost use Rattle.std.specs.Prelude.{◌≡◌, ◌<◌, ◌≤◌, option_map, option_copied};
+ghost use Rattle.std.specs.Prelude.{◌≡◌, ◌<◌, ◌≤◌};
 ghost use Rattle.amqp_txn_types.specs.declared.small.SessionState.TheVariants as session_states;
 ghost use Rattle.txn_parties.specs.Agreement.{Agreement};
 ghost use Rattle.txn_parties.specs.Exchange.{heard_at, made, record_of};

@@ -7,7 +7,7 @@ ghost use Rattle.txn_parties.specs.declared.item.Asked.TheVariants as asked_for;
 ghost use Rattle.txn_parties.specs.declared.item.ReplyState.TheVariants as states;
 ghost use Rattle.txn_parties.specs.BackWire.{asked_by};
 ghost use Rattle.amqp_resource_record.specs.Texts.{text_of};
-ghost use Rattle.txn_world_wires.specs.Answers.{answer_of, asked_in, heard_in, heard_of_declare, heard_of_discharge, sent_of, verdict_by};
+ghost use Rattle.txn_world_wires.specs.Answers.{answer_of, asked_in, heard_in, heard_of_declare, heard_of_discharge, sent_of};
 ghost use Rattle.txn_world_wires.specs.Links.{HasHeard, HasNotSent, HasSent, IsAwaited, IsQuiet};
 ghost use Rattle.txn_world_wires.specs.Table.{same_asked};
 

@@ -1,6 +1,6 @@
 //! The controllers' ends of their control links, and the calls on them that await an answer.
 
-ghost use Rattle.std.specs.Prelude.{◌≡◌, ◌<◌, ◌∷◌, ◌++◌, [], None, Some, length, slice_get, slice_set, IfOk, OnOk, OnErr};
+ghost use Rattle.std.specs.Prelude.{◌≡◌, ◌<◌, [], Some, length, slice_set, IfOk, OnOk, OnErr};
 ghost use Rattle.txn_parties.specs.declared.item.Asked.TheVariants as asked_for;
 ghost use Rattle.txn_parties.specs.BackWire.{asked_by};
 ghost use Rattle.txn_world_wires.specs.Asking.{HearsAnswer, asking_too, with_asked};

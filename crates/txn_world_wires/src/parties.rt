@@ -1,6 +1,6 @@
 //! The two parties but for the resource's session: the record, the two wires and the controllers.
 
-ghost use Rattle.std.specs.Prelude.{◌≡◌, ◌<◌, ◌∷◌, ◌++◌, [], length, slice_get, OnOk, OnErr, IfOk, IfSome, Some, Ok};
+ghost use Rattle.std.specs.Prelude.{◌≡◌, ◌<◌, length, slice_get, OnErr, IfOk, Some, Ok};
 ghost use Rattle.txn_parties.specs.declared.event.Event.TheVariants as events;
 ghost use Rattle.txn_parties.specs.declared.event.Happened.TheVariants as happenings;
 ghost use Rattle.txn_parties.specs.declared.item.Item.TheVariants as items;

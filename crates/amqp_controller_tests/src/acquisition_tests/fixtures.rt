@@ -6,8 +6,8 @@ use amqp_controller_acquisition::{TransactionAcquisition, TxnAcquisition};
 use amqp_controller_calls::Abandoned;
 use amqp_controller_transactions::{Controller, Transaction, TransactionDischarge};
 use amqp_links::{
-    Delivery, DeliveryInfo, LinkStateError, Poll, Progress, ReceiverLink, ReceiverMessage,
-    RecvError, Sendable, SenderLink, Sent, WireReceiver, WireSender,
+    Delivery, DeliveryInfo, LinkStateError, Poll, ReceiverLink, ReceiverMessage, RecvError,
+    Sendable, SenderLink, Sent, WireReceiver, WireSender,
 };
 use amqp_test_values::{call_numbers, leak, link_end};
 use amqp_txn_types::{

@@ -1,7 +1,7 @@
 //! Calls over the lock, on transactions that own their controller.
 
 use crate::transaction_tests::links::{
-    CountingLink, LateLink, Lent, assert_counts, assert_last, counting, fill, illegal, late,
+    CountingLink, LateLink, Lent, assert_counts, counting, fill, illegal, late,
 };
 use crate::transaction_tests::rows::{
     accepted_row, asks, discharged_row, gives_up, put_once, rejected_row, rolled_back_row,

@@ -7,8 +7,7 @@ use amqp_controller_posting::{
     TransactionRetirement,
 };
 use amqp_links::{
-    DeliveryInfo, DetachError, DispositionError, IllegalLinkStateError, LinkStateError, Progress,
-    SendError, Sendable, WireReceiver, WireSender,
+    DeliveryInfo, DispositionError, LinkStateError, Progress, Sendable, WireReceiver, WireSender,
 };
 use amqp_test_values::leak;
 use amqp_txn_types::{

@@ -1,4 +1,4 @@
-use Rattle.std.proofs.Common.{rules, ◌≡◌, Result, Ok, Err, IfErr, subst, sym}
+use Rattle.std.proofs.Common.{rules, Result, Ok, Err, IfErr, subst, sym}
 use Rattle.std.specs.Prelude.{IsErrAnd}
 use Rattle.amqp_accept_links.proofs.Opened.{placed-freed}
 use Rattle.amqp_accept_links.specs.declared.open_link.OpenError.{OpenError}

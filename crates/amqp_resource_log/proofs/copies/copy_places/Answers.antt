@@ -1,4 +1,4 @@
-use Rattle.amqp_resource_log.proofs.Words.{ap, arith, frame_of_work, frames_in, is_some, length, map, stripped, suc, sym, take, ◌++◌, ◌+◌, ◌<◌, ◌≤◌, ◌∙◌, ◌∷◌, ◌≡◌, []}
+use Rattle.amqp_resource_log.proofs.Words.{ap, arith, frame_of_work, frames_in, is_some, length, map, stripped, suc, take, ◌++◌, ◌+◌, ◌<◌, ◌≤◌, ◌∙◌, ◌∷◌, ◌≡◌, []}
 use Rattle.std.proofs.Common.{rules}
 use Rattle.amqp_resource_log.proofs.Copying.{all_copied, copied_few, copied_more, placed_at}
 use Rattle.amqp_resource_log.proofs.copies.copy_places.Goals as goal

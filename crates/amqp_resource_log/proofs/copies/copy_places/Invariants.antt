@@ -1,4 +1,4 @@
-use Rattle.amqp_resource_log.proofs.Words.{frames_in, length, map, stripped, take, ◌+◌, ◌≡◌, ◌≤◌}
+use Rattle.amqp_resource_log.proofs.Words.{frames_in, map, stripped, take, ◌+◌, ◌≡◌}
 use Rattle.amqp_resource_log.proofs.copies.copy_places.Given as goal
 
 abbrev pub invariant-loop-at : goal.invariant-loop-at

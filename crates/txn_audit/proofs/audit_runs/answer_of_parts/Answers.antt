@@ -1,4 +1,4 @@
-use Rattle.std.proofs.Common.{refl, inl, inr, sym, ap, ◌+◌, ◌∙◌}
+use Rattle.std.proofs.Common.{refl, inl, inr, ap, ◌∙◌}
 use Rattle.std.proofs.Math.Path.{fun_ext}
 use Rattle.amqp_below_ids.specs.Listed.{listed}
 use Rattle.txn_program_edges.specs.Unserved.{line_text}

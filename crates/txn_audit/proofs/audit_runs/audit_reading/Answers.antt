@@ -1,4 +1,4 @@
-use Rattle.std.proofs.Common.{refl, inl, inr}
+use Rattle.std.proofs.Common.{refl, inr}
 use Rattle.std.specs.Prelude.{codes}
 use Rattle.txn_audit.proofs.audit_runs.audit_reading.Goals as goal
 

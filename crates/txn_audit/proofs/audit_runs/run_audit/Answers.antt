@@ -1,4 +1,4 @@
-use Rattle.std.proofs.Common.{sym, refl, inl, inr}
+use Rattle.std.proofs.Common.{sym, refl, inr}
 use Rattle.std.specs.Prelude.{codes}
 use Rattle.txn_program_edges.specs.declared.input.Reading.TheVariants as readings
 use Rattle.txn_audit.specs.AuditInput.{audit_words}

@@ -1,4 +1,4 @@
-use Rattle.std.proofs.Common.{rules, ◌≡◌, ◌<◌, ℕ, true, false, [], ◌∷◌, ◌++◌, length, drop, ap, sym, ◌∙◌, subst, refl, arith, length-append, vec_len, List, Some}
+use Rattle.std.proofs.Common.{◌≡◌, ◌<◌, ℕ, true, false, [], ◌∷◌, ◌++◌, length, drop, ap, sym, ◌∙◌, subst, refl, arith, length-append, vec_len, List, Some}
 use Rattle.std.specs.Prelude.{slice_get}
 use Rattle.std.proofs.lemmas.List.{map-append}
 use Rattle.crossbeam_queue.specs.Passes.{view}

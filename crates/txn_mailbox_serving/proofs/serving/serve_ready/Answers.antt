@@ -1,4 +1,4 @@
-use Rattle.std.proofs.Common.{◌≡◌, ◌+◌, ◌∙◌, ◌++◌, ◌∷◌, ℕ, ap, sym, subst, length, arith, List}
+use Rattle.std.proofs.Common.{◌≡◌, ◌+◌, ◌∙◌, ◌++◌, ◌∷◌, ap, sym, subst, length, arith, List}
 use Rattle.crossbeam_queue.specs.Passes.{view}
 use Rattle.amqp_resource_record.specs.declared.step.Step.{Step}
 use Rattle.txn_mailbox_queue.specs.declared.item.Item.{Item}

@@ -1,6 +1,5 @@
-use Rattle.std.proofs.Common.{rules, ◌≡◌, ◌+◌, ◌-◌, ◌≤◌, ℕ, List, [], ◌∷◌, ◌++◌, length, sum_by, sym, ◌∙◌, ap, arith, subst, length-append}
+use Rattle.std.proofs.Common.{rules, ◌≡◌, ◌+◌, ◌-◌, ◌≤◌, ℕ, [], ◌∷◌, ◌++◌, length, ◌∙◌, ap, arith, subst, length-append}
 use Rattle.std.proofs.lemmas.List.Sums.{sum_by_push}
-use Rattle.txn_program_threads.specs.Each.{EachFrom}
 use Rattle.txn_program_threads.specs.Gathered.{IsGathered, IsWorkOf}
 use Rattle.txn_program_workers.specs.Works.{IsWork}
 use Rattle.txn_program_threads.proofs.Each.{each-pop}

@@ -1,4 +1,4 @@
-use Rattle.std.proofs.Common.{rules, ◌≡◌, ◌+◌, ◌<◌, ℕ, length, slice_index_or, subst}
+use Rattle.std.proofs.Common.{rules, ◌≡◌, ◌<◌, ℕ, length, slice_index_or, subst}
 use Rattle.txn_program_threads.specs.Gathered.{IsWorkOf}
 use Rattle.txn_program_threads.proofs.Each.{each-at, each-from}
 use Rattle.txn_program_threads.proofs.starting.run_jobs.Goals as goal

@@ -1,4 +1,4 @@
-use Rattle.txn_relay_run.proofs.Served.{messages_within, runs_no_memory}
+use Rattle.txn_relay_run.proofs.Served.{messages_within}
 use Rattle.txn_relay_run.proofs.runs.relay_octets.Goals as goal
 
 -- there are at most as many messages as octets, and one

@@ -2,10 +2,10 @@
 use Rattle.std.proofs.Common.{◌≡◌, List, [], ◌∷◌, ◌++◌, Option, Some, None, refl, sym, subst}
 use Rattle.std.specs.Prelude.{IsSome}
 use mir.Val.{Val}
-use base.Logic.{SProp, ent, emp, id⊢}
+use base.Logic.{SProp, ent, id⊢}
 use base.Fml.{ftrue, fsep}
 use prog.Wp.{WpFn}
-use types.Kit.{Item, ‵, raw, ◌⊛◌, ◌$◌, ◌∵◌, !, qed, by, move, drop, use1, given, learn, rewrite, join, split, fsplit, fjoin, suffices, done}
+use types.Kit.{Item, ‵, ◌⊛◌, ◌$◌, ◌∵◌, !, qed, by, move, drop, use1, given, learn, rewrite, join, split, fsplit, fjoin, suffices, done}
 use types.Part.{whole, sub, agg}
 use types.Run.{stop, fld, no_more, and_then, of_opd, returns, enter}
 use types.ByLocal.{alloc_all, pass_all, free_all, look_at, get, get_in, sets}

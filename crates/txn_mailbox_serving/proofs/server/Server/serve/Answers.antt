@@ -1,4 +1,4 @@
-use Rattle.std.proofs.Common.{rules, sym, ◌∙◌}
+use Rattle.std.proofs.Common.{rules}
 use Rattle.txn_mailbox_serving.proofs.Running.{none_of, so_far-more, so_far-still, so_far-stop}
 use Rattle.txn_mailbox_serving.proofs.server.Server.serve.Goals as goal
 
