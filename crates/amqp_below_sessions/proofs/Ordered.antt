@@ -1,17 +1,14 @@
 -- A map that is kept by an order changes at the keys that a test finds the same.
-use Rattle.std.proofs.Common.{◌≡◌, ◌∙◌, Bool, true, cond, nat_eq, Option, None, Ordering, inl, inr, sym, ap}
-use Rattle.std.specs.Ordering.{eq_by_cmp, nat_cmp}
+use Rattle.std.proofs.Common.{◌≡◌, ◌∙◌, Bool, true, cond, nat_eq, Option, None, inl, inr, sym, ap}
+use Rattle.std.specs.Ordering.{nat_cmp}
 use Rattle.std.specs.Cmp.{unsigned_ties}
 use Rattle.std.specs.Cmp.Lexicographic.{pointwise, slice_cmp, texts_ties}
 use Rattle.std.specs.BTreeMap.{is_at}
 use Rattle.std.proofs.lemmas.Bool.{cases_Bool}
 use Rattle.amqp_txn_types.specs.declared.text.Text.{Text}
 use Rattle.amqp_txn_types.specs.declared.small.InputHandle.{InputHandle}
+use Rattle.amqp_below_layer.proofs.Ordered.{changed-by}
 use Rattle.amqp_below_sessions.specs.Links.{input_order, same_input}
-
--- a change at the keys that the order doesn't tell from one
-pub changed-by : {K X : Type 0} (order : K → K → Ordering) (same : K → K → Bool) → ((x y : K) → same x y ≡ eq_by_cmp order x y) → (find found : K → Option X) (key : K) (slot : Option X) → ((q : K) → found q ≡ cond (is_at (order key) q) slot (find q)) → (q : K) → found q ≡ cond (same key q) slot (find q)
-changed-by order same ties find found key slot changes q = changes q ∙ ap (λ b. cond b slot (find q)) (sym (ties key q))
 
 -- the entry of one name has changed
 pub name-changed : {X : Type 0} (find found : Text → Option X) (name : Text) (slot : Option X) → ((q : Text) → found q ≡ cond (is_at (slice_cmp nat_cmp name) q) slot (find q)) → (q : Text) → found q ≡ cond (pointwise nat_eq name q) slot (find q)

@@ -5,6 +5,7 @@ use Rattle.std.specs.Cmp.Lexicographic.{same_text, slice_cmp, texts_ties}
 use Rattle.std.specs.Ordering.{eq_by_cmp, nat_cmp}
 use Rattle.std.specs.BTreeMap.{is_at}
 use Rattle.std.proofs.lemmas.Bool.{cases_Bool, eqb-true}
+use Rattle.amqp_below_layer.proofs.Ordered.{changed-by}
 use Rattle.txn_broker_queues.specs.Keeping.{handle_order, same_handle}
 use Rattle.txn_broker_queues.proofs.Words.{nat_eq, pointwise}
 
@@ -27,7 +28,7 @@ module _ {K X : Type 0} {order : K → K → Ordering} {same : K → K → Bool}
   pub changed-at : (find found : K → Option X) (key : K) (slot : Option X)
       → ((q : K) → found q ≡ cond (is_at (order key) q) slot (find q))
       → (q : K) → found q ≡ cond (same key q) slot (find q)
-  changed-at find found key slot changes q = changes q ∙ ap (λ b. cond b slot (find q)) (sym (exact.ties key q))
+  changed-at find found key slot changes q = changed-by order same exact.ties find found key slot changes q
 
   -- of two changes at one key the later stays
   pub changed-twice : (find between found : K → Option X) (key : K) (first last : Option X)
