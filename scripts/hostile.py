@@ -181,7 +181,7 @@ def devices():
     os.close(folder)
     for name, words, octets in [
         ("a report", RUN, steps),
-        ("usage", ["no", "words"], b""),
+        ("usage", ["run", "no-id"], b""),
         ("a summary", ["make", "4"], b""),
     ]:
         with open("/dev/full", "wb") as full, tempfile.TemporaryFile() as source:

@@ -2,21 +2,15 @@
 # Makes each allocation of a run fail in turn, and counts how the runs end.
 # Words: a file of step lines, and the words of the program, as in
 #   scripts/want_of_memory.sh examples/one-commit.steps run 00000000000000000000000000000001
-# With no words, all examples but those of threads, mailbox and audit are run so, a line each, and then
-# commits of which each frame in turn is refused or starved below, an input that is too long, and a
-# folder as input.
+# With no words, all examples are run so, a line each, and then commits of which each frame in turn is
+# refused or starved below, an input that is too long, and a folder as input.
 # An allocation is a call of malloc or of realloc. A run may end as the one in which none fails; with
 # status 6 and nothing written; with status 8 and the stop below-no-memory; or with a report in which an
-# attach is refused as below-no-memory; make, which writes no report, with its summary and status 8, or
-# with status 1 where its attach was refused. Any other end is a failure.
+# attach is refused as below-no-memory; make and threads, which write no report, with their summary and
+# status 8, or with status 1 where an attach was refused. Any other end is a failure.
 # Needs gcc, and the built programs (`txn_program --prove` builds them), or the one that PROGRAM names.
 top=$(cd "$(dirname "$(readlink -f "$0")")/.." && pwd) || exit 1
 [ $# -ne 1 ] || { echo "usage: want_of_memory.sh [FILE WORD..]" >&2; exit 2; }
-runs=${PROGRAM:-$("$top/txn_program" --which run)} || exit 1
-listens=${PROGRAM:-$("$top/txn_program" --which listen)} || exit 1
-brokers=${PROGRAM:-$("$top/txn_program" --which broker)} || exit 1
-agrees=${PROGRAM:-$("$top/txn_program" --which agree)} || exit 1
-relays=${PROGRAM:-$("$top/txn_program" --which relay)} || exit 1
 work=$(mktemp -d) || exit 1
 trap 'rm -r "$work"' EXIT
 
@@ -36,7 +30,7 @@ static int fails(void) {
     close(file);
     failing = atol(getenv("FAIL_AT"));
   }
-  return ++*calls == failing;
+  return __atomic_add_fetch(calls, 1, __ATOMIC_SEQ_CST) == failing;
 }
 void *malloc(size_t size) {
   static void *(*next)(size_t);
@@ -53,13 +47,6 @@ gcc -O1 -shared -fPIC -o "$work/failing.so" "$work/failing.c" -ldl || exit 1
 
 # The text of the run in which that allocation fails, and its status.
 run_with() {
-  local program=$runs
-  case ${words[0]} in
-    listen) program=$listens ;;
-    broker) program=$brokers ;;
-    agree) program=$agrees ;;
-    relay) program=$relays ;;
-  esac
   head -c 8 /dev/zero >"$work/count"
   COUNT_IN=$work/count FAIL_AT=$1 LD_PRELOAD=$work/failing.so "$program" "${words[@]}" <"$file" 2>/dev/null
   echo "status $?"
@@ -68,10 +55,11 @@ run_with() {
 # Runs the program with those words over that file, with each of its allocations failing in turn;
 # prints how often it ended how, and fails where it ended otherwise.
 try_all() {
-  local whole end kind total number
+  local whole end kind total number program
   local -A count=([nothing]=0 [below]=0 [refused]=0 [summary]=0 [whole]=0 [other]=0)
   file=$1
   words=("${@:2}")
+  program=${PROGRAM:-$("$top/txn_program" --which "$2")} || return 1
   whole=$(run_with 0)
   total=$(od -An -td8 "$work/count" | tr -d ' ')
   for ((number = 1; number <= total; number++)); do
@@ -99,7 +87,6 @@ fi
 failed=0
 for example in "$top"/examples/*.words; do
   mapfile -t word <"$example"
-  case ${word[0]} in threads | mailbox | audit) continue ;; esac
   printf '%s: ' "$(basename "$example" .words)"
   try_all "${example%.words}.steps" "${word[@]}" || failed=1
 done
