@@ -44,7 +44,7 @@ pub use amqp_below_recorder::Recorder;
 pub use amqp_below_sessions::{
     AllocLinkError, AllocTxnIdError, BeginError, CommitFault, HandleDeclare, HandleDischarge,
     ListenerSessionEndpoint, NameState, PlainSession, ReceiverAttachError, Relay,
-    SenderAttachError, Session,
+    SenderAttachError, Session, StopReason,
 };
 pub use amqp_below_streams::{
     ByteSink, ByteSource, Failed, MemorySink, MemorySource, SureSink, SureSource,

@@ -1,8 +1,6 @@
 -- What the calls of a session answer and leave in a plain session.
 use Rattle.std.specs.Prelude.{◌≡◌, cond, Bool, is_some, option_map, Option, Some, None, Result, Ok, Err, IfOk}
-use Rattle.amqp_txn_types.specs.declared.delivery.ConnectionStopReason.{ConnectionStopReason}
 use Rattle.amqp_txn_types.specs.declared.delivery.Error.{Error}
-use Rattle.amqp_txn_types.specs.declared.delivery.SessionStopReason.{SessionStopReason}
 use Rattle.amqp_txn_types.specs.declared.performatives.Begin.{Begin}
 use Rattle.amqp_txn_types.specs.declared.performatives.End.{End}
 use Rattle.amqp_txn_types.specs.declared.performatives.Flow.{Flow}
@@ -17,6 +15,8 @@ use Rattle.amqp_below_sessions.specs.declared.plain_session.PlainSession.{PlainS
 use Rattle.amqp_below_sessions.specs.declared.relay.Relay.{Relay}
 use Rattle.amqp_below_sessions.specs.declared.session_errors.AllocLinkError.{AllocLinkError}
 use Rattle.amqp_below_sessions.specs.declared.session_errors.BeginError.{BeginError}
+use Rattle.amqp_below_sessions.specs.declared.stop_reason.StopReason.{StopReason}
+use Rattle.amqp_below_sessions.specs.declared.stop_reason.StopReason.TheVariants as reasons
 use Rattle.amqp_below_sessions.specs.LinkMoves.{FreesOutput, Places}
 use Rattle.amqp_below_sessions.specs.Links.{mapped_link, waiting_link}
 use Rattle.amqp_below_sessions.specs.Numbers.{flow_with}
@@ -25,13 +25,10 @@ use Rattle.amqp_below_sessions.specs.PlainSessions.{BeganBy, ChangesLinks, Chang
 use Rattle.amqp_below_sessions.specs.SessionStates.{begin_received, begin_sent, end_received, end_sent}
 use Rattle.amqp_below_sessions.specs.Sessions.{first_of}
 
--- the first reason why it stopped is kept, and nothing else changes
-abbrev pub PlainStops : PlainSession → PlainSession → SessionStopReason → Type 0
-PlainStops old new reason = new ≡ record old { stop = first_of old.stop reason }
-
--- the first reason why its connection stopped is kept, and nothing else changes
-abbrev pub PlainCutOff : PlainSession → PlainSession → ConnectionStopReason → Type 0
-PlainCutOff old new reason =
+-- the first reason why it or its connection stopped is kept, and nothing else changes
+abbrev pub PlainStops : PlainSession → PlainSession → StopReason → Type 0
+PlainStops old new (reasons.Session reason) = new ≡ record old { stop = first_of old.stop reason }
+PlainStops old new (reasons.Connection reason) =
     new ≡ record old { connection_stop = first_of old.connection_stop reason }
 
 -- a link is allocated, before the peer attaches it

@@ -1,9 +1,7 @@
 -- What the calls of a session answer and leave, beside those of a layer below, and what they do
 -- through what wraps the session.
 use Rattle.std.specs.Prelude.{◌≡◌, Bool, Option, Result, is_some}
-use Rattle.amqp_txn_types.specs.declared.delivery.ConnectionStopReason.{ConnectionStopReason}
 use Rattle.amqp_txn_types.specs.declared.delivery.Error.{Error}
-use Rattle.amqp_txn_types.specs.declared.delivery.SessionStopReason.{SessionStopReason}
 use Rattle.amqp_txn_types.specs.declared.performatives.Attach.{Attach}
 use Rattle.amqp_txn_types.specs.declared.performatives.Begin.{Begin}
 use Rattle.amqp_txn_types.specs.declared.performatives.Detach.{Detach}
@@ -20,6 +18,7 @@ use Rattle.amqp_below_layer.specs.Told.{Checks, Told}
 use Rattle.amqp_below_sessions.specs.declared.relay.Relay.{Relay}
 use Rattle.amqp_below_sessions.specs.declared.session_errors.AllocLinkError.{AllocLinkError}
 use Rattle.amqp_below_sessions.specs.declared.session_errors.BeginError.{BeginError}
+use Rattle.amqp_below_sessions.specs.declared.stop_reason.StopReason.{StopReason}
 use Rattle.amqp_below_sessions.specs.SessionStates.{begin_received, begin_sent, end_received, end_sent}
 use Rattle.amqp_below_sessions.specs.Sessions.{Moves}
 
@@ -27,8 +26,7 @@ use Rattle.amqp_below_sessions.specs.Sessions.{Moves}
 -- answer where it has one
 pub record SessionCalls (S : Type 0) : Type 1 where
   -- Keeping a reason why the session stopped, or its connection.
-  pub stop : S → S → SessionStopReason → Type 0
-  pub connection_stop : S → S → ConnectionStopReason → Type 0
+  pub stop : S → S → StopReason → Type 0
   -- Allocating a link by its name, with its relay; for one that the peer attached, with the peer's
   -- handle.
   pub allocate_link : S → S → Text → Relay → Result OutputHandle AllocLinkError → Type 0
@@ -62,8 +60,6 @@ abbrev pub passed : {S W : Type 0} → (S → Told) → SessionCalls S
 passed told calls PassesOn Passes = record {
   stop = λ old new reason.
       PassesOn (λ a b. told b ≡ told a) (λ a b. calls.stop a b reason) old new;
-  connection_stop = λ old new reason.
-      PassesOn (λ a b. told b ≡ told a) (λ a b. calls.connection_stop a b reason) old new;
   allocate_link = λ old new name relay answer.
       Passes _ _ (λ a b. Checks (told a) (told b) answer)
       (λ a b. calls.allocate_link a b name relay answer) old new answer;

@@ -14,6 +14,8 @@ use Rattle.amqp_below_sessions.specs.Names.{FrameLeaves, LeftBy, Names, OpensLin
 use Rattle.amqp_below_sessions.specs.Queues.{Queue, with_last}
 use Rattle.amqp_below_sessions.specs.declared.session_errors.AllocLinkError.{AllocLinkError}
 use Rattle.amqp_below_sessions.specs.declared.session_errors.AllocLinkError.TheVariants as refusals
+use Rattle.amqp_below_sessions.specs.declared.stop_reason.StopReason.{StopReason}
+use Rattle.amqp_below_sessions.specs.declared.stop_reason.StopReason.TheVariants as reasons
 use Rattle.amqp_below_layer.specs.Told.{Fixed, Told}
 use Rattle.amqp_txn_types.specs.Counts.{Rose}
 
@@ -34,13 +36,11 @@ abbrev pub first_of : {R : Type 0} → Option R → R → Option R
 first_of None reason = Some reason
 first_of (Some kept) reason = Some kept
 
--- what is kept once a session stopped for this reason
-abbrev pub stopped_for : Kept → SessionStopReason → Kept
-stopped_for kept reason = record kept { stop = first_of kept.stop reason }
-
--- what is kept once its connection stopped for this reason
-abbrev pub cut_off_for : Kept → ConnectionStopReason → Kept
-cut_off_for kept reason = record kept { connection = first_of kept.connection reason }
+-- what is kept once a session or its connection stopped for this reason
+abbrev pub stopped_for : Kept → StopReason → Kept
+stopped_for kept (reasons.Session reason) = record kept { stop = first_of kept.stop reason }
+stopped_for kept (reasons.Connection reason) =
+    record kept { connection = first_of kept.connection reason }
 
 -- the state moves at an Ok as it has to, and stays at an Err
 abbrev pub MovesOn : {T E : Type 0} → Option SessionState → Fixed → Fixed → Result T E → Type 0
@@ -147,6 +147,12 @@ pub same-own_queue : (before after : Kept) (old new : Queue) → after ≡ befor
     → with_queue after new ≡ with_queue before old
 same-own_queue before after old new same queue =
     ap (λ k. with_queue k new) same ∙ ap (with_queue before) queue
+
+-- the same of a reason for which it stopped
+pub stopped-own_queue : (kept : Kept) (queue : Queue) (reason : StopReason)
+    → with_queue (stopped_for kept reason) queue ≡ stopped_for (with_queue kept queue) reason
+stopped-own_queue kept queue (reasons.Session reason) = refl
+stopped-own_queue kept queue (reasons.Connection reason) = refl
 
 -- the same of a call that leaves what is kept and the names
 pub leaves-own_queue : (before after : Kept) (was is : Queue) (old new : Names)

@@ -3,6 +3,7 @@
 //! | type | is |
 //! |---|---|
 //! | [`Session`] | a layer with links that begins and ends |
+//! | [`StopReason`] | why a session or its connection stopped |
 //! | [`HandleDeclare`], [`HandleDischarge`] | the transactional calls of a session |
 //! | [`ListenerSessionEndpoint`] | a session whose peer's attaches wait to be accepted |
 //! | [`SenderAttachError`], [`ReceiverAttachError`] | why a link isn't attached |
@@ -36,6 +37,7 @@ mod relay;
 mod session;
 mod session_errors;
 mod state_moves;
+mod stop_reason;
 mod transacting;
 
 pub use attach_errors::{ReceiverAttachError, SenderAttachError};
@@ -45,4 +47,5 @@ pub use plain_session::PlainSession;
 pub use relay::{NameState, Relay};
 pub use session::Session;
 pub use session_errors::{AllocLinkError, BeginError};
+pub use stop_reason::StopReason;
 pub use transacting::{AllocTxnIdError, CommitFault, HandleDeclare, HandleDischarge};

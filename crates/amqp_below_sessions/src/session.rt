@@ -2,6 +2,7 @@
 
 use crate::relay::{NameState, Relay};
 use crate::session_errors::{AllocLinkError, BeginError};
+use crate::stop_reason::StopReason;
 use amqp_below_layer::{LayerBelow, SessionInnerError};
 use amqp_txn_types::{
     Attach, Begin, ConnectionStopReason, Detach, Disposition, End, Error, Flow, IncomingChannel,
@@ -40,9 +41,10 @@ pub trait Session: LayerBelow {
     ghost use Rattle.amqp_below_layer.specs.declared.verdict.Verdict.{Verdict};
     ghost use Rattle.amqp_txn_types.specs.declared.items.NoMemory.{NoMemory};
     ghost use Rattle.amqp_below_sessions.specs.declared.relay.NameState.TheVariants.{Taken, Waiting};
+    ghost use Rattle.amqp_below_sessions.specs.declared.stop_reason.StopReason.TheVariants as reasons;
     ghost use Rattle.amqp_below_sessions.specs.Names.{FreesLink, Names, PlacesLink, SameNames};
     ghost use Rattle.amqp_below_sessions.specs.SessionStates.{begin_received, begin_sent, end_received, end_sent};
-    ghost use Rattle.amqp_below_sessions.specs.Sessions.{Kept, Leaves, LeavesFrame, LeavesOpening, Moves, StoppedBy, cut_off_for, stopped_for};
+    ghost use Rattle.amqp_below_sessions.specs.Sessions.{Kept, Leaves, LeavesFrame, LeavesOpening, Moves, StoppedBy, stopped_for};
     ghost use Rattle.amqp_below_sessions.specs.SessionCalls.{SessionCalls};
 
     /// What it keeps beside its links: its channel, why it and its connection stopped, and the
@@ -60,27 +62,17 @@ pub trait Session: LayerBelow {
     /// What each call answers and leaves, beside those of a layer below.
     ghost calls: { SessionCalls Self };
 
-    /// Why the session stopped, where it did.
-    fn session_stop_reason(&self) -> Option<&SessionStopReason>
-        ensures { option_copied result ≡ (kept self.now).stop };
+    /// Why the session and its connection stopped.
+    fn stop_reasons(&self) -> (Option<&SessionStopReason>, Option<&ConnectionStopReason>)
+        ensures session { option_copied result.0 ≡ (kept self.now).stop }
+        ensures connection { option_copied result.1 ≡ (kept self.now).connection };
 
-    /// Keeps why the session stopped. The first reason is kept.
-    fn set_session_stop_reason(&mut self, reason: SessionStopReason)
+    /// Keeps why the session or its connection stopped. The first reason of each is kept.
+    fn keep_stop_reason(&mut self, reason: StopReason)
         ensures told { Self.told self.new ≡ Self.told self.old }
         ensures kept { kept self.new ≡ stopped_for (kept self.old) reason }
         ensures names { SameNames (names self.old) (names self.new) }
         ensures gives { calls.stop self.old self.new reason };
-
-    /// Why the connection stopped, where it did.
-    fn connection_stop_reason(&self) -> Option<&ConnectionStopReason>
-        ensures { option_copied result ≡ (kept self.now).connection };
-
-    /// Keeps why the connection stopped. The first reason is kept.
-    fn set_connection_stop_reason(&mut self, reason: ConnectionStopReason)
-        ensures told { Self.told self.new ≡ Self.told self.old }
-        ensures kept { kept self.new ≡ cut_off_for (kept self.old) reason }
-        ensures names { SameNames (names self.old) (names self.new) }
-        ensures gives { calls.connection_stop self.old self.new reason };
 
     /// The channel of the frames that it sends.
     fn outgoing_channel(&self) -> OutgoingChannel
@@ -216,4 +208,38 @@ pub trait Session: LayerBelow {
     /// Asking for the window leaves what is kept and the names.
     ghost window_leaves: { (old new : Self) (flow : Option Flow) → Self.window_gives old new flow
         → Leaves (kept old) (kept new) (names old) (names new) };
+
+    /// Why the session stopped, where it did.
+    final fn session_stop_reason(&self) -> Option<&SessionStopReason>
+        ensures { option_copied result ≡ (kept self.now).stop }
+    {
+        self.stop_reasons().0
+    }
+
+    /// Keeps why the session stopped. The first reason is kept.
+    final fn set_session_stop_reason(&mut self, reason: SessionStopReason)
+        ensures told { Self.told self.new ≡ Self.told self.old }
+        ensures kept { kept self.new ≡ stopped_for (kept self.old) (reasons.Session reason) }
+        ensures names { SameNames (names self.old) (names self.new) }
+        ensures gives { calls.stop self.old self.new (reasons.Session reason) }
+    {
+        self.keep_stop_reason(StopReason::Session(reason));
+    }
+
+    /// Why the connection stopped, where it did.
+    final fn connection_stop_reason(&self) -> Option<&ConnectionStopReason>
+        ensures { option_copied result ≡ (kept self.now).connection }
+    {
+        self.stop_reasons().1
+    }
+
+    /// Keeps why the connection stopped. The first reason is kept.
+    final fn set_connection_stop_reason(&mut self, reason: ConnectionStopReason)
+        ensures told { Self.told self.new ≡ Self.told self.old }
+        ensures kept { kept self.new ≡ stopped_for (kept self.old) (reasons.Connection reason) }
+        ensures names { SameNames (names self.old) (names self.new) }
+        ensures gives { calls.stop self.old self.new (reasons.Connection reason) }
+    {
+        self.keep_stop_reason(StopReason::Connection(reason));
+    }
 }

@@ -3,7 +3,6 @@ use Rattle.std.specs.Prelude.{ℕ, ◌≡◌, ◌||◌, ◌&&◌, Bool, true, fa
 use Rattle.amqp_txn_types.specs.Counts.{Rose}
 use Rattle.amqp_txn_types.specs.declared.delivery.Error.{Error}
 use Rattle.amqp_txn_types.specs.declared.delivery.ErrorCondition.TheVariants as conditions
-use Rattle.amqp_txn_types.specs.declared.delivery.SessionStopReason.{SessionStopReason}
 use Rattle.amqp_txn_types.specs.declared.id.TransactionId.{TransactionId}
 use Rattle.amqp_txn_types.specs.declared.performatives.Disposition.{Disposition}
 use Rattle.amqp_txn_types.specs.declared.performatives.End.{End}
@@ -24,6 +23,7 @@ use Rattle.amqp_below_sessions.specs.declared.relay.NameState.{NameState}
 use Rattle.amqp_below_sessions.specs.declared.relay.NameState.TheVariants.{Taken, Waiting}
 use Rattle.amqp_below_sessions.specs.declared.relay.Relay.{Relay}
 use Rattle.amqp_below_sessions.specs.declared.session_errors.AllocLinkError.{AllocLinkError}
+use Rattle.amqp_below_sessions.specs.declared.stop_reason.StopReason.{StopReason}
 use Rattle.amqp_below_sessions.specs.declared.transacting.AllocTxnIdError.{AllocTxnIdError}
 use Rattle.amqp_below_sessions.specs.declared.transacting.CommitFault.{CommitFault}
 use Rattle.amqp_below_sessions.specs.declared.transacting.CommitFault.TheVariants as commits
@@ -49,7 +49,7 @@ is_end _ = false
 
 -- the control that the session end: a reason is kept, and the session is told to end
 abbrev pub ControlsEnd : {S : Type 0} → (S → Told) → (S → Kept) → (S → Names)
-    → (S → S → SessionStopReason → Type 0)
+    → (S → S → StopReason → Type 0)
     → (S → S → Option Error → Result End SessionInnerError → Type 0)
     → S → S → SessionControl → Result Turn SessionInnerError → Type 0
 ControlsEnd told kept names Stops Sent old new (controls.End error) result =

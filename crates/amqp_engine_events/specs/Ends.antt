@@ -12,6 +12,8 @@ use Rattle.amqp_below_layer.specs.Told.{Told}
 use Rattle.amqp_below_sessions.specs.Names.{Names}
 use Rattle.amqp_below_sessions.specs.Sessions.{Kept}
 use Rattle.amqp_below_sessions.specs.SessionStates.{end_received, end_sent}
+use Rattle.amqp_below_sessions.specs.declared.stop_reason.StopReason.{StopReason}
+use Rattle.amqp_below_sessions.specs.declared.stop_reason.StopReason.TheVariants as reasons
 use Rattle.amqp_engine_events.specs.declared.turn.Running.{Running}
 use Rattle.amqp_engine_events.specs.declared.turn.Running.TheVariants.{Stop}
 use Rattle.amqp_engine_events.specs.declared.turn.Turn.{Turn}
@@ -49,20 +51,21 @@ EndsSession told kept names Sent old new error result =
 
 -- a reason is kept, the first one, and then the session is told to end
 abbrev pub KeepsAndEnds : {S : Type 0} → (S → Told) → (S → Kept) → (S → Names)
-    → (S → S → SessionStopReason → Type 0)
+    → (S → S → StopReason → Type 0)
     → (S → S → Option Error → Result End SessionInnerError → Type 0)
     → S → S → Option Error → Result Turn SessionInnerError → Type 0
 KeepsAndEnds {S} told kept names Stops Sent old new error result = (between : S)
-    × KeepsStop told kept names Stops old between (local_stop error (kept old).connection)
+    × KeepsStop told kept names Stops old between
+    (reasons.Session (local_stop error (kept old).connection))
     × EndsSession told kept names Sent between new error result
 
 -- a reason is kept, the first one, and the peer's end is answered with one
 abbrev pub KeepsAndAnswers : {S : Type 0} → (S → Told) → (S → Kept) → (S → Names)
-    → (S → S → SessionStopReason → Type 0)
+    → (S → S → StopReason → Type 0)
     → (S → S → Option Error → Result End SessionInnerError → Type 0)
     → S → S → SessionStopReason → Result Turn SessionInnerError → Type 0
 KeepsAndAnswers {S} told kept names Stops Sent old new reason result = (between : S)
-    × KeepsStop told kept names Stops old between reason
+    × KeepsStop told kept names Stops old between (reasons.Session reason)
     × SendsEnd told kept names Sent between new None Stop result
 
 -- the peer's end was given to the session
@@ -77,7 +80,7 @@ EndGiven told kept names Received old channel end new answer =
 -- without an error answered
 abbrev pub PeerEnds : {S : Type 0} → (S → Told) → (S → Kept) → (S → Names)
     → (S → S → IncomingChannel → End → Result Unit SessionInnerError → Type 0)
-    → (S → S → SessionStopReason → Type 0)
+    → (S → S → StopReason → Type 0)
     → (S → S → Option Error → Result End SessionInnerError → Type 0)
     → S → S → IncomingChannel → End → Result Turn SessionInnerError → Type 0
 PeerEnds told kept names Received Stops Sent old new channel end result =
@@ -105,7 +108,7 @@ ByEndState _ FramesPass EndAwaited Illegal = Illegal
 -- an end of the peer's comes
 abbrev pub TakesEnd : {S : Type 0} → (S → Told) → (S → Kept) → (S → Names)
     → (S → S → IncomingChannel → End → Result Unit SessionInnerError → Type 0)
-    → (S → S → SessionStopReason → Type 0)
+    → (S → S → StopReason → Type 0)
     → (S → S → Option Error → Result End SessionInnerError → Type 0)
     → S → S → IncomingChannel → End → Result Turn SessionInnerError → Type 0
 TakesEnd told kept names Received Stops Sent old new channel end result =
@@ -132,6 +135,7 @@ AnswersOutcome kept outcome answer = (answer ≡ answer_of outcome)
 
 -- the reason that the outcome tells is kept, where none is; else the session isn't asked
 abbrev pub Finishes : {S : Type 0} → (S → Told) → (S → Kept) → (S → Names)
-    → (S → S → SessionStopReason → Type 0) → S → S → Result Unit SessionInnerError → Type 0
+    → (S → S → StopReason → Type 0) → S → S → Result Unit SessionInnerError → Type 0
 Finishes told kept names Stops old new outcome = MatchBool (is_some (kept old).stop)
-    (new ≡ old) (KeepsStop told kept names Stops old new (stop_of_outcome outcome))
+    (new ≡ old)
+    (KeepsStop told kept names Stops old new (reasons.Session (stop_of_outcome outcome)))

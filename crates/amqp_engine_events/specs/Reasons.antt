@@ -9,7 +9,8 @@ use Rattle.amqp_below_layer.specs.declared.inner_error.SessionInnerError.{Sessio
 use Rattle.amqp_below_layer.specs.declared.inner_error.SessionInnerError.TheVariants as faults
 use Rattle.amqp_below_layer.specs.Told.{Told}
 use Rattle.amqp_below_sessions.specs.Names.{Names, SameNames}
-use Rattle.amqp_below_sessions.specs.Sessions.{Kept, cut_off_for, stopped_for}
+use Rattle.amqp_below_sessions.specs.Sessions.{Kept, stopped_for}
+use Rattle.amqp_below_sessions.specs.declared.stop_reason.StopReason.{StopReason}
 
 -- this side ends it: with its error, else since the connection stopped, else of its own accord
 abbrev pub local_stop : Option Error → Option ConnectionStopReason → SessionStopReason
@@ -44,20 +45,10 @@ stop_of_outcome (Err (faults.RemoteEndedWithError error)) = reasons.RemoteEndedW
 stop_of_outcome (Err faults.RemoteEnded) = reasons.RemoteEnded
 stop_of_outcome _ = reasons.Ended
 
--- a reason is kept, the first one
+-- a reason why the session or its connection stopped is kept, the first one
 pub record KeepsStop {S : Type 0} (told : S → Told) (kept : S → Kept) (names : S → Names)
-    (Stops : S → S → SessionStopReason → Type 0)
-    (old new : S) (reason : SessionStopReason) : Type 0 where
+    (Stops : S → S → StopReason → Type 0) (old new : S) (reason : StopReason) : Type 0 where
   pub steady : told new ≡ told old
   pub first : kept new ≡ stopped_for (kept old) reason
-  pub same : SameNames (names old) (names new)
-  pub gives : Stops old new reason
-
--- a reason why the connection stopped is kept, the first one
-pub record KeepsConnectionStop {S : Type 0} (told : S → Told) (kept : S → Kept) (names : S → Names)
-    (Stops : S → S → ConnectionStopReason → Type 0)
-    (old new : S) (reason : ConnectionStopReason) : Type 0 where
-  pub steady : told new ≡ told old
-  pub first : kept new ≡ cut_off_for (kept old) reason
   pub same : SameNames (names old) (names new)
   pub gives : Stops old new reason

@@ -3,8 +3,9 @@
 
 ghost use Rattle.std.specs.Prelude.{◌≡◌, IfErr};
 ghost use Rattle.amqp_txn_types.specs.Counts.{Rose};
+ghost use Rattle.amqp_below_sessions.specs.declared.stop_reason.StopReason.TheVariants as reasons;
 ghost use Rattle.amqp_engine_events.specs.Begins.{FirstFrame, SendsBegin, StoppedEarly, TakesPeersBegin, begin_refusal, ended_early};
-ghost use Rattle.amqp_engine_events.specs.Reasons.{KeepsConnectionStop};
+ghost use Rattle.amqp_engine_events.specs.Reasons.{KeepsStop};
 
 use crate::engine::SessionEngine;
 use crate::reasons::connection_stop_or_closed;
@@ -86,8 +87,8 @@ impl<S: Session> ClientBegin<S> {
 
     /// Keeps why the connection stopped. The first reason is kept.
     pub fn note_connection_stop(&mut self, reason: ConnectionStopReason)
-        ensures { KeepsConnectionStop S.told S.kept S.names S.calls.connection_stop self.old
-            self.new reason }
+        ensures { KeepsStop S.told S.kept S.names S.calls.stop self.old self.new
+            (reasons.Connection reason) }
     {
         self.session.set_connection_stop_reason(reason);
     }

@@ -4,6 +4,7 @@ ghost use Rattle.std.specs.Prelude.{◌≡◌, Err, IfErr, MatchBool, Ok, false,
 ghost use Rattle.std.specs.Bool.{OnFalse, OnTrue};
 ghost use Rattle.amqp_txn_types.specs.Counts.{Rose};
 ghost use Rattle.amqp_below_layer.specs.declared.inner_error.SessionInnerError.TheVariants as faults;
+ghost use Rattle.amqp_below_sessions.specs.declared.stop_reason.StopReason.TheVariants as reasons;
 ghost use Rattle.amqp_engine_events.specs.declared.turn.Running.TheVariants as runnings;
 ghost use Rattle.amqp_engine_events.specs.Calls.{OrNoMemory};
 ghost use Rattle.amqp_engine_events.specs.Begins.{SendsBegin};
@@ -12,7 +13,7 @@ ghost use Rattle.amqp_engine_events.specs.Ends.{AnswersOutcome, EndsSession, Fin
 ghost use Rattle.amqp_engine_events.specs.Faults.{EndsFor, error_of_fault, is_cut_off};
 ghost use Rattle.amqp_engine_events.specs.Incoming.{OnBegin, OnEnd, OnLink, TakesBegin, TakesLink, is_unexpected};
 ghost use Rattle.amqp_engine_events.specs.Outgoing.{SendsLink};
-ghost use Rattle.amqp_engine_events.specs.Reasons.{KeepsConnectionStop};
+ghost use Rattle.amqp_engine_events.specs.Reasons.{KeepsStop};
 ghost use Rattle.amqp_engine_events.specs.States.{awaits_end, is_mapped};
 ghost use Rattle.amqp_engine_events.specs.Turns.{CausedBy, Unasked, quiet};
 
@@ -239,8 +240,8 @@ impl<S: Session> SessionEngine<S> {
 
     /// Keeps why the connection stopped. The first reason is kept.
     pub fn note_connection_stop(&mut self, reason: ConnectionStopReason)
-        ensures { KeepsConnectionStop S.told S.kept S.names S.calls.connection_stop self.old
-            self.new reason }
+        ensures { KeepsStop S.told S.kept S.names S.calls.stop self.old self.new
+            (reasons.Connection reason) }
     {
         self.session.set_connection_stop_reason(reason);
     }

@@ -3,7 +3,7 @@
 use crate::accepting::AcceptingListener;
 use amqp_accept_listener::ListenerSession;
 use amqp_below_layer::{LayerBelow, SessionInnerError, Tells};
-use amqp_below_sessions::{AllocLinkError, BeginError, NameState, Relay, Session};
+use amqp_below_sessions::{AllocLinkError, BeginError, NameState, Relay, Session, StopReason};
 use amqp_txn_types::{
     Attach, Begin, ConnectionStopReason, Detach, End, Error, Flow, IncomingChannel, InputHandle,
     LinkFlow, OutgoingChannel, OutputHandle, SessionStopReason, Text, Transfer, count_answer,
@@ -58,20 +58,12 @@ impl<S: Session> Session for AcceptingListener<S> {
         (S.window_leaves (inner_of (listener_of old)) (inner_of (listener_of new)) flow
         gives.gave.gave) gives.gave.keeps.queue };
 
-    fn session_stop_reason(&self) -> Option<&SessionStopReason> {
-        self.listener.session_stop_reason()
+    fn stop_reasons(&self) -> (Option<&SessionStopReason>, Option<&ConnectionStopReason>) {
+        self.listener.stop_reasons()
     }
 
-    fn set_session_stop_reason(&mut self, reason: SessionStopReason) {
-        self.listener.set_session_stop_reason(reason);
-    }
-
-    fn connection_stop_reason(&self) -> Option<&ConnectionStopReason> {
-        self.listener.connection_stop_reason()
-    }
-
-    fn set_connection_stop_reason(&mut self, reason: ConnectionStopReason) {
-        self.listener.set_connection_stop_reason(reason);
+    fn keep_stop_reason(&mut self, reason: StopReason) {
+        self.listener.keep_stop_reason(reason);
     }
 
     fn outgoing_channel(&self) -> OutgoingChannel {

@@ -2,7 +2,7 @@
 
 use crate::recorder::Recorder;
 use amqp_below_layer::SessionInnerError;
-use amqp_below_sessions::{AllocLinkError, BeginError, NameState, Relay, Session};
+use amqp_below_sessions::{AllocLinkError, BeginError, NameState, Relay, Session, StopReason};
 use amqp_txn_types::{
     Attach, Begin, ConnectionStopReason, Detach, End, Error, Flow, IncomingChannel, InputHandle,
     LinkFlow, OutgoingChannel, OutputHandle, SessionStopReason, Text, Transfer,
@@ -40,20 +40,12 @@ impl<S: Session> Session for Recorder<S> {
     ghost window_leaves = { λ old new flow gives.
         S.window_leaves (inner_of old) (inner_of new) flow gives.answered };
 
-    fn session_stop_reason(&self) -> Option<&SessionStopReason> {
-        self.session.session_stop_reason()
+    fn stop_reasons(&self) -> (Option<&SessionStopReason>, Option<&ConnectionStopReason>) {
+        self.session.stop_reasons()
     }
 
-    fn set_session_stop_reason(&mut self, reason: SessionStopReason) {
-        self.session.set_session_stop_reason(reason);
-    }
-
-    fn connection_stop_reason(&self) -> Option<&ConnectionStopReason> {
-        self.session.connection_stop_reason()
-    }
-
-    fn set_connection_stop_reason(&mut self, reason: ConnectionStopReason) {
-        self.session.set_connection_stop_reason(reason);
+    fn keep_stop_reason(&mut self, reason: StopReason) {
+        self.session.keep_stop_reason(reason);
     }
 
     fn outgoing_channel(&self) -> OutgoingChannel {

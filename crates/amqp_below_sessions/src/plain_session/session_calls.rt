@@ -12,6 +12,7 @@ use crate::relay::{NameState, Relay};
 use crate::session::Session;
 use crate::session_errors::{AllocLinkError, BeginError};
 use crate::state_moves::{begin_received, begin_sent, end_received, end_sent, require_mapped};
+use crate::stop_reason::StopReason;
 use amqp_below_layer::SessionInnerError;
 use amqp_txn_types::{
     Attach, Begin, ConnectionStopReason, Detach, End, Error, Flow, IncomingChannel, InputHandle,
@@ -20,7 +21,7 @@ use amqp_txn_types::{
 };
 
 impl Session for PlainSession {
-    ghost use Rattle.amqp_below_sessions.specs.PlainCalls.{PlainAllocates, PlainAllocatesIncoming, PlainBegins, PlainBegun, PlainCutOff, PlainEnded, PlainEnds, PlainFlows, PlainFrees, PlainSends, PlainStops};
+    ghost use Rattle.amqp_below_sessions.specs.PlainCalls.{PlainAllocates, PlainAllocatesIncoming, PlainBegins, PlainBegun, PlainEnded, PlainEnds, PlainFlows, PlainFrees, PlainSends, PlainStops};
     ghost use Rattle.amqp_below_sessions.specs.PlainFrames.{PlainChecks};
     ghost use Rattle.amqp_below_sessions.specs.PlainSessions.{kept_of, names_of};
 
@@ -32,7 +33,6 @@ impl Session for PlainSession {
 
     ghost calls = { record {
       stop = PlainStops;
-      connection_stop = PlainCutOff;
       allocate_link = PlainAllocates;
       allocate_incoming_link = PlainAllocatesIncoming;
       deallocate_link = PlainFrees;
@@ -57,20 +57,15 @@ impl Session for PlainSession {
 
     ghost window_leaves = { λ old new flow gives. gives.leaves };
 
-    fn session_stop_reason(&self) -> Option<&SessionStopReason> {
-        self.stop.as_ref()
+    fn stop_reasons(&self) -> (Option<&SessionStopReason>, Option<&ConnectionStopReason>) {
+        (self.stop.as_ref(), self.connection_stop.as_ref())
     }
 
-    fn set_session_stop_reason(&mut self, reason: SessionStopReason) {
-        keep_first(&mut self.stop, reason);
-    }
-
-    fn connection_stop_reason(&self) -> Option<&ConnectionStopReason> {
-        self.connection_stop.as_ref()
-    }
-
-    fn set_connection_stop_reason(&mut self, reason: ConnectionStopReason) {
-        keep_first(&mut self.connection_stop, reason);
+    fn keep_stop_reason(&mut self, reason: StopReason) {
+        match reason {
+            StopReason::Session(reason) => keep_first(&mut self.stop, reason),
+            StopReason::Connection(reason) => keep_first(&mut self.connection_stop, reason),
+        }
     }
 
     fn outgoing_channel(&self) -> OutgoingChannel {

@@ -2,7 +2,7 @@
 
 use crate::session::TxnSession;
 use amqp_below_layer::SessionInnerError;
-use amqp_below_sessions::{AllocLinkError, BeginError, NameState, Relay, Session};
+use amqp_below_sessions::{AllocLinkError, BeginError, NameState, Relay, Session, StopReason};
 use amqp_txn_types::{
     Attach, Begin, ConnectionStopReason, Detach, End, Error, Flow, IncomingChannel, InputHandle,
     LinkFlow, OutgoingChannel, OutputHandle, SessionStopReason, Text, Transfer, count_answer,
@@ -39,20 +39,12 @@ impl<S: Session> Session for TxnSession<S> {
     ghost window_leaves = { λ old new flow gives.
         S.window_leaves (below_of old) (below_of new) flow gives.gave };
 
-    fn session_stop_reason(&self) -> Option<&SessionStopReason> {
-        self.below.session_stop_reason()
+    fn stop_reasons(&self) -> (Option<&SessionStopReason>, Option<&ConnectionStopReason>) {
+        self.below.stop_reasons()
     }
 
-    fn set_session_stop_reason(&mut self, reason: SessionStopReason) {
-        self.below.set_session_stop_reason(reason);
-    }
-
-    fn connection_stop_reason(&self) -> Option<&ConnectionStopReason> {
-        self.below.connection_stop_reason()
-    }
-
-    fn set_connection_stop_reason(&mut self, reason: ConnectionStopReason) {
-        self.below.set_connection_stop_reason(reason);
+    fn keep_stop_reason(&mut self, reason: StopReason) {
+        self.below.keep_stop_reason(reason);
     }
 
     fn outgoing_channel(&self) -> OutgoingChannel {
