@@ -16,7 +16,7 @@ use Rattle.amqp_below_layer.specs.declared.inner_error.SessionInnerError.{Sessio
 use Rattle.amqp_below_layer.specs.declared.inner_error.SessionInnerError.TheVariants as faults
 use Rattle.amqp_below_layer.specs.Faults.{is_no_memory}
 use Rattle.amqp_below_layer.specs.Inner.{Took}
-use Rattle.amqp_below_layer.specs.Told.{Checks, Steady, Takes, Told}
+use Rattle.amqp_below_layer.specs.Told.{Steady, Takes, Told}
 use Rattle.amqp_below_sessions.specs.Names.{Names, OpensLink, SameNames}
 use Rattle.amqp_below_sessions.specs.Plain.{control_error}
 use Rattle.amqp_below_sessions.specs.Sessions.{Kept, LeavesFrame}
@@ -75,13 +75,6 @@ pub record PassesOn {S : Type 0} (Tells Gives : ListenerSession S → ListenerSe
   pub gave : Gives (listener_of old) (listener_of new)
   pub acceptor : acceptor_of new ≡ acceptor_of old
   pub own : own_of new ≡ own_of old
-
--- the same, where the listener adds to no list
-abbrev pub PassesCheck : {S T E : Type 0} → (ListenerSession S → Told)
-    → (ListenerSession S → ListenerSession S → Type 0) → AcceptingListener S → AcceptingListener S
-    → Result T E → Type 0
-PassesCheck told Gives old new result =
-    Passes (λ a b. Checks (told a) (told b) result) Gives old new result
 
 -- a call of the listener that refuses nothing, and leaves what it tells
 abbrev pub PassesSame : {S : Type 0} → (ListenerSession S → Told)

@@ -59,8 +59,8 @@ impl<S: Session> Tells for AcceptingListener<S> {
 }
 
 impl<S: Session> LayerBelow for AcceptingListener<S> {
-    ghost use Rattle.amqp_below_layer.specs.Told.{Opens, Reviews};
-    ghost use Rattle.amqp_accept_at_once.specs.AtOnce.{AcceptsOver, HearsFrame, Passes, PassesCheck, PassesSame, listener_of};
+    ghost use Rattle.amqp_below_layer.specs.Told.{Checks, Opens, Reviews};
+    ghost use Rattle.amqp_accept_at_once.specs.AtOnce.{AcceptsOver, HearsFrame, Passes, PassesSame, listener_of};
     ghost use Rattle.amqp_accept_at_once.specs.AtOnceReviews.{TakesBare, heard-goes-on, stays-bare};
 
     ghost incoming_gives = { λ old new frame answer. HearsFrame
@@ -78,9 +78,11 @@ impl<S: Session> LayerBelow for AcceptingListener<S> {
         (λ a b. ⟦<ListenerSession<S> as LayerBelow>⟧.opening_gives a b attach answer)
         old new answer };
 
-    ghost check_gives = { λ old new disposition answer. PassesCheck
-        ⟦<ListenerSession<S> as Tells>⟧.told (λ a b.
-        ⟦<ListenerSession<S> as LayerBelow>⟧.check_gives a b disposition answer) old new answer };
+    ghost check_gives = { λ old new disposition answer.
+        Passes (λ a b. Checks (⟦<ListenerSession<S> as Tells>⟧.told a)
+        (⟦<ListenerSession<S> as Tells>⟧.told b) answer)
+        (λ a b. ⟦<ListenerSession<S> as LayerBelow>⟧.check_gives a b disposition answer)
+        old new answer };
 
     ghost window_gives = { λ old new flow. PassesSame ⟦<ListenerSession<S> as Tells>⟧.told
         (λ a b. ⟦<ListenerSession<S> as LayerBelow>⟧.window_gives a b flow) old new };

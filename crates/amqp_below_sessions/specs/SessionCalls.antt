@@ -51,8 +51,8 @@ pub record SessionCalls (S : Type 0) : Type 1 where
   -- The check of a detach.
   pub outgoing_detach : S → S → Detach → Result Unit SessionInnerError → Type 0
 
--- the calls of what wraps a session, each passed on to that: by what the session tells, gives and,
--- where a call may be refused, answers
+-- what wraps a session passes each call on: PassesOn of a call that refuses nothing, Passes of one
+-- that may, each by what the session tells and what it gives
 abbrev pub passed : {S W : Type 0} → (S → Told) → SessionCalls S
     → ((S → S → Type 0) → (S → S → Type 0) → W → W → Type 0)
     → ((T E : Type 0) → (S → S → Type 0) → (S → S → Type 0) → W → W → Result T E → Type 0)

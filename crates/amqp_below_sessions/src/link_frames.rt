@@ -197,19 +197,16 @@ fn detach_mapped(
     let Some((output, _)) = links.find_mapped(InputHandle(detach.handle.0)) else {
         return Err(SessionInnerError::UnattachedHandle);
     };
-    let answer = Frame::Detach(Detach {
+    let Ok(mut given) = Vec::with_capacity(alloc, 1) else {
+        return Err(SessionInnerError::NoMemory);
+    };
+    given.push_reserved(Frame::Detach(Detach {
         handle: Handle(output.0),
         closed: detach.closed,
         error: None,
-    });
-    let mut given = Frames::new(alloc);
-    if given.items.reserve(1).is_err() {
-        drop(answer);
-        return Err(SessionInnerError::NoMemory);
-    }
-    given.items.push_reserved(answer);
+    }));
     links.free(output);
-    Ok(given)
+    Ok(Frames::from_vec(given))
 }
 
 /// A detach, which frees its link, is answered by one and let go.

@@ -125,9 +125,7 @@ pub(crate) fn room_for_one(alloc: Global) -> Result<Vec<Frame>, NoMemory>
     ensures empty { IfOk result (λ room. room.items ≡ []) }
     ensures room { IfOk result (λ room. vec_len room < vec_capacity room) }
 {
-    let mut room = Vec::new(alloc);
-    room.reserve(1)?;
-    Ok(room)
+    Ok(Vec::with_capacity(alloc, 1)?)
 }
 
 /// A turn after which the session goes on, with one frame to be sent.

@@ -91,13 +91,6 @@ module _ {A : Type 0} {E : A → A → Bool} (e : IsEquality E) where
     same = λ x. e.same x.0;
   }
 
-module _ {A B : Type 0} {E : A → A → Bool} {F : B → B → Bool} (e : IsEquality E) (f : IsEquality F) where
-  pub two_fields : IsEquality (λ (x y : A × (B × Unit {0})). E x.0 y.0 && F x.1.0 y.1.0)
-  two_fields = record {
-    one = λ x y h. let b = both (E x.0 y.0) (F x.1.0 y.1.0) h in λ i. (e.one x.0 y.0 b.0 i, (f.one x.1.0 y.1.0 b.1 i, tt));
-    same = λ x. joined (e.same x.0) (f.same x.1.0);
-  }
-
 -- ---- structs
 
 -- by a test of the fields' values, as a tuple that ends with nothing

@@ -19,7 +19,7 @@ use Rattle.amqp_txn_types.specs.contracts.performatives.DetachPartialEq.TheImpl 
 use Rattle.amqp_txn_types.specs.contracts.performatives.Detach as detach_type
 use Rattle.amqp_txn_types.specs.contracts.performatives.FramePartialEq.TheImpl as frame_same
 use Rattle.amqp_txn_types.specs.contracts.performatives.Frame as frame_type
-use Rattle.amqp_resource_equality.proofs.Deciding.{IsEquality, boolean, enumeration, number, one_field, option, pair, structure, two_fields}
+use Rattle.amqp_resource_equality.proofs.Deciding.{IsEquality, boolean, enumeration, number, one_field, option, pair, structure}
 use Rattle.amqp_resource_equality.proofs.Values.{fields, handle, octets, receiver_mode, role, sender_mode, symbols}
 use Rattle.amqp_resource_equality.proofs.States.{error, state}
 
@@ -51,4 +51,4 @@ pub detach : IsEquality detach_same.eq-value.it
 detach = structure detach_type.the_type (pair handle (pair boolean (one_field (option error))))
 
 pub frame : IsEquality frame_same.eq-value.it
-frame = enumeration frame_type.enum _ (one_field attach, (one_field flow, (two_fields transfer octets, (one_field disposition, (one_field detach, tt)))))
+frame = enumeration frame_type.enum _ (one_field attach, (one_field flow, (pair transfer (one_field octets), (one_field disposition, (one_field detach, tt)))))

@@ -19,7 +19,7 @@ use Rattle.amqp_txn_types.specs.contracts.delivery.ConnectionStopReasonPartialEq
 use Rattle.amqp_txn_types.specs.contracts.delivery.ConnectionStopReason as connection_stop_type
 use Rattle.amqp_txn_types.specs.contracts.delivery.SessionStopReasonPartialEq.TheImpl as session_stop_same
 use Rattle.amqp_txn_types.specs.contracts.delivery.SessionStopReason as session_stop_type
-use Rattle.amqp_resource_equality.proofs.Deciding.{IsEquality, boolean, enumeration, no_field, number, one_field, option, pair, structure, two_fields}
+use Rattle.amqp_resource_equality.proofs.Deciding.{IsEquality, boolean, enumeration, no_field, number, one_field, option, pair, structure}
 use Rattle.amqp_resource_equality.proofs.Values.{amqp_error, connection_error, fields, link_error, octets, session_error, transaction_error}
 
 pub condition : IsEquality condition_same.eq-value.it
@@ -44,7 +44,7 @@ pub transactional : IsEquality transactional_same.eq-value.it
 transactional = structure transactional_type.the_type (pair octets (one_field (option outcome)))
 
 pub state : IsEquality state_same.eq-value.it
-state = enumeration state_type.enum _ (two_fields number number, (no_field, (one_field rejected, (no_field, (one_field modified, (one_field declared_id, (one_field transactional, tt)))))))
+state = enumeration state_type.enum _ (pair number (one_field number), (no_field, (one_field rejected, (no_field, (one_field modified, (one_field declared_id, (one_field transactional, tt)))))))
 
 pub connection_stop : IsEquality connection_stop_same.eq-value.it
 connection_stop = enumeration connection_stop_type.enum _ (no_field, (one_field error, (no_field, (one_field error, tt))))

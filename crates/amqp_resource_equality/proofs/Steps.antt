@@ -17,7 +17,7 @@ use Rattle.amqp_resource_record.specs.declared.entry.Entry.{Entry}
 use Rattle.amqp_resource_record.specs.contracts.entry.EntryPartialEq.TheImpl as entry_same
 use Rattle.std.proofs.Common.{◌≡◌}
 use Rattle.std.specs.Bool.{Decides}
-use Rattle.amqp_resource_equality.proofs.Deciding.{IsEquality, bare, both, decides, enumeration, joined, list, no_field, number, one_field, option, pair, structure, two_fields}
+use Rattle.amqp_resource_equality.proofs.Deciding.{IsEquality, bare, both, decides, enumeration, joined, list, no_field, number, one_field, option, pair, structure}
 use Rattle.amqp_resource_equality.proofs.Values.{amqp_error, octets, transaction_error}
 use Rattle.amqp_resource_equality.proofs.States.{connection_stop, error}
 use Rattle.amqp_resource_equality.proofs.Performatives.{flow, frame}
@@ -29,7 +29,7 @@ pub answers : IsEquality answers_same.eq-value.it
 answers = structure answers_type.the_type (pair (list frame) (one_field (option flow)))
 
 pub step : IsEquality step_same.eq-value.it
-step = enumeration step_type.enum _ (one_field frame, (two_fields number octets, (one_field number, (one_field (option error), (one_field (option error), (one_field connection_stop, tt))))))
+step = enumeration step_type.enum _ (one_field frame, (pair number (one_field octets), (one_field number, (one_field (option error), (one_field (option error), (one_field connection_stop, tt))))))
 
 pub reject_text : IsEquality reject_text_same.eq-value.it
 reject_text = bare reject_text_type.the_type tt
@@ -38,7 +38,7 @@ pub stop_code : IsEquality stop_code_same.eq-value.it
 stop_code = bare stop_code_type.the_type tt
 
 pub reply : IsEquality reply_same.eq-value.it
-reply = enumeration reply_type.enum _ (one_field answers, (two_fields number (list frame), (one_field fault, (no_field, (no_field, (one_field amqp_error, (one_field octets, (one_field (list answers), (two_fields transaction_error reject_text, tt)))))))))
+reply = enumeration reply_type.enum _ (one_field answers, (pair number (one_field (list frame)), (one_field fault, (no_field, (no_field, (one_field amqp_error, (one_field octets, (one_field (list answers), (pair transaction_error (one_field reject_text), tt)))))))))
 
 -- lists of drawn ids, by their ids
 pub drawn : (x y : Drawn) → Decides (drawn_same.eq-value.it x y) (x.ids ≡ y.ids)

@@ -75,25 +75,26 @@ fn flow_back(handle: Handle) -> Flow
 pub(crate) fn answer_attach(alloc: Global, attach: &Attach) -> Result<Frames, NoMemory>
     ensures { IfOk result (λ given. given ≡ attach_given attach.now) }
 {
-    let mut given = Frames::new(alloc);
-    given.append(Frame::Attach(attach_back(attach)?))?;
+    let back = attach_back(attach)?;
+    let mut given = Vec::with_capacity(alloc, 2)?;
+    given.push_reserved(Frame::Attach(back));
     if is_sender(attach.role) {
-        given.append(Frame::Flow(flow_back(attach.handle)))?;
+        given.push_reserved(Frame::Flow(flow_back(attach.handle)));
     }
-    Ok(given)
+    Ok(Frames::from_vec(given))
 }
 
 /// What is given back for a detach that is taken. The only error is out of memory.
 pub(crate) fn answer_detach(alloc: Global, detach: &Detach) -> Result<Frames, NoMemory>
     ensures { IfOk result (λ given. given ≡ detach_given detach.now) }
 {
-    let mut given = Frames::new(alloc);
-    given.append(Frame::Detach(Detach {
+    let mut given = Vec::with_capacity(alloc, 1)?;
+    given.push_reserved(Frame::Detach(Detach {
         handle: detach.handle,
         closed: detach.closed,
         error: None,
-    }))?;
-    Ok(given)
+    }));
+    Ok(Frames::from_vec(given))
 }
 
 /// The transfer of a message's copy. The only error is out of memory.
