@@ -19,7 +19,8 @@
 //!
 //! A performative is made of its required fields by `new`, or by `default` where it has none, and
 //! each other field has the standard's default until the call of its name sets it. A source, a
-//! target and a link's flow are made so too, and a literal over that sets their other fields.
+//! target and a link's flow are made so too, and a literal over that sets their other fields, and
+//! those of a begin.
 //!
 //! It stands on `thin`, which keeps a text, a list of symbols and fields to one pointer each, so
 //! that a frame has at most 248 octets; payloads are over `bytes`, and fields over `indexmap`. It

@@ -1,4 +1,5 @@
-//! Begins, flows and ends with the standard's defaults, and what sets their other fields.
+//! Begins, flows and ends with the standard's defaults, and what sets the other fields of flows and
+//! ends.
 
 ghost use Rattle.std.specs.Prelude.{◌≡◌, Some};
 ghost use Rattle.amqp_txn_types.specs.Plain.{plain_begin, plain_flow, plain_end};
@@ -7,7 +8,6 @@ use crate::delivery::Error;
 use crate::fields::Fields;
 use crate::performatives::{Begin, End, Flow};
 use crate::small::Handle;
-use crate::symbols::Symbols;
 
 impl Begin {
     /// The begin of a session that this side opens: any handle, no capabilities and no properties.
@@ -26,46 +26,6 @@ impl Begin {
             desired_capabilities: None,
             properties: None,
         }
-    }
-
-    /// Sets the channel of the begin that this one answers.
-    pub fn remote_channel(mut self, remote_channel: u16) -> Self
-        ensures { result ≡ record self { remote_channel = Some remote_channel } }
-    {
-        self.remote_channel = Some(remote_channel);
-        self
-    }
-
-    /// Sets the greatest handle that the sender of this frame can take.
-    pub fn handle_max(mut self, handle_max: Handle) -> Self
-        ensures { result ≡ record self { handle_max = handle_max } }
-    {
-        self.handle_max = handle_max;
-        self
-    }
-
-    /// Sets what the sender of this frame can do.
-    pub fn offered_capabilities(mut self, offered_capabilities: Symbols) -> Self
-        ensures { result ≡ record self { offered_capabilities = Some offered_capabilities } }
-    {
-        self.offered_capabilities = Some(offered_capabilities);
-        self
-    }
-
-    /// Sets what it wants the peer to do.
-    pub fn desired_capabilities(mut self, desired_capabilities: Symbols) -> Self
-        ensures { result ≡ record self { desired_capabilities = Some desired_capabilities } }
-    {
-        self.desired_capabilities = Some(desired_capabilities);
-        self
-    }
-
-    /// Sets other properties of the session.
-    pub fn properties(mut self, properties: Fields) -> Self
-        ensures { result ≡ record self { properties = Some properties } }
-    {
-        self.properties = Some(properties);
-        self
     }
 }
 
