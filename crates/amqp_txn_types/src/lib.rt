@@ -2,8 +2,9 @@
 //!
 //! Names and meanings are those of the standard, OASIS AMQP 1.0: primitive types (part 1),
 //! performatives (part 2, section 2.7), delivery states (part 3, section 3.4), coordination (part
-//! 4). Octets and text stand in list types that a contract sees as lists; whatever may run out of
-//! memory says so by [`NoMemory`], and copies are made by [`TryClone`].
+//! 4). Octets and text stand in list types that a contract sees as lists; the trait [`AsOctets`],
+//! which is to be imported, says how many octets they are, and each by its place. Whatever may run
+//! out of memory says so by [`NoMemory`], and copies are made by [`TryClone`].
 //!
 //! A resource keeps the frames of a transaction, and hands each on stripped of its transaction:
 //!
@@ -19,8 +20,8 @@
 //!
 //! A performative is made of its required fields by `new`, or by `default` where it has none, and
 //! each other field has the standard's default until the call of its name sets it. A source, a
-//! target and a link's flow are made so too, and a literal over that sets their other fields, and
-//! those of a begin.
+//! target and a link's flow are made so too; a literal (`..LinkFlow::new(handle)`) sets the rest of
+//! these and of a begin.
 //!
 //! It stands on `thin`, which keeps a text, a list of symbols and fields to one pointer each, so
 //! that a frame has at most 248 octets; payloads are over `bytes`, and fields over `indexmap`. It

@@ -1,5 +1,5 @@
 //! Attaches, their termini, flows of links and detaches with the standard's defaults, and what sets
-//! their other fields.
+//! the other fields of attaches and detaches, and the address of a terminus.
 
 ghost use Rattle.std.specs.Prelude.{◌≡◌, Some};
 ghost use Rattle.amqp_txn_types.specs.Plain.{plain_source, plain_target, plain_attach, plain_link_flow, plain_detach};
