@@ -1,6 +1,7 @@
 -- The tables of a session's links stay in agreement.
 use Rattle.std.proofs.Common.{ℕ, ◌≡◌, ◌≢◌, true, false, cond, Option, Some, None, List, inl, inr, sym, ◌∙◌, ap, refl, nat_eq, ◌<◌, length, is_some, set, get_or, Bool, IsSome, option_copied, Bor}
 use Rattle.std.specs.Prelude.{position}
+use Rattle.std.specs.Cmp.{unsigned_ties}
 use Rattle.std.specs.Cmp.Lexicographic.{pointwise, same_text, nat_list_eq_equiv}
 use Rattle.std.proofs.lemmas.Cmp.{nat_eq_equiv}
 use Rattle.std.proofs.lemmas.Bool.{cases_Bool, cases_eq, eqb-true}
@@ -10,8 +11,9 @@ use Rattle.std.proofs.lemmas.List.{get_or-set_same, get_or-set_other, set-get_or
 use Rattle.amqp_txn_types.specs.declared.text.Text.{Text}
 use Rattle.amqp_txn_types.specs.declared.small.InputHandle.{InputHandle}
 use Rattle.amqp_txn_types.specs.declared.small.OutputHandle.{OutputHandle}
+use Rattle.amqp_below_layer.proofs.Ordered.{Exact}
 use Rattle.amqp_below_sessions.specs.declared.links.Link.{Link}
-use Rattle.amqp_below_sessions.specs.Links.{as_output, Finds, IsWaiting, has_name, has_input, is_input, same_input, output_named, output_mapped, link_at}
+use Rattle.amqp_below_sessions.specs.Links.{as_output, Finds, IsWaiting, has_name, has_input, input_order, is_input, same_input, output_named, output_mapped, link_at}
 use Rattle.amqp_below_sessions.specs.Agreement.{Agree, Indexes, found_without, name_in, input_in}
 use Rattle.amqp_below_sessions.proofs.Positions.{position-none, position-only, within}
 use Rattle.amqp_below_sessions.proofs.Indexing.{indexes-add, indexes-drop, indexes-same, finds-position}
@@ -24,6 +26,10 @@ same_name-refl a = nat_list_eq_equiv.refl a
 
 pub same_input-eq : (a b : InputHandle) → same_input a b ≡ true → a ≡ b
 same_input-eq a b h = ap (λ n. record { 0 = n }) (eqb-true a.0 b.0 h)
+
+-- input handles are kept by the order of their numbers
+pub inputs_exact : Exact input_order same_input
+inputs_exact = record { ties = λ a b. unsigned_ties a.0 b.0; one = same_input-eq }
 
 pub same_input-refl : (a : InputHandle) → same_input a a ≡ true
 same_input-refl a = nat_eq_equiv.refl a.0

@@ -1,6 +1,5 @@
 pub mod Positions
 pub mod Indexing
-pub mod Ordered
 pub mod Agreeing
 pub mod Answered
 pub mod Exactly

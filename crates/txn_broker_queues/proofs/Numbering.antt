@@ -8,9 +8,9 @@ use Rattle.std.specs.Option.{option_or}
 use Rattle.std.specs.Ordering.{nat_cmp}
 use Rattle.std.proofs.lemmas.Cmp.{nat_list_eq_equiv}
 use Rattle.std.proofs.lemmas.Iterator.Adapters.{position_from-zero}
+use Rattle.amqp_below_layer.proofs.Ordered.{changed-at, names_exact, put-back}
 use Rattle.txn_broker_queues.specs.Keeping.{AreNumbered}
 use Rattle.txn_broker_queues.proofs.Naming.{same_name}
-use Rattle.txn_broker_queues.proofs.Ordered.{changed-at, names_exact, put-back}
 
 -- ---- the place of a name among some names and one more
 

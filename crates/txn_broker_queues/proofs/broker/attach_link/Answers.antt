@@ -1,5 +1,6 @@
 use Rattle.std.proofs.Common.{Some}
-use Rattle.txn_broker_queues.proofs.Ordered.{changed-twice, handles_exact, put-back}
+use Rattle.amqp_below_layer.proofs.Ordered.{changed-twice, put-back}
+use Rattle.txn_broker_queues.proofs.Ordered.{handles_exact}
 use Rattle.txn_broker_queues.proofs.broker.attach_link.Goals as goal
 
 pub returns-in-Ok-clause-linked : goal.returns-in-Ok-clause-linked

@@ -1,8 +1,8 @@
 use Rattle.std.proofs.Common.{◌≡◌, ◌∙◌, ap, sym, refl, Some, None}
 use Rattle.std.specs.Option.{option_copied_mut}
+use Rattle.amqp_below_layer.proofs.Ordered.{changed-at}
 use Rattle.amqp_below_sessions.specs.Links.{link_at, output_mapped, output_named}
-use Rattle.amqp_below_sessions.proofs.Agreeing.{agree-mapped, input-free, waits-unmapped, written-mapped, written-named}
-use Rattle.amqp_below_sessions.proofs.Ordered.{input-changed}
+use Rattle.amqp_below_sessions.proofs.Agreeing.{agree-mapped, input-free, inputs_exact, waits-unmapped, written-mapped, written-named}
 use Rattle.amqp_below_sessions.proofs.links.Links.attach.Goals as goal
 
 pub invariant_of-self-2 : goal.invariant_of-self-2
@@ -12,7 +12,7 @@ invariant_of-self-2 c =
     let here : link_at c.args.self.now.slots c.args.output.0 ≡ Some c.unwrap-link.result.now = rw (← slots_are) there in
     let free : output_mapped c.self.inside.slots.slots c.args.input ≡ None = rw slots_are c.requires.unmapped in
     agree-mapped _ _ _ _ _ _ c.unwrap-link.result.now _ c.self.invariant there c.args.input c.args.output (input-free _ _ _ c.self.invariant c.args.input free) refl (waits-unmapped _ _ here c.requires.waiting) refl refl (λ q. refl)
-    (input-changed _ _ c.args.input (Some c.args.output) c.in-Ok.ensures.updates.0)
+    (changed-at inputs_exact _ _ c.args.input (Some c.args.output) c.in-Ok.ensures.updates.0)
 
 pub returns-clause-named : goal.returns-clause-named
 returns-clause-named c =

@@ -1,8 +1,8 @@
 use Rattle.std.proofs.Common.{◌≡◌, ◌∙◌, ap, sym, refl, Some, None}
+use Rattle.amqp_below_layer.proofs.Ordered.{changed-at, names_exact}
 use Rattle.amqp_below_sessions.specs.Agreement.{name_in}
 use Rattle.amqp_below_sessions.specs.Links.{link_at, output_named}
 use Rattle.amqp_below_sessions.proofs.Agreeing.{agree-placed, name-free, named-now}
-use Rattle.amqp_below_sessions.proofs.Ordered.{name-changed}
 use Rattle.amqp_below_sessions.proofs.links.Links.place.Goals as goal
 
 pub invariant_of-self-2 : goal.invariant_of-self-2
@@ -16,7 +16,7 @@ invariant_of-self-2 c =
     (c.vacant_key.ensures.value ∙ sym c.insert_reserved.ensures.key)
     (sym (ap (λ s. link_at s c.insert_reserved.result) kept) ∙ c.insert_reserved.ensures.was_vacant)
     c.insert_reserved.ensures.updates.changed
-    (name-changed _ _ c.in_ok-copy.copy (Some (record { 0 = c.vacant_key.result })) c.in-Ok.ensures.updates.0) (λ q. refl)
+    (changed-at names_exact _ _ c.in_ok-copy.copy (Some (record { 0 = c.vacant_key.result })) c.in-Ok.ensures.updates.0) (λ q. refl)
 
 pub returns-clause-named : goal.returns-clause-named
 returns-clause-named c =

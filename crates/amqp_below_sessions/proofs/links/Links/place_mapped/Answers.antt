@@ -3,10 +3,10 @@ use Rattle.std.specs.BTreeMap.{is_at}
 use Rattle.std.specs.Map.{lookup}
 use Rattle.std.specs.Ordering.{nat_cmp}
 use Rattle.std.specs.Cmp.Lexicographic.{slice_cmp}
+use Rattle.amqp_below_layer.proofs.Ordered.{changed-at, names_exact, put-back}
 use Rattle.amqp_below_sessions.specs.Agreement.{input_in, name_in}
-use Rattle.amqp_below_sessions.specs.Links.{link_at, output_mapped, output_named, same_input}
-use Rattle.amqp_below_sessions.proofs.Agreeing.{agree-placed_mapped, agree-same, input-free, mapped-now, name-free, named-now, same_input-eq}
-use Rattle.amqp_below_sessions.proofs.Ordered.{input-changed, name-changed, taken-back}
+use Rattle.amqp_below_sessions.specs.Links.{link_at, output_mapped, output_named}
+use Rattle.amqp_below_sessions.proofs.Agreeing.{agree-placed_mapped, agree-same, input-free, inputs_exact, mapped-now, name-free, named-now}
 use Rattle.amqp_below_sessions.proofs.links.Links.place_mapped.Goals as goal
 
 pub invariant_of-self-in_default-insert : goal.invariant_of-self-in_default-insert
@@ -15,9 +15,8 @@ invariant_of-self-in_default-insert c =
     let unmapped : output_mapped c.self.inside.slots.slots c.args.input ≡ None = rw slots_are c.requires.unmapped in
     agree-same _ _ _ _ _ _ c.self.invariant (ap (λ s. s.slots) c.reserve.ensures.rest_kept)
     (λ q. ap (λ es. lookup (is_at (slice_cmp nat_cmp q)) es) c.in_default-insert.ensures.err)
-    (taken-back same_input same_input-eq _ _ _ c.args.input (Some (record { 0 = c.vacant_key.result })) (input-free _ _ _ c.self.invariant c.args.input unmapped)
-    (input-changed _ _ c.args.input (Some (record { 0 = c.vacant_key.result })) c.in-Ok.ensures.updates.0)
-    (input-changed _ _ c.args.input None c.remove.ensures.updates.0))
+    (put-back inputs_exact _ _ _ c.args.input (Some (record { 0 = c.vacant_key.result })) None (sym (input-free _ _ _ c.self.invariant c.args.input unmapped))
+    c.in-Ok.ensures.updates.0 c.remove.ensures.updates.0)
 
 pub invariant_of-self-2 : goal.invariant_of-self-2
 invariant_of-self-2 c =
@@ -31,8 +30,8 @@ invariant_of-self-2 c =
     (c.vacant_key.ensures.value ∙ sym c.insert_reserved.ensures.key)
     (sym (ap (λ s. link_at s c.insert_reserved.result) kept) ∙ c.insert_reserved.ensures.was_vacant)
     c.insert_reserved.ensures.updates.changed
-    (name-changed _ _ c.in_ok-copy.copy (Some (record { 0 = c.vacant_key.result })) c.in-Ok-insert.ensures.updates.0)
-    (input-changed _ _ c.args.input (Some (record { 0 = c.vacant_key.result })) c.in-Ok.ensures.updates.0)
+    (changed-at names_exact _ _ c.in_ok-copy.copy (Some (record { 0 = c.vacant_key.result })) c.in-Ok-insert.ensures.updates.0)
+    (changed-at inputs_exact _ _ c.args.input (Some (record { 0 = c.vacant_key.result })) c.in-Ok.ensures.updates.0)
 
 pub returns-clause-named : goal.returns-clause-named
 returns-clause-named c =

@@ -1,12 +1,13 @@
 use Rattle.std.proofs.Common.{None, ap, subst, sym, ◌∙◌}
 use Rattle.std.specs.BTreeMap.{get}
 use Rattle.amqp_txn_types.specs.declared.performatives.Frame.TheVariants as frames
+use Rattle.amqp_below_layer.proofs.Ordered.{changed-at}
 use Rattle.txn_broker_queues.specs.Given.{given_back}
 use Rattle.txn_broker_queues.specs.Keeping.{Keeps, handle_order}
 use Rattle.txn_broker_queues.specs.Taking.{frames_of}
 use Rattle.txn_broker_queues.proofs.Answered.{answered_more}
 use Rattle.txn_broker_queues.proofs.Kept.{keeps_detach}
-use Rattle.txn_broker_queues.proofs.Ordered.{changed-at, handles_exact}
+use Rattle.txn_broker_queues.proofs.Ordered.{handles_exact}
 use Rattle.txn_broker_queues.proofs.Telling.{frames_more}
 use Rattle.txn_broker_queues.proofs.broker.Broker.hear_detach.Goals as goal
 
