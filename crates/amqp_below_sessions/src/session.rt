@@ -62,7 +62,7 @@ pub trait Session: LayerBelow {
     /// What each call answers and leaves, beside those of a layer below.
     ghost calls: { SessionCalls Self };
 
-    /// Why the session and its connection stopped.
+    /// Why the session and its connection stopped, each where it did.
     fn stop_reasons(&self) -> (Option<&SessionStopReason>, Option<&ConnectionStopReason>)
         ensures session { option_copied result.0 ≡ (kept self.now).stop }
         ensures connection { option_copied result.1 ≡ (kept self.now).connection };

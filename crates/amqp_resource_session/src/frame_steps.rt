@@ -56,9 +56,10 @@ fn presumed(alloc: Global, transfer: &Transfer, id: TransactionId) -> Result<Fra
     let Some(disposition) = presumptive(&id, transfer) else {
         return Ok(Frames::new(alloc));
     };
+    let frame = Frame::Disposition(disposition);
     // Room for the one frame, where a list that grows takes room for four.
     let mut given = Vec::with_capacity(alloc, 1)?;
-    given.push_reserved(Frame::Disposition(disposition));
+    given.push_reserved(frame);
     Ok(Frames::from_vec(given))
 }
 
