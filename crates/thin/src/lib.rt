@@ -24,8 +24,6 @@ use std::marker::Model;
 
 mod impls;
 mod slot;
-#[cfg(test)]
-mod tests;
 
 /// Nothing, or a value on the heap: eight octets, whatever the value's size.
 ///

@@ -1,8 +1,8 @@
 // What no clause says of a `Thin`: its size, that values are let go once, that it crosses threads.
 
-use crate::Thin;
 use std::mem::size_of;
 use std::rc::Rc;
+use thin::Thin;
 
 fn moves_to_a_thread<T: Send>(_value: &T) {}
 
