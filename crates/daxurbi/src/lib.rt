@@ -27,6 +27,8 @@ mod codes;
 mod exports;
 mod handle;
 mod parts;
+#[cfg(test)]
+mod session_tests;
 mod slot;
 mod slot_calls;
 #[cfg(test)]

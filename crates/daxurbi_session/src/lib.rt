@@ -27,8 +27,6 @@ mod last_step;
 mod reporting;
 mod slot_ids;
 mod slot_session;
-#[cfg(test)]
-mod tests;
 mod told_steps;
 
 pub use control_payloads::{MessageKind, message_in, payload_of};

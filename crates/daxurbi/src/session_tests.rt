@@ -1,9 +1,9 @@
-//! What no clause says: that steps are answered where there is memory, by the words of the tables;
-//! and that what was told is what comes.
+//! Tests of the session that a slot holds: that steps are answered where there is memory, by the
+//! words of the tables, which no clause says; and that what was told is what comes.
 
-use crate::*;
 use amqp_txn_types::TransactionId;
 use daxurbi_layer::{BelowAnswer, NamedError};
+use daxurbi_session::{MessageKind, SlotIds, SlotSession, Stepped, message_in, payload_of};
 use std::alloc::Global;
 use std::process::Abort;
 
