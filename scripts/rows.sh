@@ -104,7 +104,7 @@ planned --starve 3 7 8 "$want 1\n${first}taken transfer 1 1 true - 50\n"
 # The stored run of each main is one of them.
 for stored in txn_main:interleaved txn_main_listen:listen-late-post \
   txn_main_broker:broker-commit txn_main_relay:relay-once txn_main_mailbox:mailbox-commit \
-  txn_main_audit:audit txn_main_agree:agree-commit; do
+  txn_main_audit:audit txn_main_agree:agree-commit txn_main_threads:threads; do
   for pair in stdin:steps args:words stdout:report status:status; do
     example=$top/examples/${stored#*:}.${pair#*:}
     [ ! -e "$example" ] || cmp "$top/crates/${stored%:*}/${pair%:*}" "$example" || failed=$((failed + 1))

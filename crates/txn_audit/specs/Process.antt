@@ -1,9 +1,9 @@
 -- What an audit of a process leaves: for its arguments, or where there were none.
 use Rattle.std.specs.Prelude.{ℕ, ◌≡◌, Option, None, Result, Ok, Err, List}
 use Rattle.amqp_below_streams.specs.Streams.{SinkTold, SourceTold}
+use Rattle.txn_program_edges.specs.Faults.{fault_status, fault_text}
 use Rattle.txn_program_edges.specs.Writing.{EndsWith, Wrote}
-use Rattle.txn_program_process.specs.Faults.{fault_status, fault_text}
-use Rattle.txn_program_process.specs.declared.fault.Fault.{Fault}
+use Rattle.txn_program_edges.specs.declared.fault.Fault.{Fault}
 use Rattle.txn_audit.specs.AuditInput.{audit_words}
 use Rattle.txn_audit.specs.Auditing.{Audits}
 

@@ -9,7 +9,7 @@ use crate::audit_runs::{AuditRan, end, run_audit};
 use amqp_below_streams::{ByteSink, ByteSource};
 use amqp_txn_types::{Items, Text};
 use std::alloc::Global;
-use txn_program_process::{Fault, end_at_fault};
+use txn_program_edges::{Fault, end_at_fault};
 
 /// Audits what the arguments of a process ask for: the process ends with the status. Where there
 /// are no arguments, the text of why is written.

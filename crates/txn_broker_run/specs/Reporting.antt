@@ -6,12 +6,8 @@ use Rattle.amqp_resource_record.specs.declared.stop.Driven.{Driven}
 use Rattle.txn_broker_queues.specs.declared.message.Message.{Message}
 use Rattle.txn_broker_queues.specs.Keeping.{queue_names}
 use Rattle.txn_broker_queues.specs.Queues.{queue}
-use Rattle.txn_program_report.specs.Report.{line, payload_word, report_text}
-
--- the line of a message: its number and its octets
-abbrev pub message_line : Message → List ℕ
-message_line message =
-    line (codes "message " ++ decimal message.number ++ 32 ∷ payload_word message.payload)
+use Rattle.txn_broker_text.specs.Lines.{message_line}
+use Rattle.txn_program_report.specs.Report.{line, report_text}
 
 -- the lines of a queue: its name, how many messages wait, and these
 abbrev pub queue_text : List ℕ → List Message → List ℕ

@@ -9,16 +9,16 @@ use Rattle.txn_broker_queues.specs.Taking.{Board, taken_of}
 use Rattle.txn_broker_run.specs.Reporting.{broker_text}
 use Rattle.txn_broker_run.specs.Running.{IsBrokerRun}
 use Rattle.txn_broker_run.specs.declared.runs.BrokerRan.{BrokerRan}
+use Rattle.txn_program_edges.specs.Faults.{fault_status, fault_text}
 use Rattle.txn_program_edges.specs.Reading.{Finds}
 use Rattle.txn_program_edges.specs.Unserved.{line_text}
 use Rattle.txn_program_edges.specs.Words.{id_words, stream_of_ids}
 use Rattle.txn_program_edges.specs.Writing.{EndsWith, Wrote}
+use Rattle.txn_program_edges.specs.declared.fault.Fault.{Fault}
 use Rattle.txn_program_edges.specs.declared.input.Reading.{Reading}
 use Rattle.txn_program_edges.specs.declared.input.Reading.TheVariants as readings
 use Rattle.txn_program_edges.specs.declared.words.Ids.{Ids}
 use Rattle.txn_program_lines.specs.Lines.{input_steps}
-use Rattle.txn_program_process.specs.Faults.{fault_status, fault_text}
-use Rattle.txn_program_process.specs.declared.fault.Fault.{Fault}
 use Rattle.txn_program_runs.specs.Completing.{InputEnds, NoneRose, RunEnds, SpelledEnds}
 use Rattle.txn_program_runs.specs.Running.{IsSpelledBy, driven_status, input_status, spelled_status}
 use Rattle.txn_program_runs.specs.declared.step_runs.TheConstants.{INPUT_LIMIT}

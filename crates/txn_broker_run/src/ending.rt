@@ -9,7 +9,7 @@ use amqp_below_streams::{ByteSink, ByteSource};
 use amqp_txn_types::{Items, Text};
 use std::alloc::Global;
 use txn_broker_queues::Broker;
-use txn_program_process::{Fault, end_at_fault};
+use txn_program_edges::{Fault, end_at_fault};
 
 /// Does what the arguments of a process ask for, and returns the run: the process ends with its
 /// status. Where there are no arguments, the text of why is written.

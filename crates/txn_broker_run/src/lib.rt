@@ -5,7 +5,7 @@
 //! | [`drive_broker`], [`BrokerRun`] | steps driven through a session over a new broker |
 //! | [`run_broker`], [`BrokerRan`] | the same for the words and the input of a program, with its report |
 //! | [`end_broker`] | the same for a process |
-//! | [`broker_report`], [`put_messages`] | the text of a run, and of messages |
+//! | [`broker_report`] | the text of a run |
 //!
 //! ```text
 //! let ran = run_broker(alloc, words, &mut input, &mut output);
@@ -18,7 +18,7 @@
 //! // queue q 0
 //! ```
 //!
-//! Below stand the session, the record, the broker, and the edges of a program. The promise that
+//! Below stand the session, the record, the broker, its messages' lines and the edges of a program. The promise that
 //! this crate carries: the queues of the broker are then those of the record's plain frames and of
 //! its committed transactions run one after the other, each at its commit; and after a refusal
 //! also of the first frames of the step that was refused, none of a commit.
@@ -31,5 +31,5 @@ mod runs;
 
 pub use driving::{BrokerRun, drive_broker};
 pub use ending::end_broker;
-pub use queue_report::{broker_report, put_messages};
+pub use queue_report::broker_report;
 pub use runs::{BrokerRan, run_broker};

@@ -1,16 +1,16 @@
 //! The report of a run over a broker.
 
 ghost use Rattle.std.specs.Prelude.{◌≡◌, ◌++◌, string_bytes, IfOk, OnOk};
-ghost use Rattle.std.specs.List.{flat_map};
 ghost use Rattle.txn_broker_queues.specs.Taking.{taken_of};
-ghost use Rattle.txn_broker_run.specs.Reporting.{broker_text, message_line, queue_text, queues_text};
+ghost use Rattle.txn_broker_run.specs.Reporting.{broker_text, queue_text, queues_text};
 
 use amqp_below_layer::Exchanges;
 use amqp_resource_record::Driven;
 use amqp_txn_types::{NoMemory, Text};
 use std::alloc::Global;
 use txn_broker_queues::{Broker, Message};
-use txn_program_report::{put, put_number, put_payload, report_string};
+use txn_broker_text::put_messages;
+use txn_program_report::{put, put_number, report_string};
 
 /// The text of a report: the lines of each entry, the stop, how many frames of the stopping step
 /// were taken, and the lines of each queue. The only error is out of memory.
@@ -56,26 +56,4 @@ fn put_queue(
     put_number(out, messages.len() as u64)?;
     put(out, "\n")?;
     put_messages(alloc, out, messages)
-}
-
-/// Puts the lines of some messages at the end. The only error is out of memory.
-pub fn put_messages(alloc: Global, out: &mut String, messages: &[Message]) -> Result<(), NoMemory>
-    ensures { OnOk result (string_bytes out.new
-        ≡ string_bytes out.old ++ flat_map message_line messages.now) }
-{
-    for message in messages {
-        put_message(alloc, out, message)?;
-    }
-    Ok(())
-}
-
-/// Puts the line `message NUMBER PAYLOAD` at the end.
-fn put_message(alloc: Global, out: &mut String, message: &Message) -> Result<(), NoMemory>
-    ensures { OnOk result (string_bytes out.new
-        ≡ string_bytes out.old ++ message_line message.now) }
-{
-    put(out, "message ")?;
-    put_number(out, u64::from(message.number))?;
-    put_payload(alloc, out, &message.payload)?;
-    put(out, "\n")
 }

@@ -9,13 +9,13 @@ use Rattle.amqp_below_streams.specs.Streams.{SinkTold, SourceTold}
 use Rattle.amqp_resource_session.specs.declared.session.TxnSession.{TxnSession}
 use Rattle.amqp_resource_session.specs.Session.{IsFresh, below_of}
 use Rattle.amqp_txn_types.specs.declared.id.TransactionId.{TransactionId}
+use Rattle.txn_program_edges.specs.Faults.{fault_status, fault_text}
 use Rattle.txn_program_edges.specs.Reading.{Finds}
 use Rattle.txn_program_edges.specs.Unserved.{line_text}
 use Rattle.txn_program_edges.specs.Writing.{EndsWith, Wrote}
+use Rattle.txn_program_edges.specs.declared.fault.Fault.{Fault}
 use Rattle.txn_program_edges.specs.declared.input.Reading.{Reading}
 use Rattle.txn_program_edges.specs.declared.input.Reading.TheVariants as readings
-use Rattle.txn_program_process.specs.Faults.{fault_status, fault_text}
-use Rattle.txn_program_process.specs.declared.fault.Fault.{Fault}
 use Rattle.txn_program_runs.specs.Ends.{IsNewRecorder}
 use Rattle.txn_program_runs.specs.Running.{stop_status, taken_of}
 use Rattle.txn_program_runs.specs.declared.step_runs.TheConstants.{INPUT_LIMIT}

@@ -21,10 +21,10 @@ use std::thread::Threads;
 use txn_gate::OpenGate;
 use txn_mailbox_serving::{Served, serve_two};
 use txn_program_edges::{
-    Reading, TransactionIds, Unserved, end_unserved, read_up_to, status, write_and_end,
+    Fault, Reading, TransactionIds, Unserved, end_at_fault, end_unserved, read_up_to, status,
+    write_and_end,
 };
 use txn_program_lines::SpellError;
-use txn_program_process::{Fault, end_at_fault};
 use txn_program_runs::{INPUT_LIMIT, status_of_stop};
 
 /// What a run of a mailbox left.

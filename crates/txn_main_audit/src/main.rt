@@ -8,8 +8,7 @@ use std::alloc::Alloc;
 use std::io::{self, Eprint};
 use std::process::ExitCode;
 use txn_audit::{AuditRan, end_audit};
-use txn_program_edges::{StdSink, StdSource};
-use txn_program_process::arguments;
+use txn_program_edges::{StdSink, StdSource, arguments};
 
 fn main(rt: HostRuntime) -> ExitCode {
     let mut input = StdSource::new(rt.reader());

@@ -9,8 +9,7 @@ use std::io;
 use std::mem::ManuallyDrop;
 use std::process::ExitCode;
 use txn_broker_run::end_broker;
-use txn_program_edges::{StdSink, StdSource};
-use txn_program_process::arguments;
+use txn_program_edges::{StdSink, StdSource, arguments};
 
 fn main(rt: HostRuntime) -> ExitCode {
     let mut input = StdSource::new(rt.reader());

@@ -23,8 +23,7 @@ use std::alloc::{Alloc, Global};
 use std::io;
 use std::mem::ManuallyDrop;
 use std::process::ExitCode;
-use txn_program_edges::{StdSink, StdSource};
-use txn_program_process::{Fault, arguments};
+use txn_program_edges::{Fault, StdSink, StdSource, arguments};
 use txn_program_runs::{Layer, Ran, end_over};
 
 /// Serves the arguments over a new listener, and returns the run: the process ends with its status.

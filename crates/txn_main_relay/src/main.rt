@@ -8,9 +8,8 @@ use std::alloc::Alloc;
 use std::io;
 use std::mem::ManuallyDrop;
 use std::process::ExitCode;
-use txn_program_edges::{StdSink, StdSource};
-use txn_program_process::arguments;
-use txn_relay_run::end_relay;
+use txn_program_edges::{StdSink, StdSource, arguments};
+use txn_relay::end_relay;
 
 fn main(rt: HostRuntime) -> ExitCode {
     let mut input = StdSource::new(rt.reader());

@@ -5,7 +5,7 @@
 #![tactic(auto)]
 
 ghost use Rattle.txn_program_edges.specs.Writing.{sink_of};
-ghost use Rattle.txn_program_threads_words.specs.Ends.{EndsProcessNew};
+ghost use Rattle.txn_program_threads.specs.Ends.{EndsProcessNew};
 
 use amqp_below_layer::{OpenSession, Tells};
 use amqp_below_recorder::Recorder;
@@ -17,10 +17,9 @@ use std::mem::ManuallyDrop;
 use std::process::ExitCode;
 use std::sync::Wait;
 use std::thread::Threads;
-use txn_program_edges::StdSink;
-use txn_program_process::{Fault, arguments};
+use txn_program_edges::{Fault, StdSink, arguments};
 use txn_program_runs::Ran;
-use txn_program_threads_words::end_threads_over;
+use txn_program_threads::end_threads_over;
 
 /// Serves the arguments over a layer that takes everything, and returns the run: the process ends
 /// with its status.

@@ -8,8 +8,8 @@ use Rattle.txn_program_agree.specs.declared.agree_words.AgreeCommand.{AgreeComma
 use Rattle.txn_program_runs.specs.RunWords.{run_command_of}
 use Rattle.txn_program_runs.specs.declared.run_words.RunCommand.{RunCommand}
 use Rattle.txn_program_runs.specs.declared.step_runs.Ran.{Ran}
-use Rattle.txn_program_threads_words.specs.ThreadsWords.{threads_command_of}
-use Rattle.txn_program_threads_words.specs.declared.threads_words.ThreadsCommand.{ThreadsCommand}
+use Rattle.txn_program_threads.specs.ThreadsWords.{threads_command_of}
+use Rattle.txn_program_threads.specs.declared.threads_words.ThreadsCommand.{ThreadsCommand}
 use Rattle.txn_program.specs.Commands.{Serves, command_of, of_agree, of_run, of_threads, or_else, without_threads}
 
 -- a run of steps or of two parties isn't `threads`

@@ -10,9 +10,9 @@ use Rattle.txn_program_runs.specs.RunWords.{run_command_of, IsWithin as IsRunWit
 use Rattle.txn_program_runs.specs.Serving.{ServesRun}
 use Rattle.txn_program_runs.specs.declared.run_words.RunCommand.{RunCommand}
 use Rattle.txn_program_runs.specs.declared.step_runs.Ran.{Ran}
-use Rattle.txn_program_threads_words.specs.Ends.{ServesThreads}
-use Rattle.txn_program_threads_words.specs.ThreadsWords.{threads_command_of, IsWithin as IsThreadsWithin}
-use Rattle.txn_program_threads_words.specs.declared.threads_words.ThreadsCommand.{ThreadsCommand}
+use Rattle.txn_program_threads.specs.Ends.{ServesThreads}
+use Rattle.txn_program_threads.specs.ThreadsWords.{threads_command_of, IsWithin as IsThreadsWithin}
+use Rattle.txn_program_threads.specs.declared.threads_words.ThreadsCommand.{ThreadsCommand}
 use Rattle.txn_program.specs.declared.commands.Command.{Command}
 use Rattle.txn_program.specs.declared.commands.Command.TheVariants as commands
 

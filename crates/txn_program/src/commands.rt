@@ -17,7 +17,7 @@ use std::sync::Wait;
 use std::thread::Threads;
 use txn_program_agree::{AgreeCommand, agree_command_of, serve_agree};
 use txn_program_runs::{Ran, RunCommand, end_without_memory, run_command_of, serve_run};
-use txn_program_threads_words::{ThreadsCommand, serve_threads_command, threads_command_of};
+use txn_program_threads::{ThreadsCommand, serve_threads_command, threads_command_of};
 
 /// What the arguments ask for.
 #[derive(Debug, Drop, PartialEq)]

@@ -20,6 +20,8 @@
 #![tactic(auto)]
 
 mod commands;
+#[cfg(test)]
+mod tests;
 
 pub use commands::{Command, command_of, run, run_command, run_commands};
 pub use txn_program_agree::AgreeCommand;
@@ -27,5 +29,4 @@ pub use txn_program_edges::{Ids, Reading, StdSink, StdSource, TransactionIds, st
 pub use txn_program_lines::{SpellError, spells};
 pub use txn_program_report::report;
 pub use txn_program_runs::{INPUT_LIMIT, Layer, Plans, Ran, RunCommand};
-pub use txn_program_threads::{ThreadsRan, serve_threads};
-pub use txn_program_threads_words::ThreadsCommand;
+pub use txn_program_threads::{ThreadsCommand, ThreadsRan, serve_threads};

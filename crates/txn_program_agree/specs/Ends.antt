@@ -3,7 +3,7 @@ use Rattle.std.specs.Prelude.{ℕ, Result, Ok, Err, List}
 use Rattle.amqp_below_layer.specs.Told.{Told}
 use Rattle.amqp_below_recorder.specs.declared.recorder.Recorder.{Recorder}
 use Rattle.amqp_below_streams.specs.Streams.{SinkTold, SourceTold}
-use Rattle.txn_program_process.specs.declared.fault.Fault.{Fault}
+use Rattle.txn_program_edges.specs.declared.fault.Fault.{Fault}
 use Rattle.txn_program_runs.specs.Ends.{EndsFaulty, IsNewRecorder}
 use Rattle.txn_program_runs.specs.declared.step_runs.Ran.{Ran}
 use Rattle.txn_program_agree.specs.AgreeWords.{agree_command_of}

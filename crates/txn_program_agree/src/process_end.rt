@@ -12,7 +12,7 @@ use amqp_below_recorder::Recorder;
 use amqp_below_streams::{ByteSink, ByteSource};
 use amqp_txn_types::{Items, Text};
 use std::alloc::Global;
-use txn_program_process::{Fault, end_at_fault};
+use txn_program_edges::{Fault, end_at_fault};
 use txn_program_runs::{Ran, end_without_memory};
 
 /// Does what the arguments of a process ask, and returns the run: the process ends with its status.

@@ -1,4 +1,4 @@
-//! The edges of a program: its input, its output, its words, and how it ends.
+//! The edges of a program: its arguments, its input, its output, its words, and how it ends.
 //!
 //! | item | is |
 //! |---|---|
@@ -6,6 +6,7 @@
 //! | [`write_all`], [`write_and_end`] | a text, written whole, and the status that comes of it |
 //! | [`end_unserved`], [`Unserved`] | the ends of a program that does nothing |
 //! | [`status`] | the statuses |
+//! | [`arguments`], [`Fault`], [`end_at_fault`] | the arguments of a process, and its end without them |
 //! | [`id_words`], [`id_list_of`], [`Ids`] | the ids that words name |
 //! | [`call_list_of`], [`count_of`] | a list of calls, and a count |
 //! | [`StdSource`], [`StdSink`] | readers and writers of the standard library |
@@ -18,11 +19,27 @@
 //! }
 //! ```
 //!
+//! A `main` makes a source of standard input and a sink of standard output, and lends both to a
+//! call that answers the status. What it can't give that call are arguments that couldn't be read:
+//!
+//! ```
+//! fn main(rt: HostRuntime) -> ExitCode {
+//!     let mut input = StdSource::new(rt.reader());
+//!     let mut output = StdSink::new(io::writer(&rt));
+//!     let status = match arguments(&rt) {
+//!         Ok(arguments) => serve(rt.alloc(), &arguments, &mut input, &mut output),
+//!         Err(fault) => end_at_fault(fault, &mut output),
+//!     };
+//!     ExitCode::from(status)
+//! }
+//! ```
+//!
 //! Below stand the streams, the sources of ids and the words of lines. The promise that this crate
 //! carries: what is read is the whole input or one octet past the limit, what is written is the
 //! whole text, a front of it where the sink failed, or nothing where memory ran out.
 #![tactic(auto)]
 
+mod fault;
 mod input;
 mod output;
 pub mod status;
@@ -30,6 +47,7 @@ mod std_streams;
 mod unserved;
 mod words;
 
+pub use fault::{Fault, arguments, end_at_fault};
 pub use input::{Reading, read_up_to};
 pub use output::{write_all, write_and_end};
 pub use std_streams::{StdSink, StdSource};

@@ -4,9 +4,9 @@ use Rattle.amqp_below_layer.specs.Told.{Told}
 use Rattle.amqp_below_recorder.specs.Recording.{IsFresh, inner_of, is_unused, own_of, own_vetoes_of, plan_of, starved_of}
 use Rattle.amqp_below_recorder.specs.declared.recorder.Recorder.{Recorder}
 use Rattle.amqp_below_streams.specs.Streams.{SinkTold, SourceTold}
+use Rattle.txn_program_edges.specs.Faults.{fault_status, fault_text}
 use Rattle.txn_program_edges.specs.Writing.{EndsWith, Wrote}
-use Rattle.txn_program_process.specs.Faults.{fault_status, fault_text}
-use Rattle.txn_program_process.specs.declared.fault.Fault.{Fault}
+use Rattle.txn_program_edges.specs.declared.fault.Fault.{Fault}
 use Rattle.txn_program_runs.specs.RunWords.{command_over, run_command_of}
 use Rattle.txn_program_runs.specs.Serving.{ServesRun}
 use Rattle.txn_program_runs.specs.declared.run_words.Layer.{Layer}

@@ -10,11 +10,11 @@ use Rattle.amqp_resource_shared.specs.declared.reply_code.ReplyCode.{ReplyCode}
 use Rattle.amqp_resource_shared.proofs.ReceiptLaws.{entry-receipt, kinds-agree}
 use Rattle.txn_program_threads.specs.Gathered.{EachStepAmong, IsGathered, IsStepAmong}
 use Rattle.txn_program_threads.specs.Histories.{AreOfWorkers, IsStepOfWorkers}
+use Rattle.txn_program_threads.specs.Tallies.{IsTallyOf, Kind, attached, closed, declared, ended, posted, refused, tally_of}
+use Rattle.txn_program_threads.specs.WorkerSteps.{attaches_on}
+use Rattle.txn_program_threads.specs.Works.{attach_told, gives_id, gives_link}
 use Rattle.txn_program_threads.proofs.Statuses.{refused-counted}
-use Rattle.txn_program_workers.specs.Tallies.{IsTallyOf, Kind, attached, closed, declared, ended, posted, refused, tally_of}
-use Rattle.txn_program_workers.specs.WorkerSteps.{attaches_on}
-use Rattle.txn_program_workers.specs.Works.{attach_told, gives_id, gives_link}
-use Rattle.txn_program_workers.proofs.Working.{step-map}
+use Rattle.txn_program_threads.proofs.Working.{step-map}
 
 or-first : (a b : Bool) → a ≡ true → (a || b) ≡ true
 or-first a b e = ap (λ x. x || b) e

@@ -7,10 +7,10 @@ use Rattle.amqp_resource_record.specs.declared.step.Step.{Step}
 use Rattle.amqp_resource_shared.specs.Receipts.{code_told, is_told, step_told}
 use Rattle.amqp_resource_shared.specs.declared.receipt.Receipt.{Receipt}
 use Rattle.txn_program_threads.specs.Gathered.{EachStepAmong, IsGathered, IsStepAmong}
-use Rattle.txn_program_workers.specs.Tallies.{IsTallyOf, attached, closed, declared, ended, posted, refused, tally_of}
-use Rattle.txn_program_workers.specs.WorkerSteps.{IsWorkerStep, attaches, attaches_on, declares, discharges, posts, worker_attach}
-use Rattle.txn_program_workers.specs.Works.{EachStepIn, IsWork, StillTold, attach_told, gives_id, gives_link}
-use Rattle.txn_program_workers.proofs.Working.{any-after, declare-no_attach, discharge-no_attach, post-no_attach, step-map, told-append}
+use Rattle.txn_program_threads.specs.Tallies.{IsTallyOf, attached, closed, declared, ended, posted, refused, tally_of}
+use Rattle.txn_program_threads.specs.WorkerSteps.{IsWorkerStep, attaches, attaches_on, declares, discharges, posts, worker_attach}
+use Rattle.txn_program_threads.specs.Works.{EachStepIn, IsWork, StillTold, attach_told, gives_id, gives_link}
+use Rattle.txn_program_threads.proofs.Working.{any-after, declare-no_attach, discharge-no_attach, post-no_attach, step-map, told-append}
 
 count-append : {X : Type 0} (p : X → Bool) (xs ys : List X) → count_by p (xs ++ ys) ≡ count_by p xs + count_by p ys
 count-append p xs ys = sum_by-append (λ x. cond (p x) 1 0) xs ys

@@ -1,3 +1,6 @@
+pub mod Working
+pub mod Tallying
+pub mod Replying
 pub mod Each
 pub mod Joining
 pub mod Statuses

@@ -34,7 +34,7 @@ use Rattle.txn_program_threads.specs.Statuses.{refused_count, starved_by, thread
 use Rattle.txn_program_threads.specs.declared.threads_ran.ThreadsRan.{ThreadsRan}
 use Rattle.txn_program_threads.proofs.Histories.{are-of_workers, none-closed, whole-tally}
 use Rattle.txn_program_threads.proofs.Statuses.{ends-counted, refusal-cause}
-use Rattle.txn_program_workers.specs.Works.{attach_told}
+use Rattle.txn_program_threads.specs.Works.{attach_told}
 
 -- ---- the stop
 

@@ -15,7 +15,7 @@ use Rattle.amqp_resource_shared.specs.ReplyCodes.{code_of_reply}
 use Rattle.txn_program_runs.specs.Made.{ends_count, step_ends_by}
 use Rattle.txn_program_threads.specs.Histories.{is_rejection}
 use Rattle.txn_program_threads.specs.Statuses.{is_refused_reply, refused_count}
-use Rattle.txn_program_workers.specs.Tallies.{closed, ended, refused}
+use Rattle.txn_program_threads.specs.Tallies.{closed, ended, refused}
 
 count-same : {X : Type 0} (p q : X → Bool) (xs : List X) → ((x : X) → p x ≡ q x) → count_by p xs ≡ count_by q xs
 count-same p q xs same = ap (λ test. count_by test xs) (fun_ext same)

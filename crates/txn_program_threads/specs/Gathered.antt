@@ -4,8 +4,8 @@ use Rattle.std.specs.List.{count_by}
 use Rattle.amqp_resource_record.specs.declared.step.Step.{Step}
 use Rattle.amqp_resource_shared.specs.Receipts.{is_told, step_told}
 use Rattle.amqp_resource_shared.specs.declared.receipt.Receipt.{Receipt}
-use Rattle.txn_program_workers.specs.Tallies.{IsTallyOf, closed, refused, tally_of}
-use Rattle.txn_program_workers.specs.Works.{IsStepIn, IsWork}
+use Rattle.txn_program_threads.specs.Tallies.{IsTallyOf, closed, refused, tally_of}
+use Rattle.txn_program_threads.specs.Works.{IsStepIn, IsWork}
 
 -- what the worker of a number gives back, with its number
 pub record IsWorkOf (number told rounds parts count : ℕ) (receipts : List Receipt) (done : Bool)

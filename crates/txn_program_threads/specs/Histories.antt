@@ -14,8 +14,8 @@ use Rattle.amqp_resource_session.specs.Steps.{UnderDead, ended_by}
 use Rattle.amqp_resource_shared.specs.ReplyCodes.{code_of_reply}
 use Rattle.amqp_resource_shared.specs.declared.receipt.StoppedAt.{StoppedAt}
 use Rattle.txn_program_threads.specs.Statuses.{refused_count}
-use Rattle.txn_program_workers.specs.WorkerSteps.{IsWorkerStep, attaches_on}
-use Rattle.txn_program_workers.specs.Works.{gives_id, gives_link}
+use Rattle.txn_program_threads.specs.WorkerSteps.{IsWorkerStep, attaches_on}
+use Rattle.txn_program_threads.specs.Works.{gives_id, gives_link}
 
 -- an Attached reply of the history gave the link
 abbrev pub GaveLink : List Entry → ℕ → Type 0

@@ -1,5 +1,11 @@
+pub mod AtWork
+pub mod Tallies
+pub mod WorkerSteps
+pub mod Works
 pub mod Each
 pub mod Statuses
 pub mod Histories
 pub mod Gathered
 pub mod Runs
+pub mod ThreadsWords
+pub mod Ends

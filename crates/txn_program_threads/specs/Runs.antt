@@ -21,7 +21,7 @@ use Rattle.txn_program_runs.specs.Running.{taken_of}
 use Rattle.txn_program_threads.specs.Histories.{AreOfWorkers, RefusedBy, StopsAt}
 use Rattle.txn_program_threads.specs.Statuses.{refused_count, threads_status}
 use Rattle.txn_program_threads.specs.declared.threads_ran.ThreadsRan.{ThreadsRan}
-use Rattle.txn_program_workers.specs.Tallies.{IsTallyOf, tally_of}
+use Rattle.txn_program_threads.specs.Tallies.{IsTallyOf, tally_of}
 
 -- memory ran out: nothing is counted or compared
 pub record RanOut {S : Type 0} (ran : ThreadsRan S) : Type 0 where

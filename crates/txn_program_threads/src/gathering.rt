@@ -4,13 +4,13 @@ ghost use Rattle.std.specs.Prelude.{◌≡◌, ◌≤◌, ◌+◌, ℕ, true, le
 ghost use Rattle.std.specs.List.{count_by};
 ghost use Rattle.txn_program_threads.specs.Each.{EachFrom};
 ghost use Rattle.txn_program_threads.specs.Gathered.{IsGathered, IsWorkOf};
-ghost use Rattle.txn_program_workers.specs.Works.{attach_told};
+ghost use Rattle.txn_program_threads.specs.Works.{attach_told};
 
 use crate::starting::Worked;
+use crate::worker::Work;
 use amqp_resource_shared::{Receipt, Share};
 use std::alloc::Global;
 use std::sync::ledger::Ledger;
-use txn_program_workers::Work;
 
 /// What all workers gave back.
 #[derive(Drop)]

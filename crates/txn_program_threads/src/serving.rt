@@ -5,12 +5,13 @@ ghost use Rattle.std.specs.List.{count_by};
 ghost use Rattle.amqp_below_recorder.specs.Recording.{IsFresh, is_unused};
 ghost use Rattle.txn_program_threads.specs.Gathered.{IsGathered};
 ghost use Rattle.txn_program_threads.specs.Runs.{RunsThreads};
-ghost use Rattle.txn_program_workers.specs.Works.{attach_told};
+ghost use Rattle.txn_program_threads.specs.Works.{attach_told};
 
 use crate::ending::{end, end_ungathered};
 use crate::gathering::{Gathered, gather};
 use crate::starting::run_workers;
 use crate::threads_ran::ThreadsRan;
+use crate::worker::Workplace;
 use amqp_below_ids::{CountIds, IdSource};
 use amqp_below_layer::{LayerBelow, Tells};
 use amqp_below_recorder::Recorder;
@@ -22,7 +23,6 @@ use std::sync::Wait;
 use std::sync::ledger::{Blank, Ledger};
 use std::thread::Threads;
 use txn_gate::Gate;
-use txn_program_workers::Workplace;
 
 /// Runs the workers and puts what they gave back together; `None` where memory runs out.
 fn work_together<

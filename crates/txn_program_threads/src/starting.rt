@@ -4,6 +4,7 @@ ghost use Rattle.std.specs.Prelude.{◌≡◌, ◌≤◌, ◌+◌, IfSome, lengt
 ghost use Rattle.txn_program_threads.specs.Each.{EachFrom};
 ghost use Rattle.txn_program_threads.specs.Gathered.{IsWorkOf};
 
+use crate::worker::{Work, Workplace, run_worker};
 use amqp_below_ids::IdSource;
 use amqp_below_layer::LayerBelow;
 use amqp_resource_shared::Share;
@@ -13,7 +14,6 @@ use std::sync::ledger::Ledger;
 use std::thread;
 use std::thread::Threads;
 use txn_gate::Gate;
-use txn_program_workers::{Work, Workplace, run_worker};
 
 /// What a worker is given.
 #[derive(Drop)]

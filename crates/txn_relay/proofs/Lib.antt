@@ -9,3 +9,8 @@ pub mod Moving
 pub mod Telling
 pub mod Starting
 pub mod Doing
+pub mod Counting
+pub mod Filled
+pub mod Had
+pub mod Served
+pub mod Started

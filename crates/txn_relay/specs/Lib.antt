@@ -3,3 +3,8 @@ pub mod Once
 pub mod Stages
 pub mod Relaying
 pub mod Going
+pub mod Scripts
+pub mod Filling
+pub mod Playing
+pub mod RelayText
+pub mod Serving

@@ -5,7 +5,7 @@ use amqp_below_streams::SureSink;
 use amqp_test_values::leak;
 use std::alloc::{Alloc, Global};
 use std::process::Abort;
-use txn_relay_run::run_relay;
+use txn_relay::run_relay;
 
 /// Runs `relay A` over the lines: it ends well, and its text is that text.
 fn assert_relay(rt: &(impl Abort + Alloc<A = Global>), lines: &str, text: &str) {

@@ -12,8 +12,7 @@ use std::process::Abort;
 use std::sync::Wait;
 use std::thread::Threads;
 use txn_gate::OpenGate;
-use txn_program_threads::serve_threads;
-use txn_program_threads_words::serve_threads_words;
+use txn_program_threads::{serve_threads, serve_threads_words};
 
 #[test]
 fn two_workers_work_beside_each_other(rt: HostRuntime) {

@@ -1,7 +1,7 @@
 use Rattle.std.proofs.Common.{rules, ◌≡◌, ◌+◌, ◌-◌, ◌≤◌, ℕ, [], ◌∷◌, ◌++◌, length, ◌∙◌, ap, arith, subst, length-append}
 use Rattle.std.proofs.lemmas.List.Sums.{sum_by_push}
 use Rattle.txn_program_threads.specs.Gathered.{IsGathered, IsWorkOf}
-use Rattle.txn_program_workers.specs.Works.{IsWork}
+use Rattle.txn_program_threads.specs.Works.{IsWork}
 use Rattle.txn_program_threads.proofs.Each.{each-pop}
 use Rattle.txn_program_threads.proofs.Joining.{AttachOnce, attach-once-more, gathered-more}
 use Rattle.txn_program_threads.proofs.gathering.gather.Goals as goal

@@ -1,2 +1,0 @@
-pub mod ThreadsWords
-pub mod Ends

@@ -1,8 +1,0 @@
-use Rattle.std.proofs.Common.{◌∙◌}
-use Rattle.txn_program_workers.proofs.Working.{of-number}
-use Rattle.txn_program_workers.proofs.worker.make_round.Goals as goal
-
-pub returns-clause-receipts : goal.returns-clause-receipts
-returns-clause-receipts g c =
-    of-number c.post-2.new.worker.number c.args.worker.now.number c.args.place.now.rounds c.discharge.new.worker.receipts.items
-    (c.post-2.ensures.kept.0 ∙ (c.post.ensures.kept.0 ∙ c.declare.ensures.kept.0)) c.discharge.ensures.receipts

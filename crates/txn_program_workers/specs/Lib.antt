@@ -1,4 +1,0 @@
-pub mod AtWork
-pub mod WorkerSteps
-pub mod Tallies
-pub mod Works
