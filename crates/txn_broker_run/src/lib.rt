@@ -18,10 +18,11 @@
 //! // queue q 0
 //! ```
 //!
-//! Below stand the session, the record, the broker, its messages' lines and the edges of a program. The promise that
-//! this crate carries: the queues of the broker are then those of the record's plain frames and of
-//! its committed transactions run one after the other, each at its commit; and after a refusal
-//! also of the first frames of the step that was refused, none of a commit.
+//! Below stand the session, the record, the broker, the lines of its messages and the edges of a
+//! program. The promise that this crate carries: the queues of the broker are then those of the
+//! record's plain frames and of its committed transactions run one after the other, each at its
+//! commit; and after a refusal also of the first frames of the step that was refused, none of a
+//! commit.
 #![tactic(auto)]
 
 mod driving;
