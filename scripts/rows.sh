@@ -101,13 +101,15 @@ planned --starve 1 6 8 "$want 0\n"
 planned --starve 2 7 8 "$want 0\n$first"
 planned --starve 3 7 8 "$want 1\n${first}taken transfer 1 1 true - 50\n"
 
-# The stored run of each main is one of them.
+# The stored run of each main is one of them; what has no file there is empty.
 for stored in txn_main:interleaved txn_main_listen:listen-late-post \
   txn_main_broker:broker-commit txn_main_relay:relay-once txn_main_mailbox:mailbox-commit \
   txn_main_audit:audit txn_main_agree:agree-commit txn_main_threads:threads; do
   for pair in stdin:steps args:words stdout:report status:status; do
+    kept=$top/crates/${stored%:*}/${pair%:*}
+    [ -e "$kept" ] || kept=/dev/null
     example=$top/examples/${stored#*:}.${pair#*:}
-    [ ! -e "$example" ] || cmp "$top/crates/${stored%:*}/${pair%:*}" "$example" || failed=$((failed + 1))
+    [ ! -e "$example" ] || cmp "$kept" "$example" || failed=$((failed + 1))
   done
 done
 
